@@ -1,0 +1,68 @@
+// What document 01 says of a line: here the types, in specs/ the definitions and the laws about them.
+
+// The five telegrams.
+pub enum Kind {
+    Ack,
+    Read,
+    Enter,
+    Leave,
+    Data,
+}
+
+// A decimal number: the digits of an entry as a count of its last digit.
+pub struct Decimal {
+    pub count: u64,
+}
+
+// A point in time. Year 0 to 99 means 2000 to 2099.
+pub struct Moment {
+    pub year: u8,
+    pub month: u8,
+    pub day: u8,
+    pub hour: u8,
+    pub minute: u8,
+    pub second: u8,
+}
+
+// An entry's value.
+pub enum Value {
+    Number(Decimal),
+    Time(Moment),
+}
+
+pub struct Entry {
+    pub structure: u8,
+    pub unit: u8,
+    pub value: Value,
+}
+
+pub struct Header {
+    pub number: u32,
+    pub maker: u16,
+    pub version: u8,
+    pub meter_type: u8,
+    pub access: u8,
+    pub status: u8,
+}
+
+// A telegram. What its kind does not use is zero, and so are the entry places past the count.
+pub struct Telegram {
+    pub kind: Kind,
+    pub address: u8,
+    pub method: u8,
+    pub header: Header,
+    pub count: usize,
+    pub entries: [Entry; 7],
+}
+
+// What became of a line: accepted, or refused by a number.
+pub enum Outcome {
+    Accepted,
+    Refused(u16),
+}
+
+// The answer of reading. Where the outcome is a refusal, the telegram is blank.
+pub struct Reading {
+    pub outcome: Outcome,
+    pub telegram: Telegram,
+}
