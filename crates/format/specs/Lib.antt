@@ -1,6 +1,9 @@
 -- What document 01 says of a line: one module for each paragraph, in 01's order, and the laws about each beside it.
 pub mod Lists
+pub mod Computed
 pub mod Characters
+pub mod ListLaws
+pub mod Folding
 pub mod Answers
 pub mod Digits
 pub mod Moments
