@@ -4,7 +4,7 @@ use mathlib.Core.Bool.{Bool, true, false, _||_, or-assoc, or-false}
 use mathlib.Core.List.{List, [], _∷_, map}
 use mathlib.Core.Path.{_≡_, refl, sym, ap, _∙_}
 use native.Mathlib.Numerals.{add-one}
-use lib.ListN.{length, getD, take, drop, drop-of-length-le, List·getD-map}
+use lib.ListN.{length, getD, take, drop, drop-of-length-le, List·getD-map, List·getD-eq-default}
 use lib.Seq.{drop-cons}
 use native.Mathlib.Nat.{add-zero, zero-add}
 use native.Mathlib.Omega.{arith}
@@ -68,3 +68,15 @@ pub map-take : {A B : Type 0} (f : A → B) (i : ℕ) (s : List A) → map f (ta
 map-take f zero s = refl
 map-take f (suc i) [] = refl
 map-take f (suc i) (x ∷ s) = ap (λ (l : List _). f x ∷ l) (map-take f i s)
+
+pub any-map : {A B : Type 0} (test : B → Bool) (f : A → B) (s : List A) → any (λ (x : A). test (f x)) s ≡ any test (map f s)
+unfolding any
+any-map test f [] = refl
+any-map test f (x ∷ s) = ap (λ (found : Bool). test (f x) || found) (any-map test f s)
+
+-- the byte at a place is the byte of the character there
+pub at-bytes : (s : List ℕ) (i : ℕ) → at (map byteOf s) i ≡ byteOf (at s i)
+at-bytes s i = List·getD-map byteOf s i 0
+
+pub at-bytes-end : (s : List ℕ) (i : ℕ) → length s ≤ i → at (map byteOf s) i ≡ 0
+at-bytes-end s i h = at-bytes s i ∙ ap byteOf (List·getD-eq-default s 0 h)
