@@ -41,8 +41,8 @@ byte-at-requires-4 c κs = search needs
 returns : tie.Need-returns
 returns c = let part = now (c .before .before .before .before .before .before .before .before .args .part) in
     let e : c .before .before .before .before .before .digits-of .result ≡ digitsOf (take 4 (map byteOf part)) =
-            c .before .before .before .before .before .digits-of .ensures
-            ∙ ap (λ (l : List ℕ). digitsOf (counted l)) (c .before .before .before .before .before .before .number-part .ensures) ∙ number-counted part in
+    c .before .before .before .before .before .digits-of .ensures
+    ∙ ap (λ (l : List ℕ). digitsOf (counted l)) (c .before .before .before .before .before .before .number-part .ensures) ∙ number-counted part in
     cc
 
 pub header-of-spec : {M : Type 1} → statement M
