@@ -15,7 +15,9 @@ use Rattle.format.specs.Quantities.{widthOf, paired, isTime}
 use Rattle.format.specs.Digits.{overNine}
 use Rattle.format.specs.Moments.{wrongMoment}
 use Rattle.format.specs.ListLaws.{map-take, map-drop}
-use Rattle.format.specs.Entries.{valueBytes, entryOf, entryWidth, unfit, wrongDigit, wrongTime, readEntries}
+use Rattle.format.specs.declared.Value.{Value}
+use Rattle.format.specs.declared.Entry.{Entry}
+use Rattle.format.specs.Entries.{valueBytes, valueOf, entryOf, entryWidth, unfit, wrongDigit, wrongTime, readEntries}
 use Rattle.format.specs.Telegrams.{blankEntry, outcomeOf}
 
 -- what 11, 12 and 13 say of the entry that the list begins with
@@ -75,3 +77,8 @@ tried-fit s e =
     go : (t d m : Bool) → _≡_ {A = Answer (Unit {0})} (refuse 12 (not t && d) (refuse 13 (t && m) (reads tt))) (cond t (refuse 13 m (reads tt)) (refuse 12 d (reads tt)))
     go true d m = refl
     go false d m = refl
+
+-- an entry put together of what was read
+pub entry-built : (s : List ℕ) {st u : ℕ} {v : Value} {b : List ℕ} → st ≡ at s 0 → u ≡ at s 1 → v ≡ valueOf u b → b ≡ valueBytes s
+    → _≡_ {A = Entry} (record { structure = st; unit = u; value = v }) (entryOf s)
+entry-built s es eu ev eb = λ i. record { structure = es i; unit = eu i; value = (ev ∙ ap₂ valueOf eu eb) i }

@@ -1,16 +1,14 @@
 -- `parts::entries::entry_of` meets its contract: 11 has let the entry pass, so that its value lies within the rest. Assumes nothing.
-use Prim.Native.Nat.{ℕ, _+_, _-_}
+use Prim.Native.Nat.{_+_, _-_}
 use mathlib.Core.List.{map}
-use mathlib.Core.Path.{_≡_, ap, _∙_}
+use mathlib.Core.Path.{ap, _∙_}
 use borrow.Author.Needs.{needs}
 use native.Mathlib.Omega.{arith}
 use denote.Ref.{now}
-use lib.ListN.{length-take, take, drop}
+use lib.ListN.{length-take, drop}
 use Rattle.format.specs.Quantities.{widthOf}
 use Rattle.format.specs.Characters.{byteOf}
-use Rattle.format.specs.Entries.{entryWidth}
-use Rattle.parts.specs.Walking.{width-few, fit-inside, value-cut}
-use Prim.Native.Nat.{ℕ, _+_, _-_}
+use Rattle.parts.specs.Walking.{width-few, fit-inside, value-cut, entry-built}
 use Rattle.parts.proofs.entries.entry_of.Statement.{statement}
 use Rattle.parts.proofs.entries.entry_of.Tie as tie
 
@@ -40,10 +38,8 @@ value-of-requires c κs = omega (arith, c .before .width-of .ensures, width-few 
 
 returns : tie.Need-returns
 returns c = let rest = now (c .before .before .before .before .before .before .args .rest) in
-    let cut = value-cut rest (c .before .before .width-of .ensures ∙ ap widthOf (c .before .before .before .before .byte-at .ensures)) in
-    rw (c .value-of .ensures, cut, c .before .before .before .byte-at2 .ensures, c .before .before .before .before .byte-at .ensures)
-    let cut = value-cut rest (c .before .before .width-of .ensures ∙ ap widthOf (c .before .before .before .before .byte-at .ensures)) in
-    rw (c .value-of .ensures, cut, c .before .before .before .byte-at2 .ensures, c .before .before .before .before .byte-at .ensures)
+    entry-built (map byteOf rest) (c .before .before .before .before .byte-at .ensures) (c .before .before .before .byte-at2 .ensures) (c .value-of .ensures)
+    (value-cut rest (c .before .before .width-of .ensures ∙ ap widthOf (c .before .before .before .before .byte-at .ensures)))
 
 pub entry-of-spec : {M : Type 1} → statement M
 entry-of-spec =
