@@ -5,10 +5,11 @@ ghost use mathlib.Core.List.{[], map};
 ghost use Prim.Native.Nat.{_+_, _≤_};
 ghost use lib.ListN.{length};
 ghost use Rattle.format.specs.Lists.{at};
+ghost use Rattle.format.specs.Answers.{refusal};
 ghost use Rattle.format.specs.Characters.{byteOf};
 ghost use Rattle.format.specs.Entries.{entryOf, entryWidth, unfit, valueOf, readEntries};
 ghost use Rattle.format.specs.Telegrams.{blankEntry, outcomeOf};
-ghost use Rattle.parts.specs.Walking.{tried};
+ghost use Rattle.parts.specs.Walking.{tried, nextOf, nextShown, entriesShown, unmarked};
 use crate::bytes::byte_at;
 use crate::digits::any_over_nine;
 use crate::digits::digits_of;
@@ -27,6 +28,12 @@ pub struct Entries {
     pub outcome: Outcome,
     pub count: usize,
     pub entries: [Entry; 7],
+}
+
+// The entry that the rest begins with, or what it is refused by.
+pub enum Next {
+    Entry(Entry),
+    Refused(u16),
 }
 
 // What 11, 12 and 13 say of the entry that the rest begins with.
@@ -95,5 +102,83 @@ fn blank_entry() -> Entry
         structure: 0,
         unit: 0,
         value: Value::Number(Decimal { count: 0 }),
+    }
+}
+
+// The entry that the rest begins with, after count entries whose quantities are marked, or what it is refused by.
+pub fn next_entry(rest: &[u16], marks: [bool; 8], count: usize) -> Next
+    ensures { λ r. ⌜ r ≡ nextShown (nextOf (map byteOf (now (rest .entry))) marks count) ⌝ }
+{
+    let passed = try_entry(rest);
+    if let Outcome::Refused(n) = passed {
+        return Next::Refused(n);
+    }
+    let entry = entry_of(rest);
+    let quantity = quantity_of(entry.unit) as usize;
+    if marks[quantity] {
+        return Next::Refused(14);
+    }
+    if count == 7 {
+        return Next::Refused(15);
+    }
+    Next::Entry(entry)
+}
+
+// No entries, beside the number of a refusal.
+fn no_entries(n: u16) -> Entries
+    ensures { λ r. ⌜ r ≡ entriesShown (refusal n) ⌝ }
+{
+    let blank = blank_entry();
+    Entries {
+        outcome: Outcome::Refused(n),
+        count: 0,
+        entries: [blank; 7],
+    }
+}
+
+// A required quantity is not marked.
+fn any_missing(marks: [bool; 8]) -> bool
+    ensures { λ r. ⌜ r ≡ unmarked marks ⌝ }
+{
+    !marks[0] | !marks[1] | !marks[4] | !marks[5] | !marks[6]
+}
+
+// All entries of the rest, from the left.
+pub fn read_entries(rest: &[u16]) -> Entries
+    ensures { λ r. ⌜ r ≡ entriesShown (readEntries 8 (map byteOf (now (rest .entry))) []) ⌝ }
+{
+    let blank = blank_entry();
+    let mut entries = [blank; 7];
+    let mut marks = [false; 8];
+    let mut count: usize = 0;
+    let mut at: usize = 0;
+    let mut outcome = Outcome::Accepted;
+    while at < rest.len() {
+        let next = next_entry(&rest[at..], marks, count);
+        match next {
+            Next::Refused(n) => {
+                outcome = Outcome::Refused(n);
+                break;
+            }
+            Next::Entry(entry) => {
+                let quantity = quantity_of(entry.unit) as usize;
+                let width = width_of(entry.structure);
+                entries[count] = entry;
+                marks[quantity] = true;
+                count += 1;
+                at += 2 + width;
+            }
+        }
+    }
+    if let Outcome::Refused(n) = outcome {
+        return no_entries(n);
+    }
+    if any_missing(marks) {
+        return no_entries(16);
+    }
+    Entries {
+        outcome,
+        count,
+        entries,
     }
 }
