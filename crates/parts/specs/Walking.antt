@@ -13,7 +13,8 @@ use lib.ListN.{length, getD, take, drop, set, replicate, length-map, getD-replic
 use lib.Seq.{take-all, length-take-le, drop-cons, getD-set-same, getD-set-other, take-suc-set, drop-set-lt, drop-drop}
 use Rattle.format.specs.Lists
 use Rattle.format.specs.Lists.{at, any}
-use Rattle.format.specs.Answers.{Answer, reads, refusal, refuse}
+use Rattle.format.specs.Answers.{Answer, reads, refusal, refuse, follow}
+use Rattle.format.specs.AnswerLaws.{follow-refuse}
 use Rattle.format.specs.Characters.{byteOf}
 use Rattle.format.specs.Quantities.{quantityOf, widthOf, paired, isTime, between, energy, volume, power, flow, inlet, outlet, time, unknown}
 use Rattle.format.specs.Digits.{overNine}
@@ -157,15 +158,6 @@ quantity-few u =
     go false false false false false false false = omega arith
 
 -- ---- the walk
-
--- after an answer about one entry, the rest
-abbrev pub follow : {A B : Type 0} → Answer A → (A → Answer B) → Answer B
-follow (refusal n) next = refusal n
-follow (reads a) next = next a
-
-follow-refuse : {A B : Type 0} (n : ℕ) (test : Bool) (x : Answer A) (next : A → Answer B) → follow (refuse n test x) next ≡ refuse n test (follow x next)
-follow-refuse n true x next = refl
-follow-refuse n false x next = refl
 
 -- reading entries is reading the next one, by marks for the entries so far, and then the others
 entries-step : (left b : ℕ) (s : List ℕ) (done : List Entry) (marks : List Bool) → seen (quantityOf (at (b ∷ s) 1)) done ≡ getD marks (quantityOf (at (b ∷ s) 1)) false

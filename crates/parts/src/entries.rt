@@ -95,7 +95,8 @@ fn entry_of(rest: &[u16]) -> Entry
     }
 }
 
-fn blank_entry() -> Entry
+// An entry place past the count.
+pub fn blank_entry() -> Entry
     ensures { λ r. ⌜ r ≡ blankEntry ⌝ }
 {
     Entry {
