@@ -13,6 +13,7 @@ pub mod Entries
 pub mod Telegrams
 pub mod Lines
 pub mod Chain
+pub mod Views
 pub mod Writing
 -- Demand 3: flipped bits, beginnings and cuts.
 pub mod Flips
