@@ -27,8 +27,8 @@ use Rattle.format.specs.Chain.{body-last, framed-bytes}
 use Rattle.format.specs.Frames
 use Rattle.format.specs.Frames.{Framed, Form, form}
 use Rattle.format.specs.LineCode.{code-with}
-use Rattle.parts.specs.Walking.{entriesShown, rest-cut}
-use Rattle.parts.specs.declared.entries.Entries.{Entries}
+use Rattle.entries.specs.Walking.{entriesShown, rest-cut}
+use Rattle.entries.specs.declared.Entries.{Entries}
 use Rattle.reading.specs.declared.frame.Frame.{Frame}
 use Rattle.reading.specs.declared.frame.Frame.the-variants.{Ack, Short, Long, Refused}
 use Rattle.reading.specs.Forms.{frameShown}

@@ -7,14 +7,14 @@ ghost use Rattle.format.specs.Characters.{byteOf};
 ghost use Rattle.format.specs.Answers.{reads, refusal};
 ghost use Rattle.format.specs.Lines.{isCommand, isData, isMethod, commandOf, readShort, readLong, readData};
 ghost use Rattle.format.specs.Telegrams.{bare, blankHeader, shown};
+use entries::blank_entry;
+use entries::read_entries;
 use format::Header;
 use format::Kind;
 use format::Outcome;
 use format::Reading;
 use format::Telegram;
 use parts::bytes::byte_at;
-use parts::entries::blank_entry;
-use parts::entries::read_entries;
 use parts::headers::header_of;
 use parts::headers::wrong_header;
 

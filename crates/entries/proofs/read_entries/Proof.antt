@@ -1,9 +1,9 @@
--- `parts::entries::read_entries` meets its contract: each turn walks over one entry. Assumes nothing.
+-- `entries::read_entries` meets its contract: each turn walks over one entry. Assumes nothing.
 use Prim.Native.Nat.{ℕ, _+_, _-_, _<_, _≤_}
 use mathlib.Core.List.{List, map}
 use mathlib.Core.Path.{_≡_, refl, sym, ap, _∙_}
 use mathlib.Core.Logic.{⊎-elim}
-use Rattle.parts.specs.Walking.Ended.{whole, refused}
+use Rattle.entries.specs.Walking.Ended.{whole, refused}
 use borrow.Author.Needs.{needs}
 use native.Mathlib.Omega.{arith}
 use denote.Ref.{now}
@@ -12,17 +12,9 @@ use Rattle.format.specs.Answers.{reads, refusal}
 use Rattle.format.specs.Characters.{byteOf}
 use Rattle.format.specs.Quantities.{widthOf}
 use Rattle.format.specs.declared.Outcome.the-variants.{Accepted, Refused}
-use Rattle.parts.specs.Walking.{nextOf, nextShown, next-entry, next-refused, rest-cut, width-few, quantity-few, Walked, walked-none, walked-below, walked-inside, walked-next, walked-refused, walked-missing, walked-whole, Ended, ended-refused, ended-whole, entriesShown}
-use Rattle.parts.proofs.entries.read_entries.Statement.{statement}
-use Rattle.parts.proofs.entries.read_entries.Tie as tie
-use Rattle.parts.proofs.entries.read_entries.Reads as reads
-use Rattle.parts.proofs.entries.read_entries.Lts as lts
-use Rattle.parts.proofs.entries.any_missing.Reads as any-missing-reads
-use Rattle.parts.proofs.entries.blank_entry.Reads as blank-entry-reads
-use Rattle.parts.proofs.entries.next_entry.Reads as next-entry-reads
-use Rattle.parts.proofs.entries.no_entries.Reads as no-entries-reads
-use Rattle.parts.proofs.quantities.quantity_of.Reads as quantity-of-reads
-use Rattle.parts.proofs.quantities.width_of.Reads as width-of-reads
+use Rattle.entries.specs.Walking.{nextOf, nextShown, next-entry, next-refused, rest-cut, width-few, quantity-few, Walked, walked-none, walked-below, walked-inside, walked-next, walked-refused, walked-missing, walked-whole, Ended, ended-refused, ended-whole, entriesShown}
+use Rattle.entries.proofs.read_entries.Statement.{statement}
+use Rattle.entries.proofs.read_entries.Tie as tie
 
 abbrev Inv-loop : tie.InvT-loop
 Inv-loop rest entries₀ marks₀ count₀ at₀ outcome₀ entries marks count at outcome = Walked rest at count marks entries × (outcome ≡ Accepted)

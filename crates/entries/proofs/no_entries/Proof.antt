@@ -1,7 +1,7 @@
--- `parts::entries::no_entries` meets its contract. Assumes nothing.
+-- `entries::no_entries` meets its contract. Assumes nothing.
 use borrow.Author.Needs.{needs}
-use Rattle.parts.proofs.entries.no_entries.Statement.{statement}
-use Rattle.parts.proofs.entries.no_entries.Tie as tie
+use Rattle.entries.proofs.no_entries.Statement.{statement}
+use Rattle.entries.proofs.no_entries.Tie as tie
 
 blank-entry-requires : tie.Need-blank-entry-requires
 blank-entry-requires c κs = search needs

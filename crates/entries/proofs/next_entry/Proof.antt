@@ -1,4 +1,4 @@
--- `parts::entries::next_entry` meets its contract: what 11 to 13 said, then the mark and the count. Assumes nothing.
+-- `entries::next_entry` meets its contract: what 11 to 13 said, then the mark and the count. Assumes nothing.
 use mathlib.Core.List.{map}
 use mathlib.Core.Path.{sym, _∙_}
 use borrow.Author.Needs.{needs}
@@ -6,11 +6,11 @@ use borrow.Author.Tests.{eq-eqb, ne-eqb}
 use native.Mathlib.Omega.{arith}
 use denote.Ref.{now}
 use Rattle.format.specs.Characters.{byteOf}
-use Rattle.parts.specs.Walking.{refused-next, accepted-next, quantity-few, passed-next}
+use Rattle.entries.specs.Walking.{refused-next, accepted-next, quantity-few, passed-next}
 use mathlib.Core.Path.{sym, ap, _∙_}
-use Rattle.parts.specs.Walking.{refused-next, accepted-next, quantity-few, passed-next}
-use Rattle.parts.proofs.entries.next_entry.Statement.{statement}
-use Rattle.parts.proofs.entries.next_entry.Tie as tie
+use Rattle.entries.specs.Walking.{refused-next, accepted-next, quantity-few, passed-next}
+use Rattle.entries.proofs.next_entry.Statement.{statement}
+use Rattle.entries.proofs.next_entry.Tie as tie
 
 try-entry-requires : tie.Need-try-entry-requires
 try-entry-requires c κs = search needs

@@ -9,19 +9,19 @@ ghost use Rattle.format.specs.Answers.{refusal};
 ghost use Rattle.format.specs.Characters.{byteOf};
 ghost use Rattle.format.specs.Entries.{entryOf, entryWidth, unfit, valueOf, readEntries};
 ghost use Rattle.format.specs.Telegrams.{blankEntry, outcomeOf};
-ghost use Rattle.parts.specs.Walking.{tried, nextOf, nextShown, entriesShown, unmarked};
-use crate::bytes::byte_at;
-use crate::digits::any_over_nine;
-use crate::digits::digits_of;
-use crate::moments::moment_of;
-use crate::moments::wrong_moment;
-use crate::quantities::is_paired;
-use crate::quantities::quantity_of;
-use crate::quantities::width_of;
+ghost use Rattle.entries.specs.Walking.{tried, nextOf, nextShown, entriesShown, unmarked};
 use format::Decimal;
 use format::Entry;
 use format::Outcome;
 use format::Value;
+use parts::bytes::byte_at;
+use parts::digits::any_over_nine;
+use parts::digits::digits_of;
+use parts::moments::moment_of;
+use parts::moments::wrong_moment;
+use parts::quantities::is_paired;
+use parts::quantities::quantity_of;
+use parts::quantities::width_of;
 
 // The answer of reading entries. Where the outcome is a refusal, count and entries are blank.
 pub struct Entries {

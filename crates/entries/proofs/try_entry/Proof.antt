@@ -1,4 +1,4 @@
--- `parts::entries::try_entry` meets its contract: what was read of the entry is what 11, 12 and 13 speak of. Assumes nothing.
+-- `entries::try_entry` meets its contract: what was read of the entry is what 11, 12 and 13 speak of. Assumes nothing.
 use Prim.Native.Nat.{ℕ, _+_, _-_}
 use mathlib.Core.Bool.{Bool, not, _||_, cond}
 use mathlib.Core.List.{List, map}
@@ -17,9 +17,9 @@ use Rattle.format.specs.Moments.{wrongMoment}
 use Rattle.format.specs.Quantities.{widthOf, isTime}
 use Rattle.format.specs.Entries.{unfit, valueBytes}
 use Rattle.format.specs.Telegrams.{outcomeOf}
-use Rattle.parts.specs.Walking.{tried, width-few, unfit-tried, fit-inside, value-cut, tried-unfit, tried-fit}
-use Rattle.parts.proofs.entries.try_entry.Statement.{statement}
-use Rattle.parts.proofs.entries.try_entry.Tie as tie
+use Rattle.entries.specs.Walking.{tried, width-few, unfit-tried, fit-inside, value-cut, tried-unfit, tried-fit}
+use Rattle.entries.proofs.try_entry.Statement.{statement}
+use Rattle.entries.proofs.try_entry.Tie as tie
 
 -- 11 as it was tried
 unfit-is : (c : tie.After-width-of)

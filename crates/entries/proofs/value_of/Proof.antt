@@ -1,13 +1,13 @@
--- `parts::entries::value_of` meets its contract. Assumes nothing.
+-- `entries::value_of` meets its contract. Assumes nothing.
 use Prim.Native.Nat.{ℕ}
 use mathlib.Core.Path.{ap, _∙_}
 use borrow.Author.Needs.{needs}
 use borrow.Author.Tests.{eq-eqb, ne-eqb}
 use denote.Ref.{now}
 use Rattle.format.specs.Digits.{digitsOf}
 use Rattle.parts.specs.Counting.{counted-whole}
-use Rattle.parts.proofs.entries.value_of.Statement.{statement}
-use Rattle.parts.proofs.entries.value_of.Tie as tie
+use Rattle.entries.proofs.value_of.Statement.{statement}
+use Rattle.entries.proofs.value_of.Tie as tie
 
 moment-of-requires : tie.Need-moment-of-requires
 moment-of-requires c κs = search needs

@@ -24,8 +24,8 @@ use Rattle.format.specs.declared.Value.{Value}
 use Rattle.format.specs.declared.Entry.{Entry}
 use Rattle.format.specs.declared.Outcome.{Outcome}
 use Rattle.format.specs.declared.Outcome.the-variants.{Accepted, Refused}
-use Rattle.parts.specs.declared.entries.Entries.{Entries}
-use Rattle.parts.specs.declared.entries.Next.{Next}
+use Rattle.entries.specs.declared.Entries.{Entries}
+use Rattle.entries.specs.declared.Next.{Next}
 use Rattle.format.specs.Entries.{valueBytes, valueOf, entryOf, entryWidth, unfit, wrongDigit, wrongTime, seen, missing, readEntries}
 use Rattle.format.specs.Telegrams.{blankEntry, outcomeOf}
 

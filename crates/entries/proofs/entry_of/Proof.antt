@@ -1,4 +1,4 @@
--- `parts::entries::entry_of` meets its contract: 11 has let the entry pass, so that its value lies within the rest. Assumes nothing.
+-- `entries::entry_of` meets its contract: 11 has let the entry pass, so that its value lies within the rest. Assumes nothing.
 use Prim.Native.Nat.{_+_, _-_}
 use mathlib.Core.List.{map}
 use mathlib.Core.Path.{ap, _∙_}
@@ -8,9 +8,9 @@ use denote.Ref.{now}
 use lib.ListN.{length-take, drop}
 use Rattle.format.specs.Quantities.{widthOf}
 use Rattle.format.specs.Characters.{byteOf}
-use Rattle.parts.specs.Walking.{width-few, fit-inside, value-cut, entry-built}
-use Rattle.parts.proofs.entries.entry_of.Statement.{statement}
-use Rattle.parts.proofs.entries.entry_of.Tie as tie
+use Rattle.entries.specs.Walking.{width-few, fit-inside, value-cut, entry-built}
+use Rattle.entries.proofs.entry_of.Statement.{statement}
+use Rattle.entries.proofs.entry_of.Tie as tie
 
 byte-at-requires : tie.Need-byte-at-requires
 byte-at-requires c κs = search needs
