@@ -1,8 +1,11 @@
 -- What document 01 says of a line: one module for each paragraph, in 01's order, and the laws about each beside it.
 pub mod Lists
+pub mod TestLaws
 pub mod Characters
+pub mod ByteLaws
 pub mod Answers
 pub mod Digits
+pub mod DigitLaws
 pub mod Moments
 pub mod Headers
 pub mod Quantities
