@@ -42,8 +42,8 @@ pub packed-digits : (b : List ℕ) → any overNine b ≡ false → packed (leng
 unfolding any digitsOf packed
 packed-digits [] e = refl
 packed-digits (x ∷ s) e =
-    let h : None (overNine x ∷ any overNine s ∷ []) = none (overNine x) (any overNine s ∷ []) e in
-    let k : None (ltb 9 (x % 16) ∷ ltb 9 (x / 16) ∷ []) = none (ltb 9 (x % 16)) (ltb 9 (x / 16) ∷ []) (h .0) in
+    let h = none (overNine x) (any overNine s ∷ []) e in
+    let k = none (ltb 9 (x % 16)) (ltb 9 (x / 16) ∷ []) (h .0) in
     let t : x / 16 ≤ 9 = omega (arith, ltb-false) in
     let u : x % 16 ≤ 9 = omega (arith, ltb-false) in
     rw (ten (digitsOf s) (x / 16) (x % 16) t u, units (digitsOf s) (x / 16) (x % 16) t u, hundreds (digitsOf s) (x / 16) (x % 16) t u) (
@@ -53,8 +53,8 @@ pub digits-below : (b : List ℕ) → any overNine b ≡ false → digitsOf b < 
 unfolding any digitsOf
 digits-below [] e = lit< tt
 digits-below (x ∷ s) e =
-    let h : None (overNine x ∷ any overNine s ∷ []) = none (overNine x) (any overNine s ∷ []) e in
-    let k : None (ltb 9 (x % 16) ∷ ltb 9 (x / 16) ∷ []) = none (ltb 9 (x % 16)) (ltb 9 (x / 16) ∷ []) (h .0) in
+    let h = none (overNine x) (any overNine s ∷ []) e in
+    let k = none (ltb 9 (x % 16)) (ltb 9 (x / 16) ∷ []) (h .0) in
     let r : digitsOf s < 100 ^ length s = digits-below s (h .1 .0) in
     let p : 100 ^ suc (length s) ≡ 100 * 100 ^ length s = pow-succ' 100 (length s) in
     omega (arith, ltb-false)

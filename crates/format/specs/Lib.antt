@@ -13,3 +13,4 @@ pub mod Entries
 pub mod Telegrams
 pub mod Lines
 pub mod Writing
+pub mod MomentLaws
