@@ -7,7 +7,7 @@ use native.Mathlib.Nat.{add-suc, mod-lt}
 use native.Mathlib.Omega.{arith}
 use lib.Dec.{lit<}
 use lib.ListN.{length, getD, take, drop, List·getD-map}
-use lib.Seq.{getD-drop}
+use lib.Seq.{drop-cons, take-all}
 use Rattle.format.specs.Lists.{at}
 use Rattle.format.specs.Characters.{byteOf}
 
@@ -45,14 +45,10 @@ abbrev pub spelled : ℕ → ℕ → List ℕ → List ℕ
 spelled zero i s = []
 spelled (suc n) i s = at s i ∷ spelled n (suc i) s
 
-spelled-cons : (n i b : ℕ) (s : List ℕ) → spelled n (suc i) (b ∷ s) ≡ spelled n i s
-spelled-cons zero i b s = refl
-spelled-cons (suc n) i b s = ap (λ (l : List ℕ). at s i ∷ l) (spelled-cons n (suc i) b s)
+-- A part of a list is what stands at its places, and so is a whole list.
+pub spell : (n i : ℕ) (s : List ℕ) → i + n ≤ length s → take n (drop i s) ≡ spelled n i s
+spell zero i s h = refl
+spell (suc n) i s h = rw (drop-cons s i 0 (omega arith)) (ap (λ (l : List ℕ). at s i ∷ l) (spell n (suc i) s (omega arith)))
 
--- A list is what stands at its places.
-pub spell : (s : List ℕ) (n : ℕ) → length s ≡ n → s ≡ spelled n 0 s
-spell s n e = go s ∙ ap (λ (k : ℕ). spelled k 0 s) e
-  where
-    go : (l : List ℕ) → l ≡ spelled (length l) 0 l
-    go [] = refl
-    go (b ∷ l) = ap (λ (r : List ℕ). b ∷ r) (go l ∙ sym (spelled-cons (length l) 0 b l))
+pub spell-whole : (n : ℕ) (s : List ℕ) → length s ≡ n → s ≡ spelled n 0 s
+spell-whole n s e = sym (take-all n s (omega arith)) ∙ spell n 0 s (omega arith)

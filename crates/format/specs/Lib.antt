@@ -14,3 +14,4 @@ pub mod Telegrams
 pub mod Lines
 pub mod Writing
 pub mod MomentLaws
+pub mod HeaderLaws

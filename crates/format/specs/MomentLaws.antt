@@ -12,7 +12,7 @@ use Rattle.format.specs.Lists.{at}
 use Rattle.format.specs.Moments.{momentOf, spareBits, daysIn, february, leap, shortMonth, dateExists, timeExists, wrongMoment}
 use Rattle.format.specs.Writing.{momentBytes}
 use Rattle.format.specs.TestLaws.{None, none, Every, every}
-use Rattle.format.specs.ByteLaws.{Bytes, byte-at, spell}
+use Rattle.format.specs.ByteLaws.{Bytes, byte-at, spell-whole}
 
 -- ---- from bytes to a point in time and back
 
@@ -33,7 +33,7 @@ moment-read b e bytes h =
     let q₄ : 16 * ((at b 4 / 16 * 8 + at b 3 / 32) / 8) + at b 4 % 16 ≡ at b 4 = omega arith in
     let q₅ : 0 ≡ at b 5 = omega (arith, ltb-false) in
     record {
-      back = sym (spell b 6 e ∙ rw (q₀, q₁, q₂, q₃, q₄, ← q₅));
+      back = sym (spell-whole 6 b e ∙ rw (q₀, q₁, q₂, q₃, q₄, ← q₅));
       date = not-false (dateExists (momentOf b)) (k .1 .1 .1 .1 .0);
       hour = not-false (timeExists (momentOf b)) (k .1 .1 .1 .1 .1 .0)
     }
