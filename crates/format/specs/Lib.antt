@@ -15,3 +15,4 @@ pub mod Lines
 pub mod Writing
 pub mod MomentLaws
 pub mod HeaderLaws
+pub mod EntryLaws

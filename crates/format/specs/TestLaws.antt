@@ -48,6 +48,11 @@ every t (u ∷ ts) e =
     let p : (t ≡ true) × (u ≡ true) = and-true-parts t u (h .0) in
     (p .0, (p .1, h .1))
 
+-- a proof by the two cases of a test
+pub on : {P : Type 0} (t : Bool) → (t ≡ true → P) → (t ≡ false → P) → P
+on true f g = f refl
+on false f g = g refl
+
 -- a chain of refusals, each a number and its test
 abbrev pub refusals : {A : Type 0} → List (ℕ × Bool) → Answer A → Answer A
 refusals [] next = next
