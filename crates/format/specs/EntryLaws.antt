@@ -103,3 +103,30 @@ entry-read s bytes e digits moment =
       right = rw pair (v .right);
       ends = omega (arith, ltb-false)
     }
+
+pub record EntryWritten (e : Entry) (rest : List ℕ) : Type 0 where
+  pub fit : unfit (bytesOfEntry e ++ rest) ≡ false
+  pub digits : wrongDigit (bytesOfEntry e ++ rest) ≡ false
+  pub moment : wrongTime (bytesOfEntry e ++ rest) ≡ false
+  pub back : entryOf (bytesOfEntry e ++ rest) ≡ e
+  pub after : drop (entryWidth (bytesOfEntry e ++ rest)) (bytesOfEntry e ++ rest) ≡ rest
+
+pub entry-written : (e : Entry) (rest : List ℕ) → wrongEntry e ≡ false → EntryWritten e rest
+entry-written e rest h =
+    let st : ℕ = e .structure in
+    let u : ℕ = e .unit in
+    let w : ℕ = widthOf (e .structure) in
+    let b : List ℕ = bytesOfValue (widthOf (e .structure)) (e .value) in
+    let k = none (not (paired st u)) (wrongValue w u (e .value) ∷ []) h in
+    let pair : paired st u ≡ true = not-false (paired st u) (k .0) in
+    let v : ValueWritten w u (e .value) = value-written w u (e .value) (six-wide st u pair) (k .1 .0) in
+    let cut : take w (b ++ rest) ≡ b = take-at b rest w (v .width) in
+    let size : length (b ++ rest) ≡ w + length rest = length-append b rest ∙ ap (λ (n : ℕ). n + length rest) (v .width) in
+    record {
+      fit =
+        rw (le-ltb (suc (suc (length (b ++ rest)))) 2 (omega arith), pair, le-ltb (suc (suc (length (b ++ rest)))) (2 + w) (omega arith));
+      digits = rw cut (v .digits);
+      moment = rw cut (v .moment);
+      back = λ i. record { structure = st; unit = u; value = (ap (valueOf u) cut ∙ v .back) i };
+      after = sym (drop-drop w 2 (st ∷ u ∷ (b ++ rest))) ∙ drop-at b rest w (v .width)
+    }
