@@ -1,12 +1,13 @@
 -- One entry both ways, and all entries both ways.
 use Prim.Native.Nat.{ℕ, zero, suc, _+_, _-_, _^_, _<_, _≤_}
 use mathlib.Core.Bool.{Bool, true, false, cond, not, _&&_, _||_, true≢false, false≢true}
-use mathlib.Core.List.{List, [], _∷_, _++_}
+use mathlib.Core.List.{List, [], _∷_, _++_, append-assoc, append-nil}
 use mathlib.Core.Path.{_≡_, refl, sym, ap, ap₂, _∙_}
+use native.Mathlib.Nat.{not-suc-le-zero}
 use native.Mathlib.Omega.{arith}
-use borrow.Author.Tests.{ltb-true, ltb-false, lt-ltb, le-ltb, eqb-true, ne-eqb, not-false}
+use borrow.Author.Tests.{ltb-true, ltb-false, lt-ltb, le-ltb, eqb-true, eqb-false, ne-eqb, not-false}
 use lib.Dec.{ltb, leb, eqb, lit≤}
-use lib.ListN.{length, take, drop, length-drop, length-append}
+use lib.ListN.{length, take, drop, length-drop, length-append, take-append-drop}
 use lib.Seq.{length-take-le, take-add, take-at, drop-at, drop-drop}
 use Rattle.format.specs.declared.Moment.{Moment}
 use Rattle.format.specs.declared.Value.{Value}
@@ -19,7 +20,7 @@ use Rattle.format.specs.Moments.{momentOf, dateExists, timeExists, wrong
 use Rattle.format.specs.Quantities.{quantityOf, widthOf, paired, isTime, isPacked, unknown}
 use Rattle.format.specs.Entries.{valueBytes, entryWidth, valueOf, entryOf, unfit, wrongDigit, wrongTime, seen, missing, readEntries}
 use Rattle.format.specs.Writing.{momentBytes, bytesOfValue, bytesOfEntry, bytesOfEntries, wrongValue, wrongEntry, repeats}
-use Rattle.format.specs.TestLaws.{None, none, every, on}
+use Rattle.format.specs.TestLaws.{none, on, not-refused, unrefused, passed, passing}
 use Rattle.format.specs.ByteLaws.{Bytes, byte-at, bytes-append, bytes-take, bytes-drop, spell}
 use Rattle.format.specs.DigitLaws.{packed-digits, digits-below, digits-packed, packed-right, length-packed, bytes-packed}
 use Rattle.format.specs.MomentLaws.{Timed, moment-read, Spelled, moment-written}
@@ -130,3 +131,78 @@ entry-written e rest h =
       back = λ i. record { structure = st; unit = u; value = (ap (valueOf u) cut ∙ v .back) i };
       after = sym (drop-drop w 2 (st ∷ u ∷ (b ++ rest))) ∙ drop-at b rest w (v .width)
     }
+
+-- ---- all entries
+
+reads-same : {A : Type 0} {a b : A} → reads a ≡ reads b → a ≡ b
+reads-same e = cc
+
+pub record EntriesRead (s : List ℕ) (done es : List Entry) : Type 0 where
+  pub more : List Entry
+  pub joins : es ≡ done ++ more
+  pub back : bytesOfEntries more ≡ s
+  pub right : any wrongEntry more ≡ false
+  pub once : repeats done more ≡ false
+  pub whole : missing es ≡ false
+  pub few : length es ≤ 7
+
+-- an entry that is read, before others
+entry-before : (s : List ℕ) (done es : List Entry) → EntryRead s → seen (quantityOf (at s 1)) done ≡ false → EntriesRead (drop (entryWidth s) s) (done ++ (entryOf s ∷ [])) es → EntriesRead s done es
+unfolding bytesOfEntries any repeats
+entry-before s done es o unseen r =
+    record {
+      more = entryOf s ∷ r .more;
+      joins = r .joins ∙ append-assoc done (entryOf s ∷ []) (r .more);
+      back = ap₂ (λ (a b : List ℕ). a ++ b) (o .back) (r .back) ∙ take-append-drop (entryWidth s) s;
+      right = ap₂ (λ (a b : Bool). a || b) (o .right) (r .right);
+      once = ap₂ (λ (a b : Bool). a || b) unseen (r .once);
+      whole = r .whole;
+      few = r .few
+    }
+
+pub entries-read : (left : ℕ) (s : List ℕ) (done es : List Entry) → Bytes s → length done ≤ 7 → readEntries left s done ≡ reads es → EntriesRead s done es
+unfolding readEntries bytesOfEntries any repeats
+entries-read zero s done es bytes few e = absurd (not-refused e)
+entries-read (suc left) [] done es bytes few e =
+    let k = unrefused 16 (missing done) (reads done) e in
+    let same : done ≡ es = reads-same (k .1) in
+    record {
+      more = [];
+      joins = sym same ∙ sym (append-nil done);
+      back = refl;
+      right = refl;
+      once = refl;
+      whole = rw same at (k .0);
+      few = rw same at few
+    }
+entries-read (suc left) (b ∷ t) done es bytes few e =
+    let s : List ℕ = b ∷ t in
+    let x : Entry = entryOf s in
+    let k =
+        passed ((11, unfit s) ∷ (12, wrongDigit s) ∷ (13, wrongTime s) ∷ (14, seen (quantityOf (at s 1)) done) ∷ (15, eqb (length done) 7) ∷ [])
+        (readEntries left (drop (entryWidth s) s) (done ++ (x ∷ []))) e in
+    let o : EntryRead s = entry-read s bytes (k .0 .0) (k .0 .1 .0) (k .0 .1 .1 .0) in
+    let room : length done ≡ 7 → ⊥ = eqb-false (length done) 7 (k .0 .1 .1 .1 .1 .0) in
+    let r : EntriesRead (drop (entryWidth s) s) (done ++ (x ∷ [])) es =
+        entries-read left (drop (entryWidth s) s) (done ++ (x ∷ [])) es (bytes-drop (entryWidth s) s bytes)
+        (rw (length-append done (x ∷ [])) (omega arith)) (k .1) in
+    entry-before s done es o (k .0 .1 .1 .1 .0) r
+
+pub entries-written : (left : ℕ) (done more : List Entry) → any wrongEntry more ≡ false → repeats done more ≡ false → missing (done ++ more) ≡ false → length done + length more ≤ 7 → length more < left → readEntries left (bytesOfEntries more) done ≡ reads (done ++ more)
+unfolding readEntries bytesOfEntries any repeats
+entries-written zero done more right once whole few fuel = absurd (not-suc-le-zero fuel)
+entries-written (suc left) done [] right once whole few fuel = rw (append-nil, rw append-nil at whole)
+entries-written (suc left) done (e ∷ more) right once whole few fuel =
+    let r = none (wrongEntry e) (any wrongEntry more ∷ []) right in
+    let o = none (seen (quantityOf (e .unit)) done) (repeats (done ++ (e ∷ [])) more ∷ []) once in
+    let rest : List ℕ = bytesOfEntries more in
+    let s : List ℕ = bytesOfEntry e ++ bytesOfEntries more in
+    let w : EntryWritten e rest = entry-written e rest (r .0) in
+    let tail : readEntries left rest (done ++ (e ∷ [])) ≡ reads (done ++ (e ∷ []) ++ more) =
+        entries-written left (done ++ (e ∷ [])) more (r .1 .0) (o .1 .0) (rw append-assoc whole) (rw (length-append done (e ∷ [])) (omega arith)) (omega arith) in
+    passing ((11, unfit s) ∷ (12, wrongDigit s) ∷ (13, wrongTime s) ∷ (14, seen (quantityOf (at s 1)) done) ∷ (15, eqb (length done) 7) ∷ [])
+    (readEntries left (drop (entryWidth s) s) (done ++ (entryOf s ∷ [])))
+    (w .fit, (w .digits, (w .moment, (o .0, (ne-eqb (length done) 7 (omega arith), tt)))))
+    ∙ ap₂ (λ (l : List ℕ) (x : Entry). readEntries left l (done ++ (x ∷ []))) (w .after) (w .back)
+    ∙ tail
+    ∙ ap (λ (l : List Entry). reads l) (append-assoc done (e ∷ []) more)
