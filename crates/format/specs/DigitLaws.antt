@@ -10,7 +10,7 @@ use lib.Dec.{ltb, lit<}
 use lib.ListN.{length}
 use Rattle.format.specs.Lists.{at, any}
 use Rattle.format.specs.Digits.{overNine, digitsOf, packed}
-use Rattle.format.specs.TestLaws.{None, none}
+use Rattle.format.specs.TestLaws.{none}
 use Rattle.format.specs.ByteLaws.{Bytes}
 
 -- ---- one byte: tens t and units u before d hundreds

@@ -1,11 +1,11 @@
 -- One entry both ways, and all entries both ways.
 use Prim.Native.Nat.{ℕ, zero, suc, _+_, _-_, _^_, _<_, _≤_}
-use mathlib.Core.Bool.{Bool, true, false, cond, not, _&&_, _||_, true≢false, false≢true}
+use mathlib.Core.Bool.{Bool, true, false, cond, not, _&&_, _||_, false≢true, and-false}
 use mathlib.Core.List.{List, [], _∷_, _++_, append-assoc, append-nil}
 use mathlib.Core.Path.{_≡_, refl, sym, ap, ap₂, _∙_}
 use native.Mathlib.Nat.{not-suc-le-zero}
 use native.Mathlib.Omega.{arith}
-use borrow.Author.Tests.{ltb-true, ltb-false, lt-ltb, le-ltb, eqb-true, eqb-false, ne-eqb, not-false}
+use borrow.Author.Tests.{ltb-true, ltb-false, lt-ltb, le-ltb, lt-leb, eqb-true, eqb-false, ne-eqb, not-false}
 use lib.Dec.{ltb, leb, eqb, lit≤}
 use lib.ListN.{length, take, drop, length-drop, length-append, take-append-drop}
 use lib.Seq.{length-take-le, take-add, take-at, drop-at, drop-drop}
@@ -17,7 +17,7 @@ use Rattle.format.specs.Lists.{at, any}
 use Rattle.format.specs.Answers.{Answer, reads, refusal, refuse}
 use Rattle.format.specs.Digits.{overNine, digitsOf, packed}
 use Rattle.format.specs.Moments.{momentOf, dateExists, timeExists, wrongMoment}
-use Rattle.format.specs.Quantities.{quantityOf, widthOf, paired, isTime, isPacked, unknown}
+use Rattle.format.specs.Quantities.{quantityOf, widthOf, paired, isTime, isPacked, unknown, between}
 use Rattle.format.specs.Entries.{valueBytes, entryWidth, valueOf, entryOf, unfit, wrongDigit, wrongTime, seen, missing, readEntries}
 use Rattle.format.specs.Writing.{momentBytes, bytesOfValue, bytesOfEntry, bytesOfEntries, wrongValue, wrongEntry, repeats}
 use Rattle.format.specs.TestLaws.{none, on, not-refused, unrefused, passed, passing}
@@ -82,9 +82,28 @@ value-written w u (Time m) six e =
 -- ---- one entry
 
 -- a point in time is six bytes wide
-six-wide : (st u : ℕ) → paired st u ≡ true → isTime u ≡ true → widthOf st ≡ 6
+pub six-wide : (st u : ℕ) → paired st u ≡ true → isTime u ≡ true → widthOf st ≡ 6
 unfolding paired widthOf
 six-wide st u e q = rw (eqb-true st 0x06 (rw q at e))
+
+-- the structures and units that 01 knows are bytes
+between-past : (low high u : ℕ) → high < u → between low high u ≡ false
+between-past low high u h = rw (lt-leb u high h) (and-false (leb low u))
+
+unit-unknown : (u : ℕ) → 256 ≤ u → quantityOf u ≡ unknown
+unfolding quantityOf
+unit-unknown u h =
+    rw (between-past 0x00 0x07 u (omega arith), between-past 0x10 0x17 u (omega arith), between-past 0x28 0x2F u (omega arith), between-past 0x38 0x3F u (omega arith),
+    between-past 0x58 0x5B u (omega arith), between-past 0x5C 0x5F u (omega arith), ne-eqb u 0x6D (omega arith))
+
+paired-bytes : (st u : ℕ) → paired st u ≡ true → (st < 256) × (u < 256)
+unfolding paired
+paired-bytes st u e =
+    let nost : 256 ≤ st → ⊥ = λ h.
+        on (isTime u) (λ q. false≢true (rw (q, ne-eqb st 0x06 (omega arith)) at e))
+        (λ q. false≢true (rw (q, ne-eqb st 0x0A (omega arith), ne-eqb st 0x0B (omega arith), ne-eqb st 0x0C (omega arith), ne-eqb st 0x0E (omega arith)) at e)) in
+    let nou : 256 ≤ u → ⊥ = λ h. false≢true (rw (ne-eqb u 0x6D (omega arith), unit-unknown u h, and-false (isPacked st)) at e) in
+    omega arith
 
 pub record EntryRead (s : List ℕ) : Type 0 where
   pub back : bytesOfEntry (entryOf s) ≡ take (entryWidth s) s
@@ -111,6 +130,8 @@ pub record EntryWritten (e : Entry) (rest : List ℕ) : Type 0 where
   pub moment : wrongTime (bytesOfEntry e ++ rest) ≡ false
   pub back : entryOf (bytesOfEntry e ++ rest) ≡ e
   pub after : drop (entryWidth (bytesOfEntry e ++ rest)) (bytesOfEntry e ++ rest) ≡ rest
+  pub width : length (bytesOfEntry e) ≡ 2 + widthOf (e .structure)
+  pub bytes : Bytes (bytesOfEntry e)
 
 pub entry-written : (e : Entry) (rest : List ℕ) → wrongEntry e ≡ false → EntryWritten e rest
 entry-written e rest h =
@@ -120,6 +141,7 @@ entry-written e rest h =
     let b : List ℕ = bytesOfValue (widthOf (e .structure)) (e .value) in
     let k = none (not (paired st u)) (wrongValue w u (e .value) ∷ []) h in
     let pair : paired st u ≡ true = not-false (paired st u) (k .0) in
+    let known : (st < 256) × (u < 256) = paired-bytes st u pair in
     let v : ValueWritten w u (e .value) = value-written w u (e .value) (six-wide st u pair) (k .1 .0) in
     let cut : take w (b ++ rest) ≡ b = take-at b rest w (v .width) in
     let size : length (b ++ rest) ≡ w + length rest = length-append b rest ∙ ap (λ (n : ℕ). n + length rest) (v .width) in
@@ -129,7 +151,9 @@ entry-written e rest h =
       digits = rw cut (v .digits);
       moment = rw cut (v .moment);
       back = λ i. record { structure = st; unit = u; value = (ap (valueOf u) cut ∙ v .back) i };
-      after = sym (drop-drop w 2 (st ∷ u ∷ (b ++ rest))) ∙ drop-at b rest w (v .width)
+      after = sym (drop-drop w 2 (st ∷ u ∷ (b ++ rest))) ∙ drop-at b rest w (v .width);
+      width = omega (arith, v .width);
+      bytes = (known .0, (known .1, v .bytes))
     }
 
 -- ---- all entries

@@ -16,3 +16,4 @@ pub mod Writing
 pub mod MomentLaws
 pub mod HeaderLaws
 pub mod EntryLaws
+pub mod LengthLaws

@@ -11,7 +11,7 @@ use Rattle.format.specs.declared.Moment.{Moment}
 use Rattle.format.specs.Lists.{at}
 use Rattle.format.specs.Moments.{momentOf, spareBits, daysIn, february, leap, shortMonth, dateExists, timeExists, wrongMoment}
 use Rattle.format.specs.Writing.{momentBytes}
-use Rattle.format.specs.TestLaws.{None, none, Every, every}
+use Rattle.format.specs.TestLaws.{none, every, picked}
 use Rattle.format.specs.ByteLaws.{Bytes, byte-at, spell-whole}
 
 -- ---- from bytes to a point in time and back
@@ -40,14 +40,11 @@ moment-read b e bytes h =
 
 -- ---- from a point in time to bytes and back
 
-cond-below : (t : Bool) (a b n : ℕ) → a ≤ n → b ≤ n → cond t a b ≤ n
-cond-below true a b n h k = h
-cond-below false a b n h k = k
-
 days-below : (y month : ℕ) → daysIn y month ≤ 31
 days-below y month =
-    cond-below (eqb month 2) (february y) (cond (shortMonth month) 30 31) 31 (cond-below (leap y) 29 28 31 (lit≤ tt) (lit≤ tt))
-    (cond-below (shortMonth month) 30 31 31 (lit≤ tt) (lit≤ tt))
+    picked (λ (n : ℕ). n ≤ 31) (eqb month 2) (february y) (cond (shortMonth month) 30 31)
+    (picked (λ (n : ℕ). n ≤ 31) (leap y) 29 28 (lit≤ tt) (lit≤ tt))
+    (picked (λ (n : ℕ). n ≤ 31) (shortMonth month) 30 31 (lit≤ tt) (lit≤ tt))
 
 -- what the rules say of the numbers of a point in time
 pub record Exists (m : Moment) : Type 0 where

@@ -53,6 +53,11 @@ pub on : {P : Type 0} (t : Bool) → (t ≡ true → P) → (t ≡ false → P) 
 on true f g = f refl
 on false f g = g refl
 
+-- what holds of both answers holds of the one picked
+pub picked : {A : Type 0} (P : A → Type 0) (t : Bool) (a b : A) → P a → P b → P (cond t a b)
+picked P true a b h k = h
+picked P false a b h k = k
+
 -- a chain of refusals, each a number and its test
 abbrev pub refusals : {A : Type 0} → List (ℕ × Bool) → Answer A → Answer A
 refusals [] next = next
