@@ -10,3 +10,5 @@ pub mod Entries
 pub mod Telegrams
 pub mod Lines
 pub mod Writing
+pub mod Flips
+pub mod CharacterLaws
