@@ -13,6 +13,8 @@ pub mod Entries
 pub mod Telegrams
 pub mod Lines
 pub mod Writing
+pub mod Flips
+pub mod CharacterLaws
 pub mod MomentLaws
 pub mod HeaderLaws
 pub mod EntryLaws
