@@ -19,3 +19,4 @@ pub mod MomentLaws
 pub mod HeaderLaws
 pub mod EntryLaws
 pub mod LengthLaws
+pub mod FrameLaws
