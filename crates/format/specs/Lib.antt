@@ -20,3 +20,4 @@ pub mod HeaderLaws
 pub mod EntryLaws
 pub mod LengthLaws
 pub mod FrameLaws
+pub mod TelegramLaws
