@@ -20,7 +20,7 @@ use Rattle.format.specs.Moments.{momentOf, dateExists, timeExists, wrong
 use Rattle.format.specs.Quantities.{quantityOf, widthOf, paired, isTime, isPacked, unknown, between}
 use Rattle.format.specs.Entries.{valueBytes, entryWidth, valueOf, entryOf, unfit, wrongDigit, wrongTime, seen, missing, readEntries}
 use Rattle.format.specs.Writing.{momentBytes, bytesOfValue, bytesOfEntry, bytesOfEntries, wrongValue, wrongEntry, repeats}
-use Rattle.format.specs.TestLaws.{none, on, not-refused, unrefused, passed, passing}
+use Rattle.format.specs.TestLaws.{none, on, not-refused, reads-same, unrefused, passed, passing}
 use Rattle.format.specs.ByteLaws.{Bytes, byte-at, bytes-append, bytes-take, bytes-drop, spell}
 use Rattle.format.specs.DigitLaws.{packed-digits, digits-below, digits-packed, packed-right, length-packed, bytes-packed}
 use Rattle.format.specs.MomentLaws.{Timed, moment-read, Spelled, moment-written}
@@ -157,9 +157,6 @@ entry-written e rest h =
     }
 
 -- ---- all entries
-
-reads-same : {A : Type 0} {a b : A} → reads a ≡ reads b → a ≡ b
-reads-same e = cc
 
 pub record EntriesRead (s : List ℕ) (done es : List Entry) : Type 0 where
   pub more : List Entry

@@ -32,14 +32,14 @@ module _ (b f : List ℕ) (is : field b ≡ f) (count : wrongCount b ≡ false) 
       let e : at b (length b - 1) ≡ 0x16 = eqb-true (at b (length b - 1)) 0x16 (not-false (eqb (at b (length b - 1)) 0x16) (rw a at end)) in
       (ap (at b) (sym p) ∙ s ∙ ap (λ (l : List ℕ). total l % 256) is, ap (at b) (sym q) ∙ e)
 
-  pub short-read : isShort b ≡ true → b ≡ shortFrame f
+  pub short-read : isShort b ≡ true → (b ≡ shortFrame f) × (length f ≡ 2)
   short-read q =
       let z : at b 0 ≡ 0x10 = eqb-true (at b 0) 0x10 q in
       let n : length b ≡ 5 = eqb-true (length b) 5 (not-false (eqb (length b) 5) (rw z at count)) in
       let e : f ≡ at b 1 ∷ at b 2 ∷ [] = sym is ∙ rw z (spell 2 1 b (omega arith)) in
       let c = closes (rw z) 3 4 (omega arith) (omega arith) in
       let whole : b ≡ 0x10 ∷ at b 1 ∷ at b 2 ∷ total f % 256 ∷ 0x16 ∷ [] = spell-whole 5 b n ∙ rw (z, c .0, c .1) in
-      whole ∙ ap (λ (l : List ℕ). 0x10 ∷ (l ++ (total f % 256 ∷ 0x16 ∷ []))) (sym e)
+      (whole ∙ ap (λ (l : List ℕ). 0x10 ∷ (l ++ (total f % 256 ∷ 0x16 ∷ []))) (sym e), ap length e)
 
   pub long-read : isLong b ≡ true → wrongLengths b ≡ false → b ≡ longFrame f
   long-read q lengths =

@@ -21,3 +21,4 @@ pub mod EntryLaws
 pub mod LengthLaws
 pub mod FrameLaws
 pub mod TelegramLaws
+pub mod RoundTrip

@@ -3,7 +3,7 @@ use Prim.Native.Nat.{ℕ}
 use mathlib.Core.Bool.{Bool, true, false, cond, _&&_, _||_, true≢false, false≢true}
 use mathlib.Core.List.{List, [], _∷_}
 use mathlib.Core.Path.{_≡_, refl, sym, subst}
-use Rattle.format.specs.Answers.{Answer, reads, refusal, refuse}
+use Rattle.format.specs.Answers.{Answer, reads, refusal, refuse, within}
 
 -- no test of the list holds
 abbrev pub None : List Bool → Type 0
@@ -74,6 +74,13 @@ is-reads (reads a) = Unit {0}
 pub not-refused : {A : Type 0} {a : A} {n : ℕ} → refusal n ≡ reads a → ⊥
 unfolding is-reads
 not-refused e = subst is-reads (sym e) tt
+
+pub reads-same : {A : Type 0} {a b : A} → reads a ≡ reads b → a ≡ b
+reads-same e = cc
+
+pub within-reads : {A B : Type 0} {b : B} (f : A → B) (x : Answer A) → within f x ≡ reads b → (a : A) × (x ≡ reads a) × (f a ≡ b)
+within-reads f (refusal n) e = absurd (not-refused e)
+within-reads f (reads a) e = (a, refl, reads-same e)
 
 -- What a refusal lets pass does not pass its test.
 pub unrefused : {A : Type 0} {a : A} (n : ℕ) (test : Bool) (next : Answer A) → refuse n test next ≡ reads a → (test ≡ false) × (next ≡ reads a)

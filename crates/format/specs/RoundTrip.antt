@@ -1,0 +1,153 @@
+-- Demand 2 for lines: every accepted line is what is written for its reading, and every telegram that can be written reads back as itself.
+use Prim.Native.Nat.{ℕ, zero, suc, _+_, _-_, _%_, _<_, _≤_}
+use mathlib.Core.Bool.{Bool, true, false, cond, not, _&&_, _||_, true≢false, false≢true, or-false}
+use mathlib.Core.List.{List, [], _∷_, _++_, map}
+use mathlib.Core.Logic.{_↔_}
+use mathlib.Core.Path.{_≡_, refl, sym, ap, ap₂, subst, _∙_}
+use native.Mathlib.Omega.{arith}
+use borrow.Author.Tests.{ltb-true, ltb-false, leb-true, le-leb, eqb-true, eqb-false, eq-eqb, ne-eqb, not-false}
+use lib.Dec.{ltb, leb, eqb, lit<, lit≤}
+use lib.ListN.{length, take, drop, length-append, length-drop, length-map, take-append-drop}
+use lib.Seq.{drop-at}
+use Rattle.format.specs.declared.Kind.{Kind}
+use Rattle.format.specs.declared.Kind.the-variants.{Ack, Read, Enter, Leave, Data}
+use Rattle.format.specs.declared.Entry.{Entry}
+use Rattle.format.specs.declared.Header.{Header}
+use Rattle.format.specs.declared.Telegram.{Telegram}
+use Rattle.format.specs.Lists.{at, any, total}
+use Rattle.format.specs.Characters.{over, odd, byteOf, carrier}
+use Rattle.format.specs.CharacterLaws.{carrier-byte, byte-carrier, carrier-even, carrier-in-range}
+use Rattle.format.specs.Answers.{Answer, reads, refusal, refuse, within}
+use Rattle.format.specs.Headers.{headerOf, wrongHeader}
+use Rattle.format.specs.Entries.{missing, readEntries}
+use Rattle.format.specs.Telegrams.{ack, readOf, enterOf, leaveOf, dataOf, bare}
+use Rattle.format.specs.Lines.{isAck, isShort, isLong, wrongStart, wrongCount, wrongLengths, wrongEnd, wrongSum, field, isMethod, isCommand, isData, readShort, commandOf, readData, readLong, readBody, readFrame, readLine}
+use Rattle.format.specs.Writing.{bytesOfHeader, bytesOfEntries, closed, shortFrame, longFrame, entriesOf, bytesOfKind, lineOf, usedBody, usedEntry, unwrittenHeader, wrongEntry, repeats, wrongData, unwritable}
+use Rattle.format.specs.TestLaws.{none, every, on, picked, unrefused, passed, passing, reads-same, within-reads}
+use Rattle.format.specs.ByteLaws.{Bytes, byte-at, bytes-append, bytes-take, bytes-drop, bytes-of, spell, spell-whole}
+use Rattle.format.specs.HeaderLaws.{Headed, header-read, header-length, header-written, Fits, header-bytes}
+use Rattle.format.specs.EntryLaws.{EntriesRead, entries-read, entries-written}
+use Rattle.format.specs.FrameLaws.{ack-read, short-read, long-read, short-written, long-written, long-field}
+use Rattle.format.specs.TelegramLaws.{bare-back, data-back, data-entries, data-writable}
+
+-- ---- the characters of a line
+
+even-line : (s : List ℕ) → any over s ≡ false → any odd s ≡ false → s ≡ map carrier (map byteOf s)
+unfolding any
+even-line [] h k = refl
+even-line (c ∷ s) h k =
+    let p = none (over c) (any over s ∷ []) h in
+    let q = none (odd c) (any odd s ∷ []) k in
+    ap₂ (λ (x : ℕ) (l : List ℕ). x ∷ l) (sym (carrier-byte c (ltb-false 511 c (p .0)) (q .0))) (even-line s (p .1 .0) (q .1 .0))
+
+record Carried (b : List ℕ) : Type 0 where
+  pub range : any over (map carrier b) ≡ false
+  pub even : any odd (map carrier b) ≡ false
+  pub back : map byteOf (map carrier b) ≡ b
+
+carried : (b : List ℕ) → Bytes b → Carried b
+unfolding any
+carried [] h = record { range = refl; even = refl; back = refl }
+carried (x ∷ b) h =
+    let r : Carried b = carried b (h .1) in
+    record {
+      range = rw (carrier-in-range x (h .0)) (r .range);
+      even = rw (carrier-even x (h .0)) (r .even);
+      back = ap₂ (λ (y : ℕ) (l : List ℕ). y ∷ l) (byte-carrier x (h .0)) (r .back)
+    }
+
+-- ---- from an accepted line to the line that is written
+
+record Round (b : List ℕ) (t : Telegram) : Type 0 where
+  pub back : b ≡ bytesOfKind (t .kind) t
+  pub writable : unwritable t ≡ false
+
+short-round : (b f : List ℕ) (t : Telegram) → b ≡ shortFrame f → length f ≡ 2 → readShort f ≡ reads t → Round b t
+unfolding unwritable any
+short-round b f t e n r =
+    let k = unrefused 9 (not (eqb (at f 0) 0x5B)) (reads (readOf (at f 1))) r in
+    let c : at f 0 ≡ 0x5B = eqb-true (at f 0) 0x5B (not-false (eqb (at f 0) 0x5B) (k .0)) in
+    let form : f ≡ 0x5B ∷ at f 1 ∷ [] = spell-whole 2 f n ∙ rw c in
+    subst (Round b) (reads-same (k .1)) (record { back = e ∙ ap shortFrame form; writable = refl })
+
+command-round : (b f : List ℕ) (t : Telegram) → b ≡ longFrame f → isCommand f ≡ true → reads (commandOf f) ≡ reads t → Round b t
+unfolding unwritable any
+command-round b f t e q r =
+    let k = every (eqb (length f) 4) (eqb (at f 0) 0x53 ∷ eqb (at f 2) 0x50 ∷ (isMethod (at f 3) || eqb (at f 3) 0x00) ∷ []) q in
+    let form : f ≡ 0x53 ∷ at f 1 ∷ 0x50 ∷ at f 3 ∷ [] =
+        spell-whole 4 f (eqb-true (length f) 4 (k .0)) ∙ rw (eqb-true (at f 0) 0x53 (k .1 .0), eqb-true (at f 2) 0x50 (k .1 .1 .0)) in
+    subst (Round b) (reads-same r)
+    (on (eqb (at f 3) 0x00)
+    (λ z.
+      let leave : f ≡ 0x53 ∷ at f 1 ∷ 0x50 ∷ 0x00 ∷ [] = form ∙ rw (eqb-true (at f 3) 0x00 z) in
+      rw z (record { back = e ∙ ap longFrame leave; writable = refl }))
+    (λ z.
+      let m : isMethod (at f 3) ≡ true = sym (or-false (isMethod (at f 3))) ∙ rw z at (k .1 .1 .1 .0) in
+      rw z (record { back = e ∙ ap longFrame form; writable = rw m })))
+
+data-made : (b rest : List ℕ) (a : ℕ) (h : Header) (es : List Entry) → b ≡ longFrame (0x08 ∷ a ∷ 0x72 ∷ (bytesOfHeader h ++ rest)) → unwrittenHeader h ≡ false → EntriesRead rest [] es → Round b (dataOf a h es)
+data-made b rest a h es e header x =
+    let same : x .more ≡ es = sym (x .joins) in
+    let right : any wrongEntry es ≡ false = rw same at (x .right) in
+    let once : repeats [] es ≡ false = rw same at (x .once) in
+    let entries : rest ≡ bytesOfEntries (entriesOf (dataOf a h es)) = sym (x .back) ∙ ap bytesOfEntries (same ∙ sym (data-entries a h es)) in
+    record {
+      back = e ∙ ap (λ (l : List ℕ). longFrame (0x08 ∷ a ∷ 0x72 ∷ (bytesOfHeader h ++ l))) entries;
+      writable = data-writable a h es header right once (x .whole) (x .few)
+    }
+
+data-round : (b f : List ℕ) (t : Telegram) → b ≡ longFrame f → Bytes f → isData f ≡ true → readData (at f 1) (drop 3 f) ≡ reads t → Round b t
+data-round b f t e bytes q r =
+    let k = every (leb 15 (length f)) (eqb (at f 0) 0x08 ∷ eqb (at f 2) 0x72 ∷ []) q in
+    let n : 15 ≤ length f = leb-true 15 (length f) (k .0) in
+    let d : List ℕ = drop 3 f in
+    let first : take 3 f ≡ 0x08 ∷ at f 1 ∷ 0x72 ∷ [] = spell 3 0 f (omega arith) ∙ rw (eqb-true (at f 0) 0x08 (k .1 .0), eqb-true (at f 2) 0x72 (k .1 .1 .0)) in
+    let u = unrefused 10 (wrongHeader d) (within (dataOf (at f 1) (headerOf d)) (readEntries 8 (drop 12 d) [])) r in
+    let w = within-reads (dataOf (at f 1) (headerOf d)) (readEntries 8 (drop 12 d) []) (u .1) in
+    let o : Headed d = header-read d (rw (length-drop 3 f) (omega arith)) (bytes-drop 3 f bytes) (u .0) in
+    let es : EntriesRead (drop 12 d) [] (w .0) = entries-read 8 (drop 12 d) [] (w .0) (bytes-drop 12 d (bytes-drop 3 f bytes)) (lit≤ tt) (w .1) in
+    let parts : d ≡ bytesOfHeader (headerOf d) ++ drop 12 d = sym (take-append-drop 12 d) ∙ ap (λ (l : List ℕ). l ++ drop 12 d) (sym (o .back)) in
+    let form : f ≡ 0x08 ∷ at f 1 ∷ 0x72 ∷ (bytesOfHeader (headerOf d) ++ drop 12 d) =
+        sym (take-append-drop 3 f) ∙ ap₂ (λ (x y : List ℕ). x ++ y) first parts in
+    subst (Round b) (w .2) (data-made b (drop 12 d) (at f 1) (headerOf d) (w .0) (e ∙ ap longFrame form) (o .written) es)
+
+long-round : (b f : List ℕ) (t : Telegram) → b ≡ longFrame f → Bytes f → readLong f ≡ reads t → Round b t
+long-round b f t e bytes r =
+    on (isCommand f) (λ q. command-round b f t e q (rw q at r))
+    (λ q.
+      let u = unrefused 9 (not (isData f)) (readData (at f 1) (drop 3 f)) (rw q at r) in
+      data-round b f t e bytes (not-false (isData f) (u .0)) (u .1))
+
+field-bytes : (b : List ℕ) → Bytes b → Bytes (field b)
+field-bytes b h =
+    picked Bytes (isLong b) (take (length b - 6) (drop 4 b)) (take 2 (drop 1 b)) (bytes-take (length b - 6) (drop 4 b) (bytes-drop 4 b h))
+    (bytes-take 2 (drop 1 b) (bytes-drop 1 b h))
+
+frame-round : (b : List ℕ) (t : Telegram) → Bytes b → readFrame readBody b ≡ reads t → Round b t
+unfolding readBody unwritable any
+frame-round b t bytes r =
+    let k = passed ((4, wrongStart b) ∷ (5, wrongCount b) ∷ (6, wrongLengths b) ∷ (7, wrongEnd b) ∷ (8, wrongSum b) ∷ []) (readBody b) r in
+    let count : wrongCount b ≡ false = k .0 .1 .0 in
+    let end : wrongEnd b ≡ false = k .0 .1 .1 .1 .0 in
+    let sum : wrongSum b ≡ false = k .0 .1 .1 .1 .1 .0 in
+    on (isAck b)
+    (λ q. subst (Round b) (reads-same (rw q at (k .1))) (record { back = ack-read b q count; writable = refl }))
+    (λ a. on (isShort b)
+      (λ q.
+        let h = short-read b (field b) refl count end sum q in
+        short-round b (field b) t (h .0) (h .1) (rw (a, q) at (k .1)))
+      (λ p.
+        let q : isLong b ≡ true = not-false (isLong b) (rw (a, p) at (k .0 .0)) in
+        long-round b (field b) t (long-read b (field b) refl count end sum q (k .0 .1 .1 .0)) (field-bytes b bytes) (rw (a, p) at (k .1))))
+
+-- Every accepted line equals what is written for its reading, to the character, and its reading can be written.
+pub record Rewritten (s : List ℕ) (t : Telegram) : Type 0 where
+  pub same : s ≡ lineOf t
+  pub writable : unwritable t ≡ false
+
+pub read-then-write : (s : List ℕ) (t : Telegram) → readLine s ≡ reads t → Rewritten s t
+unfolding readLine lineOf
+read-then-write s t r =
+    let k = passed ((1, eqb (length s) 0) ∷ (2, any over s) ∷ (3, any odd s) ∷ []) (readFrame readBody (map byteOf s)) r in
+    let o : Round (map byteOf s) t = frame-round (map byteOf s) t (bytes-of s) (k .1) in
+    record { same = even-line s (k .0 .1 .0) (k .0 .1 .1 .0) ∙ ap (map carrier) (o .back); writable = o .writable }
