@@ -227,3 +227,10 @@ entries-written (suc left) done (e ∷ more) right once whole few fuel =
     ∙ ap₂ (λ (l : List ℕ) (x : Entry). readEntries left l (done ++ (x ∷ []))) (w .after) (w .back)
     ∙ tail
     ∙ ap (λ (l : List Entry). reads l) (append-assoc done (e ∷ []) more)
+
+pub entries-bytes : (es : List Entry) → any wrongEntry es ≡ false → Bytes (bytesOfEntries es)
+unfolding any bytesOfEntries
+entries-bytes [] h = tt
+entries-bytes (e ∷ es) h =
+    let k = none (wrongEntry e) (any wrongEntry es ∷ []) h in
+    bytes-append (bytesOfEntry e) (bytesOfEntries es) (entry-written e [] (k .0) .bytes) (entries-bytes es (k .1 .0))

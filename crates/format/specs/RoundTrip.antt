@@ -7,7 +7,7 @@ use mathlib.Core.Path.{_≡_, refl, sym, ap, ap₂, subst, _∙_}
 use native.Mathlib.Omega.{arith}
 use borrow.Author.Tests.{ltb-true, ltb-false, leb-true, le-leb, eqb-true, eqb-false, eq-eqb, ne-eqb, not-false}
 use lib.Dec.{ltb, leb, eqb, lit<, lit≤}
-use lib.ListN.{length, take, drop, length-append, length-drop, length-map, take-append-drop}
+use lib.ListN.{length, take, drop, length-append, length-take, length-drop, length-map, take-append-drop}
 use lib.Seq.{drop-at}
 use Rattle.format.specs.declared.Kind.{Kind}
 use Rattle.format.specs.declared.Kind.the-variants.{Ack, Read, Enter, Leave, Data}
@@ -22,13 +22,14 @@ use Rattle.format.specs.Headers.{headerOf, wrongHeader}
 use Rattle.format.specs.Entries.{missing, readEntries}
 use Rattle.format.specs.Telegrams.{ack, readOf, enterOf, leaveOf, dataOf, bare}
 use Rattle.format.specs.Lines.{isAck, isShort, isLong, wrongStart, wrongCount, wrongLengths, wrongEnd, wrongSum, field, isMethod, isCommand, isData, readShort, commandOf, readData, readLong, readBody, readFrame, readLine}
-use Rattle.format.specs.Writing.{bytesOfHeader, bytesOfEntries, closed, shortFrame, longFrame, entriesOf, bytesOfKind, lineOf, usedBody, usedEntry, unwrittenHeader, wrongEntry, repeats, wrongData, unwritable}
+use Rattle.format.specs.Writing.{bytesOfHeader, bytesOfEntries, closed, shortFrame, longFrame, entriesOf, bytesOfKind, lineOf, usedBody, usedEntry, unwrittenHeader, wrongEntry, repeats, wrongData, wrongFor, unwritable}
 use Rattle.format.specs.TestLaws.{none, every, on, picked, unrefused, passed, passing, reads-same, within-reads}
 use Rattle.format.specs.ByteLaws.{Bytes, byte-at, bytes-append, bytes-take, bytes-drop, bytes-of, spell, spell-whole}
 use Rattle.format.specs.HeaderLaws.{Headed, header-read, header-length, header-written, Fits, header-bytes}
-use Rattle.format.specs.EntryLaws.{EntriesRead, entries-read, entries-written}
+use Rattle.format.specs.EntryLaws.{EntriesRead, entries-read, entries-written, entries-bytes}
+use Rattle.format.specs.LengthLaws.{entries-least, entries-most}
 use Rattle.format.specs.FrameLaws.{ack-read, short-read, long-read, short-written, long-written, long-field}
-use Rattle.format.specs.TelegramLaws.{bare-back, data-back, data-entries, data-writable}
+use Rattle.format.specs.TelegramLaws.{zero-of, bare-back, data-back, data-entries, data-writable}
 
 -- ---- the characters of a line
 
@@ -151,3 +152,142 @@ read-then-write s t r =
     let k = passed ((1, eqb (length s) 0) ∷ (2, any over s) ∷ (3, any odd s) ∷ []) (readFrame readBody (map byteOf s)) r in
     let o : Round (map byteOf s) t = frame-round (map byteOf s) t (bytes-of s) (k .1) in
     record { same = even-line s (k .0 .1 .0) (k .0 .1 .1 .0) ∙ ap (map carrier) (o .back); writable = o .writable }
+
+-- ---- from a telegram that can be written to its line and back
+
+-- what the types of a telegram's fields see to
+pub record Sized (t : Telegram) : Type 0 where
+  pub address : t .address < 256
+  pub header : Fits (t .header)
+  pub places : length (t .entries) ≡ 7
+
+record Reads (b : List ℕ) (t : Telegram) : Type 0 where
+  pub bytes : Bytes b
+  pub begun : 0 < length b
+  pub back : readFrame readBody b ≡ reads t
+
+long-back : (f : List ℕ) (t : Telegram) → length f < 256 → Bytes f → readLong f ≡ reads t → Reads (longFrame f) t
+unfolding readBody
+long-back f t n bytes r =
+    let c : Bytes (total f % 256 ∷ 0x16 ∷ []) = omega arith in
+    record {
+      bytes = (lit< tt, (n, (n, (lit< tt, bytes-append f (total f % 256 ∷ 0x16 ∷ []) bytes c))));
+      begun = omega arith;
+      back = long-written f readBody ∙ ap readLong (long-field f) ∙ r
+    }
+
+read-back : (a : ℕ) → a < 256 → Reads (shortFrame (0x5B ∷ a ∷ [])) (readOf a)
+unfolding readBody total
+read-back a h = record { bytes = omega arith; begun = lit< tt; back = short-written readBody 0x5B a }
+
+leave-back : (a : ℕ) → a < 256 → Reads (longFrame (0x53 ∷ a ∷ 0x50 ∷ 0x00 ∷ [])) (leaveOf a)
+leave-back a h = long-back (0x53 ∷ a ∷ 0x50 ∷ 0x00 ∷ []) (leaveOf a) (lit< tt) (omega arith) refl
+
+method-below : (s : ℕ) → isMethod s ≡ true → (s < 256) × (eqb s 0x00 ≡ false)
+method-below s e =
+    let no : 256 ≤ s → ⊥ = λ h. false≢true (rw (ne-eqb s 0x90 (omega arith), ne-eqb s 0x91 (omega arith), ne-eqb s 0x92 (omega arith)) at e) in
+    let some : s ≡ 0x00 → ⊥ = λ z. false≢true (rw z at e) in
+    (omega arith, ne-eqb s 0x00 some)
+
+enter-back : (a s : ℕ) → a < 256 → isMethod s ≡ true → Reads (longFrame (0x53 ∷ a ∷ 0x50 ∷ s ∷ [])) (enterOf a s)
+enter-back a s h m =
+    let z = method-below s m in
+    long-back (0x53 ∷ a ∷ 0x50 ∷ s ∷ []) (enterOf a s) (lit< tt) (omega arith) (rw (m, z .1))
+
+-- what 20 asks of a header and of entries
+record Good (h : Header) (es : List Entry) : Type 0 where
+  pub header : unwrittenHeader h ≡ false
+  pub few : length es ≤ 7
+  pub right : any wrongEntry es ≡ false
+  pub once : repeats [] es ≡ false
+  pub whole : missing es ≡ false
+
+abbrev dataBytes : ℕ → Header → List Entry → List ℕ
+dataBytes a h es = 0x08 ∷ a ∷ 0x72 ∷ (bytesOfHeader h ++ bytesOfEntries es)
+
+data-length : (a : ℕ) (h : Header) (es : List Entry) → Good h es → (39 ≤ length (dataBytes a h es)) × (length (dataBytes a h es) ≤ 71)
+data-length a h es g =
+    let l : length (bytesOfHeader h ++ bytesOfEntries es) ≡ length (bytesOfHeader h) + length (bytesOfEntries es) = length-append (bytesOfHeader h) (bytesOfEntries es) in
+    let n : length (bytesOfHeader h) ≡ 12 = header-length h in
+    let least : 24 ≤ length (bytesOfEntries es) = entries-least es (g .right) (g .whole) in
+    let most : length (bytesOfEntries es) ≤ 56 = entries-most es (g .right) (g .few) in
+    omega arith
+
+-- the header and the entries of what is written
+entries-reads : (a : ℕ) (h : Header) (es : List Entry) → Good h es → readData a (bytesOfHeader h ++ bytesOfEntries es) ≡ reads (dataOf a h es)
+entries-reads a h es g =
+    let d : List ℕ = bytesOfHeader h ++ bytesOfEntries es in
+    let w = header-written h (bytesOfEntries es) (g .header) in
+    let rest : drop 12 d ≡ bytesOfEntries es = drop-at (bytesOfHeader h) (bytesOfEntries es) 12 (header-length h) in
+    let entries : readEntries 8 (drop 12 d) [] ≡ reads es =
+        rw rest (entries-written 8 [] es (g .right) (g .once) (g .whole) (omega (arith, g .few)) (omega (arith, g .few))) in
+    ap (λ (t : Bool). refuse 10 t (within (dataOf a (headerOf d)) (readEntries 8 (drop 12 d) []))) (w .right)
+    ∙ ap₂ (λ (x : Header) (r : Answer (List Entry)). within (dataOf a x) r) (w .back) entries
+
+data-reads : (a : ℕ) (h : Header) (es : List Entry) → a < 256 → Fits h → Good h es → Reads (longFrame (dataBytes a h es)) (dataOf a h es)
+data-reads a h es small fits g =
+    let f : List ℕ = dataBytes a h es in
+    let d : List ℕ = bytesOfHeader h ++ bytesOfEntries es in
+    let n = data-length a h es g in
+    let command : isCommand f ≡ false = rw (ne-eqb (length f) 4 (omega arith)) in
+    let form : isData f ≡ true = rw (le-leb 15 (length f) (omega arith)) in
+    let bytes : Bytes d = bytes-append (bytesOfHeader h) (bytesOfEntries es) (header-bytes h fits (g .header)) (entries-bytes es (g .right)) in
+    long-back f (dataOf a h es) (omega arith) (lit< tt, (small, (lit< tt, bytes)))
+    (ap (λ (t : Bool). cond t (reads (commandOf f)) (refuse 9 (not (isData f)) (readData a d))) command
+    ∙ ap (λ (t : Bool). refuse 9 (not t) (readData a d)) form ∙ entries-reads a h es g)
+
+-- ---- each kind
+
+record GoodData (t : Telegram) : Type 0 where
+  pub good : Good (t .header) (entriesOf t)
+  pub count : t .count ≤ 7
+  pub blank : any usedEntry (drop (t .count) (t .entries)) ≡ false
+
+good-data : (t : Telegram) → wrongData t ≡ false → GoodData t
+good-data t e =
+    let es : List Entry = entriesOf t in
+    let k =
+        none (unwrittenHeader (t .header))
+        (ltb 7 (t .count) ∷ any wrongEntry es ∷ repeats [] es ∷ missing es ∷ any usedEntry (drop (t .count) (t .entries)) ∷ []) e in
+    let few : t .count ≤ 7 = ltb-false 7 (t .count) (k .1 .0) in
+    record {
+      good =
+        record { header = k .0; few = rw (length-take (t .count) (t .entries)) (omega arith); right = k .1 .1 .0; once = k .1 .1 .1 .0; whole = k .1 .1 .1 .1 .0 };
+      count = few;
+      blank = k .1 .1 .1 .1 .1 .0
+    }
+
+kind-reads : (t : Telegram) (k : Kind) → t .kind ≡ k → Sized t → wrongFor k t ≡ false → Reads (bytesOfKind k t) t
+unfolding readBody
+kind-reads t Ack e z w =
+    let k = none (ltb 0 (t .address)) (ltb 0 (t .method) ∷ usedBody t ∷ []) w in
+    let a : t .address ≡ 0 = zero-of (t .address) (k .0) in
+    subst (Reads (0xE5 ∷ [])) (sym (bare-back t Ack 0 e (zero-of (t .method) (k .1 .0)) (z .places) (k .1 .1 .0) ∙ ap (λ (n : ℕ). bare Ack n 0) a))
+    (record { bytes = omega arith; begun = lit< tt; back = refl })
+kind-reads t Read e z w =
+    let k = none (ltb 0 (t .method)) (usedBody t ∷ []) w in
+    subst (Reads (bytesOfKind Read t)) (sym (bare-back t Read 0 e (zero-of (t .method) (k .0)) (z .places) (k .1 .0))) (read-back (t .address) (z .address))
+kind-reads t Enter e z w =
+    let k = none (not (isMethod (t .method))) (usedBody t ∷ []) w in
+    subst (Reads (bytesOfKind Enter t)) (sym (bare-back t Enter (t .method) e refl (z .places) (k .1 .0)))
+    (enter-back (t .address) (t .method) (z .address) (not-false (isMethod (t .method)) (k .0)))
+kind-reads t Leave e z w =
+    let k = none (ltb 0 (t .method)) (usedBody t ∷ []) w in
+    subst (Reads (bytesOfKind Leave t)) (sym (bare-back t Leave 0 e (zero-of (t .method) (k .0)) (z .places) (k .1 .0))) (leave-back (t .address) (z .address))
+kind-reads t Data e z w =
+    let k = none (ltb 0 (t .method)) (wrongData t ∷ []) w in
+    let g : GoodData t = good-data t (k .1 .0) in
+    subst (Reads (bytesOfKind Data t)) (sym (data-back t e (zero-of (t .method) (k .0)) (z .places) (g .count) (g .blank)))
+    (data-reads (t .address) (t .header) (entriesOf t) (z .address) (z .header) (g .good))
+
+-- Every telegram that can be written reads back as itself.
+pub write-then-read : (t : Telegram) → Sized t → unwritable t ≡ false → readLine (lineOf t) ≡ reads t
+unfolding readLine lineOf unwritable
+write-then-read t z w =
+    let b : List ℕ = bytesOfKind (t .kind) t in
+    let r : Reads b t = kind-reads t (t .kind) refl z w in
+    let c : Carried b = carried b (r .bytes) in
+    let n : length (map carrier b) ≡ length b = length-map b carrier in
+    passing ((1, eqb (length (map carrier b)) 0) ∷ (2, any over (map carrier b)) ∷ (3, any odd (map carrier b)) ∷ []) (readFrame readBody (map byteOf (map carrier b)))
+    (ne-eqb (length (map carrier b)) 0 (omega (arith, r .begun)), (c .range, (c .even, tt)))
+    ∙ ap (readFrame readBody) (c .back) ∙ r .back

@@ -25,7 +25,7 @@ use Rattle.format.specs.TestLaws.{none}
 
 -- ---- what is not used is blank
 
-zero-of : (n : ℕ) → ltb 0 n ≡ false → n ≡ 0
+pub zero-of : (n : ℕ) → ltb 0 n ≡ false → n ≡ 0
 zero-of n e = omega (arith, ltb-false 0 n e)
 
 value-blank : (v : Value) → usedValue v ≡ false → v ≡ blankEntry .value
