@@ -1,12 +1,10 @@
 -- Lists of bytes, and a list spelled out place by place.
-use Prim.Native.Nat.{ℕ, zero, suc, _+_, _<_, _≤_, min}
-use mathlib.Core.Bool.{Bool}
+use Prim.Native.Nat.{ℕ, zero, suc, _+_, _<_, _≤_}
 use mathlib.Core.List.{List, [], _∷_, _++_, map}
-use mathlib.Core.Path.{_≡_, refl, sym, ap, _∙_, subst}
-use native.Mathlib.Nat.{add-suc, mod-lt}
+use mathlib.Core.Path.{_≡_, refl, sym, ap, _∙_}
 use native.Mathlib.Omega.{arith}
 use lib.Dec.{lit<}
-use lib.ListN.{length, getD, take, drop, List·getD-map}
+use lib.ListN.{length, take, drop}
 use lib.Seq.{drop-cons, take-all}
 use Rattle.format.specs.Lists.{at}
 use Rattle.format.specs.Characters.{byteOf}

@@ -1,14 +1,14 @@
 -- Packed digits both ways, over the number of bytes.
 use Prim.Native.Nat.{ℕ, zero, suc, _+_, _*_, _/_, _%_, _^_, _<_, _≤_}
-use mathlib.Core.Bool.{Bool, true, false, _||_}
+use mathlib.Core.Bool.{false}
 use mathlib.Core.List.{List, [], _∷_}
-use mathlib.Core.Path.{_≡_, refl, sym, ap, ap₂, _∙_}
+use mathlib.Core.Path.{_≡_, refl, ap, ap₂}
 use native.Mathlib.Nat.{pow-succ', div-div-eq-div-mul}
 use native.Mathlib.Omega.{arith}
 use borrow.Author.Tests.{ltb-false, le-ltb}
 use lib.Dec.{ltb, lit<}
 use lib.ListN.{length}
-use Rattle.format.specs.Lists.{at, any}
+use Rattle.format.specs.Lists.{any}
 use Rattle.format.specs.Digits.{overNine, digitsOf, packed}
 use Rattle.format.specs.TestLaws.{none}
 use Rattle.format.specs.ByteLaws.{Bytes}

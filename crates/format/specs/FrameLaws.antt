@@ -1,15 +1,15 @@
 -- The frames both ways, for any field.
-use Prim.Native.Nat.{ℕ, zero, suc, _+_, _-_, _%_, _<_, _≤_}
-use mathlib.Core.Bool.{Bool, true, false, cond, not, _&&_, _||_}
+use Prim.Native.Nat.{ℕ, suc, _+_, _-_, _%_, _≤_}
+use mathlib.Core.Bool.{true, false, not}
 use mathlib.Core.List.{List, [], _∷_, _++_}
 use mathlib.Core.Path.{_≡_, refl, sym, ap, ap₂, _∙_}
 use native.Mathlib.Omega.{arith}
 use borrow.Author.Tests.{ltb-false, eqb-true, eq-eqb, le-ltb, not-false}
-use lib.Dec.{ltb, eqb, lit≤}
+use lib.Dec.{ltb, eqb}
 use lib.ListN.{length, take, drop, length-append, length-drop, take-append-drop}
 use lib.Seq.{take-all, take-append-seam, drop-drop, getD-append-add, length-take-le}
 use Rattle.format.specs.Lists.{at, total}
-use Rattle.format.specs.Answers.{Answer, reads, refuse}
+use Rattle.format.specs.Answers.{Answer}
 use Rattle.format.specs.Lines.{isAck, isShort, isLong, wrongStart, wrongCount, wrongLengths, wrongEnd, field, wrongSum, readFrame}
 use Rattle.format.specs.Writing.{closed, shortFrame, longFrame}
 use Rattle.format.specs.TestLaws.{none, passing}
@@ -54,7 +54,7 @@ module _ (b f : List ℕ) (is : field b ≡ f) (count : wrongCount b ≡ false) 
       let size : length f ≡ at b 1 = ap length e ∙ length-take-le (length b - 6) (drop 4 b) (rw (length-drop 4 b) (omega arith)) ∙ omega arith in
       let c = closes (rw z) (length b - 2) (suc (length b - 2)) refl (omega arith) in
       let two : drop (length b - 2) b ≡ total f % 256 ∷ 0x16 ∷ [] =
-          sym (take-all 2 (drop (length b - 2) b) (rw (length-drop (length b - 2) b) (omega arith))) ∙ spell 2 (length b - 2) b (omega arith) ∙ rw (c .0, c .1) in
+      sym (take-all 2 (drop (length b - 2) b) (rw (length-drop (length b - 2) b) (omega arith))) ∙ spell 2 (length b - 2) b (omega arith) ∙ rw (c .0, c .1) in
       let place : 4 + (length b - 6) ≡ length b - 2 = omega arith in
       let from : drop (length b - 6) (drop 4 b) ≡ drop (length b - 2) b = drop-drop (length b - 6) 4 b ∙ ap (λ (i : ℕ). drop i b) place in
       let head : take 4 b ≡ 0x68 ∷ length f ∷ length f ∷ 0x68 ∷ [] = spell 4 0 b (omega arith) ∙ rw (z, again, ← same, size) in
@@ -69,12 +69,12 @@ short-written body x y =
     rw (eq-eqb cs cs refl)
 
 module _ (f : List ℕ) where
-  size : length (closed f) ≡ length f + 2
-  size = length-append f (total f % 256 ∷ 0x16 ∷ [])
+  pub closed-length : length (closed f) ≡ length f + 2
+  closed-length = length-append f (total f % 256 ∷ 0x16 ∷ [])
 
   pub long-field : field (longFrame f) ≡ f
   long-field =
-      let n : length (closed f) ≡ length f + 2 = size in
+      let n : length (closed f) ≡ length f + 2 = closed-length in
       let l : length (longFrame f) - 6 ≡ length f = omega arith in
       ap (λ (k : ℕ). take k (closed f)) l ∙ take-append-seam f (total f % 256 ∷ 0x16 ∷ [])
 
@@ -85,12 +85,19 @@ module _ (f : List ℕ) where
   pub long-written : {A : Type 0} (body : List ℕ → Answer A) → readFrame body (longFrame f) ≡ body (longFrame f)
   long-written body =
       let b : List ℕ = longFrame f in
-      let n : length (closed f) ≡ length f + 2 = size in
+      let n : length (closed f) ≡ length f + 2 = closed-length in
       let cs : ℕ = total f % 256 in
       let sum : at b (length b - 2) ≡ total (field b) % 256 = after (length b - 2) 0 (omega arith) ∙ ap (λ (l : List ℕ). total l % 256) (sym long-field) in
-      passing ((4, wrongStart b) ∷ (5, wrongCount b) ∷ (6, wrongLengths b) ∷ (7, wrongEnd b) ∷ (8, wrongSum b) ∷ []) (body b)
-      (refl,
-      (rw (le-ltb (length b) 6 (omega arith), eq-eqb (length b) (length f + 6) (omega arith)),
-      (rw (eq-eqb (length f) (length f) refl),
-      (rw (after (length b - 1) 1 (omega arith)),
-      (ap not (eq-eqb (at b (length b - 2)) (total (field b) % 256) sum), tt)))))
+      passing ((4, wrongStart b) ∷ (5, wrongCount b) ∷ (6, wrongLengths b) ∷ (7, wrongEnd b) ∷ (8, wrongSum b) ∷ []) (body b) (
+        refl,
+        (
+          rw (le-ltb (length b) 6 (omega arith), eq-eqb (length b) (length f + 6) (omega arith)),
+          (
+            rw (eq-eqb (length f) (length f) refl),
+            (
+              rw (after (length b - 1) 1 (omega arith)),
+              (ap not (eq-eqb (at b (length b - 2)) (total (field b) % 256) sum), tt),
+            ),
+          ),
+        ),
+      )

@@ -1,13 +1,13 @@
 -- The header both ways, in twelve bytes.
 use Prim.Native.Nat.{ℕ, _+_, _*_, _/_, _%_, _^_, _<_, _≤_}
-use mathlib.Core.Bool.{Bool, true, false, not, _&&_, _||_, false≢true}
+use mathlib.Core.Bool.{true, false, not, false≢true}
 use mathlib.Core.List.{List, [], _∷_, _++_}
-use mathlib.Core.Path.{_≡_, refl, sym, ap, ap₂, _∙_}
+use mathlib.Core.Path.{_≡_, refl}
 use native.Mathlib.Omega.{arith}
-use borrow.Author.Tests.{ltb-true, ltb-false, lt-ltb, leb-true, ne-eqb, not-false}
-use lib.Dec.{ltb, leb, eqb, lit≤}
-use lib.ListN.{length, take, drop, length-drop}
-use lib.Seq.{length-take-le, take-add, getD-drop}
+use borrow.Author.Tests.{ltb-true, ltb-false, lt-ltb, ne-eqb, not-false}
+use lib.Dec.{ltb}
+use lib.ListN.{length, take}
+use lib.Seq.{length-take-le, take-add}
 use Rattle.format.specs.declared.Header.{Header}
 use Rattle.format.specs.Lists.{at, any}
 use Rattle.format.specs.Digits.{overNine, digitsOf, packed}
@@ -19,15 +19,15 @@ use Rattle.format.specs.DigitLaws.{packed-digits, digits-below, digits-p
 
 -- ---- from bytes to a header and back
 
-pub record Headed (b : List ℕ) : Type 0 where
+pub record HeaderRead (b : List ℕ) : Type 0 where
   pub back : bytesOfHeader (headerOf b) ≡ take 12 b
   pub written : unwrittenHeader (headerOf b) ≡ false
 
-pub header-read : (b : List ℕ) → 12 ≤ length b → Bytes b → wrongHeader b ≡ false → Headed b
+pub header-read : (b : List ℕ) → 12 ≤ length b → Bytes b → wrongHeader b ≡ false → HeaderRead b
 unfolding wrongHeader
 header-read b e bytes h =
     let k = none (any overNine (take 4 b))
-        (not (makerNamed (headerOf b .maker)) ∷ not (heatMeter (headerOf b .«meter_type»)) ∷ ltb 0 (at b 10) ∷ ltb 0 (at b 11) ∷ []) h in
+    (not (makerNamed (headerOf b .maker)) ∷ not (heatMeter (headerOf b .«meter_type»)) ∷ ltb 0 (at b 10) ∷ ltb 0 (at b 11) ∷ []) h in
     let four : length (take 4 b) ≡ 4 = length-take-le 4 b (omega arith) in
     let b₄ : at b 4 < 256 = byte-at b bytes 4 in
     let low : (256 * at b 5 + at b 4) % 256 ≡ at b 4 = omega arith in
@@ -38,7 +38,7 @@ header-read b e bytes h =
     let below : digitsOf (take 4 b) < 100 ^ 4 = rw four at (digits-below (take 4 b) (k .0)) in
     record {
       back = rw (take-add 4 8 b, spell 8 4 b (omega arith), z₀, z₁, low, high, number);
-      written = rw (lt-ltb (digitsOf (take 4 b)) 100000000 below, k .1 .0, k .1 .1 .0)
+      written = rw (lt-ltb (digitsOf (take 4 b)) 100000000 below, k .1 .0, k .1 .1 .0);
     }
 
 -- ---- from a header to bytes and back
@@ -47,11 +47,11 @@ pub header-length : (h : Header) → length (bytesOfHeader h) ≡ 12
 unfolding packed
 header-length h = refl
 
-pub record Written (h : Header) (rest : List ℕ) : Type 0 where
+pub record HeaderWritten (h : Header) (rest : List ℕ) : Type 0 where
   pub back : headerOf (bytesOfHeader h ++ rest) ≡ h
   pub right : wrongHeader (bytesOfHeader h ++ rest) ≡ false
 
-pub header-written : (h : Header) (rest : List ℕ) → unwrittenHeader h ≡ false → Written h rest
+pub header-written : (h : Header) (rest : List ℕ) → unwrittenHeader h ≡ false → HeaderWritten h rest
 unfolding wrongHeader packed
 header-written h rest e =
     let k = none (not (ltb (h .number) 100000000)) (not (makerNamed (h .maker)) ∷ not (heatMeter (h .«meter_type»)) ∷ []) e in
@@ -61,7 +61,7 @@ header-written h rest e =
     let right : any overNine (packed 4 (h .number)) ≡ false = packed-right 4 (h .number) in
     record {
       back = λ i. record { number = number i; maker = maker i; version = h .version; «meter_type» = h .«meter_type»; access = h .access; status = h .status };
-      right = rw (right, maker, k .1 .0, k .1 .1 .0)
+      right = rw (right, maker, k .1 .0, k .1 .1 .0);
     }
 
 -- The bytes of a header are bytes where its fields are; the rules see to those of the maker and the meter type.

@@ -1,8 +1,8 @@
 -- 01, "Entry": "So L runs from 39 to 71 and the longest line has 77 characters."
-use Prim.Native.Nat.{ℕ, suc, _+_, _*_, _<_, _≤_}
-use mathlib.Core.Bool.{Bool, true, false, cond, not, _&&_, _||_, false≢true}
+use Prim.Native.Nat.{ℕ, _+_, _*_, _≤_}
+use mathlib.Core.Bool.{Bool, true, false, cond, not, _||_, false≢true}
 use mathlib.Core.List.{List, [], _∷_, _++_}
-use mathlib.Core.Path.{_≡_, refl, sym, ap, _∙_}
+use mathlib.Core.Path.{_≡_, refl}
 use native.Mathlib.Omega.{arith}
 use borrow.Author.Tests.{eqb-true, not-false}
 use lib.Dec.{eqb, ltb, lit≤}
@@ -64,8 +64,14 @@ takes-or false b n = omega arith
 
 owes-or : (a b : ℕ → Bool) → owes (λ q. a q || b q) ≤ owes a + owes b
 owes-or a b =
-    omega (arith, takes-or (a energy) (b energy) 4, takes-or (a volume) (b volume) 4, takes-or (a inlet) (b inlet) 4, takes-or (a outlet) (b outlet) 4,
-    takes-or (a time) (b time) 8)
+    omega (
+      arith,
+      takes-or (a energy) (b energy) 4,
+      takes-or (a volume) (b volume) 4,
+      takes-or (a inlet) (b inlet) 4,
+      takes-or (a outlet) (b outlet) 4,
+      takes-or (a time) (b time) 8,
+    )
 
 -- a quantity is at most one of them
 one-owed : (n : ℕ) → owes (eqb n) ≤ cond (eqb n time) 8 4
@@ -87,14 +93,14 @@ entry-least e h =
     let one : owes (eqb (quantityOf u)) ≤ cond (eqb (quantityOf u) time) 8 4 = one-owed (quantityOf u) in
     on (isTime u)
     (λ q.
-      let w : widthOf st ≡ 6 = six-wide st u pair q in
-      let most : cond (eqb (quantityOf u) time) 8 4 ≤ 8 = picked (λ (n : ℕ). n ≤ 8) (eqb (quantityOf u) time) 8 4 (lit≤ tt) (lit≤ tt) in
-      omega arith)
+    let w : widthOf st ≡ 6 = six-wide st u pair q in
+    let most : cond (eqb (quantityOf u) time) 8 4 ≤ 8 = picked (λ (n : ℕ). n ≤ 8) (eqb (quantityOf u) time) 8 4 (lit≤ tt) (lit≤ tt) in
+    omega arith)
     (λ q.
-      let p = every (isPacked st) (ltb (quantityOf u) unknown ∷ []) (rw q at pair) in
-      let w : 2 ≤ widthOf st = width-least st (p .0) in
-      let less : cond (eqb (quantityOf u) time) 8 4 ≤ 4 = rw (other-quantity u q) (lit≤ tt) in
-      omega arith)
+    let p = every (isPacked st) (ltb (quantityOf u) unknown ∷ []) (rw q at pair) in
+    let w : 2 ≤ widthOf st = width-least st (p .0) in
+    let less : cond (eqb (quantityOf u) time) 8 4 ≤ 4 = rw (other-quantity u q) (lit≤ tt) in
+    omega arith)
 
 -- ---- all entries
 
@@ -113,14 +119,19 @@ lengths (e ∷ es) h =
     let l : length (bytesOfEntry e ++ bytesOfEntries es) ≡ length (bytesOfEntry e) + length (bytesOfEntries es) = length-append (bytesOfEntry e) (bytesOfEntries es) in
     let one : owes (eqb (quantityOf (e .unit))) ≤ 2 + widthOf (e .structure) = entry-least e (k .0) in
     let o : owes (λ q. eqb (quantityOf (e .unit)) q || seen q es) ≤ owes (eqb (quantityOf (e .unit))) + owes (λ q. seen q es) =
-        owes-or (eqb (quantityOf (e .unit))) (λ q. seen q es) in
+    owes-or (eqb (quantityOf (e .unit))) (λ q. seen q es) in
     record { least = omega arith; most = omega arith }
 
 pub entries-least : (es : List Entry) → any wrongEntry es ≡ false → missing es ≡ false → 24 ≤ length (bytesOfEntries es)
 entries-least es h m =
     let k = none (not (seen energy es)) (not (seen volume es) ∷ not (seen inlet es) ∷ not (seen outlet es) ∷ not (seen time es) ∷ []) m in
-    rw (not-false (seen energy es) (k .0), not-false (seen volume es) (k .1 .0), not-false (seen inlet es) (k .1 .1 .0), not-false (seen outlet es) (k .1 .1 .1 .0),
-    not-false (seen time es) (k .1 .1 .1 .1 .0)) at (lengths es h .least)
+    rw (
+      not-false (seen energy es) (k .0),
+      not-false (seen volume es) (k .1 .0),
+      not-false (seen inlet es) (k .1 .1 .0),
+      not-false (seen outlet es) (k .1 .1 .1 .0),
+      not-false (seen time es) (k .1 .1 .1 .1 .0),
+    ) at (lengths es h .least)
 
 pub entries-most : (es : List Entry) → any wrongEntry es ≡ false → length es ≤ 7 → length (bytesOfEntries es) ≤ 56
 entries-most es h few = let l : Lengths es = lengths es h in omega arith

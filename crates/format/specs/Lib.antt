@@ -21,4 +21,5 @@ pub mod EntryLaws
 pub mod LengthLaws
 pub mod FrameLaws
 pub mod TelegramLaws
+pub mod LineLaws
 pub mod RoundTrip

@@ -1,8 +1,8 @@
 -- A point in time both ways, in six bytes.
 use Prim.Native.Nat.{ℕ, _+_, _*_, _/_, _%_, _<_, _≤_}
-use mathlib.Core.Bool.{Bool, true, false, cond, not, _&&_, _||_}
+use mathlib.Core.Bool.{true, false, cond, not, _&&_, _||_}
 use mathlib.Core.List.{List, [], _∷_}
-use mathlib.Core.Path.{_≡_, refl, sym, ap, _∙_}
+use mathlib.Core.Path.{_≡_, sym, ap, _∙_}
 use native.Mathlib.Omega.{arith}
 use borrow.Author.Tests.{ltb-true, ltb-false, leb-true, le-ltb, not-false}
 use lib.Dec.{ltb, leb, eqb, lit≤}
@@ -16,12 +16,12 @@ use Rattle.format.specs.ByteLaws.{Bytes, byte-at, spell-whole}
 
 -- ---- from bytes to a point in time and back
 
-pub record Timed (b : List ℕ) : Type 0 where
+pub record MomentRead (b : List ℕ) : Type 0 where
   pub back : momentBytes (momentOf b) ≡ b
   pub date : dateExists (momentOf b) ≡ true
   pub hour : timeExists (momentOf b) ≡ true
 
-pub moment-read : (b : List ℕ) → length b ≡ 6 → Bytes b → wrongMoment b ≡ false → Timed b
+pub moment-read : (b : List ℕ) → length b ≡ 6 → Bytes b → wrongMoment b ≡ false → MomentRead b
 unfolding wrongMoment
 moment-read b e bytes h =
     let k = none (ltb 63 (at b 0)) (ltb 63 (at b 1) ∷ ltb 31 (at b 2) ∷ ltb 0 (at b 5) ∷ not (dateExists (momentOf b)) ∷ not (timeExists (momentOf b)) ∷ []) h in
@@ -35,7 +35,7 @@ moment-read b e bytes h =
     record {
       back = sym (spell-whole 6 b e ∙ rw (q₀, q₁, q₂, q₃, q₄, ← q₅));
       date = not-false (dateExists (momentOf b)) (k .1 .1 .1 .1 .0);
-      hour = not-false (timeExists (momentOf b)) (k .1 .1 .1 .1 .1 .0)
+      hour = not-false (timeExists (momentOf b)) (k .1 .1 .1 .1 .1 .0);
     }
 
 -- ---- from a point in time to bytes and back
@@ -65,12 +65,12 @@ moment-exists m d h =
     omega (arith, ltb-true, leb-true)
 
 -- the six bytes of a point in time that exists
-pub record Spelled (m : Moment) : Type 0 where
+pub record MomentWritten (m : Moment) : Type 0 where
   pub back : momentOf (momentBytes m) ≡ m
   pub right : wrongMoment (momentBytes m) ≡ false
   pub bytes : Bytes (momentBytes m)
 
-pub moment-written : (m : Moment) → dateExists m ≡ true → timeExists m ≡ true → Spelled m
+pub moment-written : (m : Moment) → dateExists m ≡ true → timeExists m ≡ true → MomentWritten m
 unfolding wrongMoment
 moment-written m d h =
     let x : Exists m = moment-exists m d h in
@@ -82,9 +82,9 @@ moment-written m d h =
     let second : m .second % 64 ≡ m .second = omega arith in
     let back : momentOf (momentBytes m) ≡ m = λ i. record { year = year i; month = month i; day = day i; hour = hour i; minute = minute i; second = second i } in
     let spare : spareBits (momentBytes m) ≡ false =
-        rw (le-ltb 63 (m .second) (omega arith), le-ltb 63 (m .minute) (omega arith), le-ltb 31 (m .hour) (omega arith)) in
+    rw (le-ltb 63 (m .second) (omega arith), le-ltb 63 (m .minute) (omega arith), le-ltb 31 (m .hour) (omega arith)) in
     record {
       back = back;
       right = ap (λ (n : Moment). spareBits (momentBytes m) || not (dateExists n) || not (timeExists n)) back ∙ rw (spare, d, h);
-      bytes = omega arith
+      bytes = omega arith;
     }

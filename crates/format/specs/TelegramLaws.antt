@@ -1,15 +1,13 @@
 -- A telegram that can be written is one that a line reads as: what its kind does not use is blank.
-use Prim.Native.Nat.{ℕ, zero, suc, _+_, _-_, _<_, _≤_}
-use mathlib.Core.Bool.{Bool, true, false, cond, not, _&&_, _||_, true≢false}
+use Prim.Native.Nat.{ℕ, zero, suc, _-_, _<_, _≤_}
+use mathlib.Core.Bool.{false, true≢false}
 use mathlib.Core.List.{List, [], _∷_, _++_}
 use mathlib.Core.Path.{_≡_, refl, sym, ap, ap₂, _∙_}
 use native.Mathlib.Omega.{arith}
 use borrow.Author.Tests.{ltb-false, le-ltb}
-use lib.Dec.{ltb, eqb}
-use lib.ListN.{length, take, drop, replicate, length-drop, take-append-drop}
+use lib.Dec.{ltb}
+use lib.ListN.{length, drop, replicate, length-drop, take-append-drop}
 use lib.Seq.{take-append-seam, drop-append-seam, length-take-le}
-use Rattle.format.specs.declared.Decimal.{Decimal}
-use Rattle.format.specs.declared.Moment.{Moment}
 use Rattle.format.specs.declared.Value.{Value}
 use Rattle.format.specs.declared.Value.the-variants.{Number, Time}
 use Rattle.format.specs.declared.Kind.{Kind}
@@ -20,8 +18,15 @@ use Rattle.format.specs.declared.Telegram.{Telegram}
 use Rattle.format.specs.Lists.{any}
 use Rattle.format.specs.Telegrams.{blankEntry, blankHeader, bare, dataOf}
 use Rattle.format.specs.Entries.{missing}
-use Rattle.format.specs.Writing.{entriesOf, usedValue, usedEntry, usedHeader, usedBody, wrongEntry, unwrittenHeader, repeats, wrongData, unwritable}
+use Rattle.format.specs.Writing.{entriesOf, usedValue, usedEntry, usedHeader, usedBody, wrongEntry, unwrittenHeader, repeats, unwritable}
+use Rattle.format.specs.HeaderLaws.{Fits}
 use Rattle.format.specs.TestLaws.{none}
+
+-- What the types of a telegram's fields see to.
+pub record Sized (t : Telegram) : Type 0 where
+  pub address : t .address < 256
+  pub header : Fits (t .header)
+  pub places : length (t .entries) ≡ 7
 
 -- ---- what is not used is blank
 
@@ -53,7 +58,7 @@ header-blank h e =
       version = zero-of (h .version) (k .1 .1 .0) i;
       «meter_type» = zero-of (h .«meter_type») (k .1 .1 .1 .0) i;
       access = zero-of (h .access) (k .1 .1 .1 .1 .0) i;
-      status = zero-of (h .status) (k .1 .1 .1 .1 .1 .0) i
+      status = zero-of (h .status) (k .1 .1 .1 .1 .1 .0) i;
     }
 
 -- ---- a telegram of each form
@@ -68,7 +73,7 @@ bare-back t k m p q seven h =
       method = q i;
       header = header-blank (t .header) (u .0) i;
       count = zero-of (t .count) (u .1 .0) i;
-      entries = entries i
+      entries = entries i;
     }
 
 pub data-back : (t : Telegram) → t .kind ≡ Data → t .method ≡ 0 → length (t .entries) ≡ 7 → t .count ≤ 7 → any usedEntry (drop (t .count) (t .entries)) ≡ false → t ≡ dataOf (t .address) (t .header) (entriesOf t)
@@ -76,9 +81,9 @@ data-back t p q seven few h =
     let n : length (entriesOf t) ≡ t .count = length-take-le (t .count) (t .entries) (omega arith) in
     let left : length (drop (t .count) (t .entries)) ≡ 7 - length (entriesOf t) = length-drop (t .count) (t .entries) ∙ rw (seven, n) in
     let rest : drop (t .count) (t .entries) ≡ replicate (7 - length (entriesOf t)) blankEntry =
-        entries-blank (drop (t .count) (t .entries)) h ∙ ap (λ (k : ℕ). replicate k blankEntry) left in
+    entries-blank (drop (t .count) (t .entries)) h ∙ ap (λ (k : ℕ). replicate k blankEntry) left in
     let entries : t .entries ≡ entriesOf t ++ replicate (7 - length (entriesOf t)) blankEntry =
-        sym (take-append-drop (t .count) (t .entries)) ∙ ap (λ (l : List Entry). entriesOf t ++ l) rest in
+    sym (take-append-drop (t .count) (t .entries)) ∙ ap (λ (l : List Entry). entriesOf t ++ l) rest in
     λ i. record { kind = p i; address = t .address; method = q i; header = t .header; count = sym n i; entries = entries i }
 
 -- ---- and the data telegrams that reading makes can be written
@@ -96,5 +101,5 @@ module _ (a : ℕ) (h : Header) (es : List Entry) where
   unfolding unwritable
   data-writable header right once whole few =
       let rest : any usedEntry (drop (length es) (es ++ replicate (7 - length es) blankEntry)) ≡ false =
-          ap (any usedEntry) (drop-append-seam es (replicate (7 - length es) blankEntry)) ∙ blank-unused (7 - length es) in
+      ap (any usedEntry) (drop-append-seam es (replicate (7 - length es) blankEntry)) ∙ blank-unused (7 - length es) in
       rw (header, le-ltb 7 (length es) few, data-entries, right, once, whole, rest)
