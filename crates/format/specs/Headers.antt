@@ -8,11 +8,15 @@ use Rattle.format.specs.declared.Header.{Header}
 use Rattle.format.specs.Lists.{at, any}
 use Rattle.format.specs.Digits.{overNine, digitsOf}
 
--- Meter number, 4 bytes packed BCD, low byte first; maker, 2 bytes low first; version; meter type; access number; status.
+-- Maker, 2 bytes low first.
+abbrev pub makerOf : List ℕ → ℕ
+makerOf b = 256 * at b 5 + at b 4
+
+-- Meter number, 4 bytes packed BCD, low byte first; maker; version; meter type; access number; status.
 abbrev pub headerOf : List ℕ → Header
 headerOf b = record {
   number = digitsOf (take 4 b);
-  maker = 256 * at b 5 + at b 4;
+  maker = makerOf b;
   version = at b 6;
   «meter_type» = at b 7;
   access = at b 8;
@@ -34,4 +38,4 @@ heatMeter t = eqb t 0x04 || eqb t 0x0B || eqb t 0x0C || eqb t 0x0D
 -- 10: the header rule is broken. The signature is 00 00; version, access and status are any byte.
 unfoldable pub wrongHeader : List ℕ → Bool
 wrongHeader b =
-    any overNine (take 4 b) || not (makerNamed (headerOf b .maker)) || not (heatMeter (headerOf b .«meter_type»)) || ltb 0 (at b 10) || ltb 0 (at b 11)
+    any overNine (take 4 b) || not (makerNamed (makerOf b)) || not (heatMeter (at b 7)) || ltb 0 (at b 10) || ltb 0 (at b 11)

@@ -1,7 +1,10 @@
 -- What document 01 says of a line: one module for each paragraph, in 01's order, and the laws about each beside it.
 pub mod Lists
+pub mod Computed
 pub mod TestLaws
 pub mod Characters
+pub mod ListLaws
+pub mod Folding
 pub mod ByteLaws
 pub mod Answers
 pub mod Digits

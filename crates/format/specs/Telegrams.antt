@@ -9,6 +9,7 @@ use Rattle.format.specs.declared.Value.the-variants.{Number}
 use Rattle.format.specs.declared.Entry.{Entry}
 use Rattle.format.specs.declared.Header.{Header}
 use Rattle.format.specs.declared.Telegram.{Telegram}
+use Rattle.format.specs.declared.Outcome.{Outcome}
 use Rattle.format.specs.declared.Outcome.the-variants.{Accepted, Refused}
 use Rattle.format.specs.declared.Reading.{Reading}
 use Rattle.format.specs.Answers.{Answer, reads, refusal}
@@ -48,6 +49,11 @@ dataOf a h done = record {
 -- The blank telegram, which stands beside a refusal.
 abbrev pub blank : Telegram
 blank = ack
+
+-- The outcome of each answer: accepted, or the number.
+abbrev pub outcomeOf : {A : Type 0} → Answer A → Outcome
+outcomeOf (refusal n) = Refused n
+outcomeOf (reads a) = Accepted
 
 -- The program's answer for each answer of reading: the number alone, or the telegram.
 abbrev pub shown : Answer Telegram → Reading

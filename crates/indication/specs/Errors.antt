@@ -1,0 +1,86 @@
+-- 01, "Error of indication": formulas A.1 and B.1 of 000. B.1 has one standard value: S1 = 0, S2 = Qa.
+use Prim.Native.Nat.{ℕ, _-_, _*_, _≤_, _<_}
+use mathlib.Core.Path.{_≡_, refl}
+use mathlib.Core.Bool.{Bool, false, cond, _||_}
+use mathlib.Mathlib.Data.Bool.Basic.{or-eq-false-eq-eq-false-and-eq-false as or-parts}
+use native.Mathlib.Omega.{arith}
+use lib.Dec.{ltb, leb}
+use borrow.Author.Tests.{ltb-false}
+use lib.IntN.{ℤ, pos, negℤ, _-ℤ_, _*ℤ_}
+use Rattle.indication.specs.Integers.{difference, difference-neg, times-neg}
+use Rattle.indication.specs.Rounding.{nearest, rounded, Nearest, rounded-neg, rounded-nearest}
+use Rattle.indication.specs.declared.Indication.{Indication}
+use Rattle.indication.specs.declared.Indication.the-variants.{Error, Refused}
+
+-- 10^12, the largest count
+abbrev pub countMost : ℕ
+countMost = 1000000000000
+
+-- 1000 times ((M2−M1) − (S2−S1)) divided by (S2−S1), in tenths of a percent, rounded. Past 62 the standard rises, and S2−S1 is a natural.
+unfoldable pub errorOf : ℕ → ℕ → ℕ → ℕ → ℤ
+errorOf m1 m2 s1 s2 = rounded (pos 1000 *ℤ ((pos m2 -ℤ pos m1) -ℤ (pos s2 -ℤ pos s1))) (s2 - s1)
+
+-- an error, or refused by a number
+pub data IndicationAnswer : Type 0 where
+  error : ℤ → IndicationAnswer
+  refusal : ℕ → IndicationAnswer
+
+-- a count is over 10^12
+abbrev pub over : ℕ → ℕ → ℕ → ℕ → Bool
+over m1 m2 s1 s2 = ltb countMost m1 || ltb countMost m2 || ltb countMost s1 || ltb countMost s2
+
+-- 60: a count over 10^12; 61: the meter count falls; 62: the standard's count does not rise
+abbrev pub indicationOf : ℕ → ℕ → ℕ → ℕ → IndicationAnswer
+indicationOf m1 m2 s1 s2 =
+    cond (over m1 m2 s1 s2) (refusal 60)
+    (cond (ltb m2 m1) (refusal 61) (cond (leb s2 s1) (refusal 62) (error (errorOf m1 m2 s1 s2))))
+
+-- the case of the code's answer for each
+abbrev pub shownIndication : IndicationAnswer → Indication
+shownIndication (error e) = Error e
+shownIndication (refusal n) = Refused n
+
+-- 01, value 12: rises 10005, 9995, 10004 and 0 against 10000
+pub value-12 :
+    (indicationOf 0 10005 0 10000 ≡ error (pos 1))
+    × (indicationOf 0 9995 0 10000 ≡ error (negℤ (pos 1)))
+    × (indicationOf 0 10004 0 10000 ≡ error (pos 0))
+    × (indicationOf 0 0 0 10000 ≡ error (negℤ (pos 1000)))
+unfolding errorOf
+value-12 = (refl, refl, refl, refl)
+
+-- Laws: no two answers have one case; no integer is nearer than the error, and of two as near it is the one farther from zero.
+pub shownIndication-same : (a b : IndicationAnswer) → shownIndication a ≡ shownIndication b → a ≡ b
+shownIndication-same (error x) (error y) e = cc
+shownIndication-same (error x) (refusal n) e = cc
+shownIndication-same (refusal m) (error y) e = cc
+shownIndication-same (refusal m) (refusal n) e = cc
+
+pub error-nearest : (m1 m2 s1 s2 : ℕ) → s1 < s2 → Nearest (pos 1000 *ℤ ((pos m2 -ℤ pos m1) -ℤ (pos s2 -ℤ pos s1))) (s2 - s1) (errorOf m1 m2 s1 s2)
+unfolding errorOf
+error-nearest m1 m2 s1 s2 h = rounded-nearest (pos 1000 *ℤ ((pos m2 -ℤ pos m1) -ℤ (pos s2 -ℤ pos s1))) (s2 - s1) (omega arith)
+
+-- The error of one rise against another, x against y, and what it is on each side of zero. (Formula C.1 has this shape too.)
+unfoldable pub tenths : ℕ → ℕ → ℤ
+tenths x y = rounded (pos 1000 *ℤ (pos x -ℤ pos y)) y
+
+pub error-rises : (m1 m2 s1 s2 : ℕ) → m1 ≤ m2 → s1 ≤ s2 → errorOf m1 m2 s1 s2 ≡ tenths (m2 - m1) (s2 - s1)
+unfolding errorOf tenths
+error-rises m1 m2 s1 s2 h k = rw (difference m2 m1 h, difference s2 s1 k)
+
+pub tenths-more : (x y : ℕ) → y ≤ x → tenths x y ≡ pos (nearest (1000 * (x - y)) y)
+unfolding tenths
+tenths-more x y h = rw (difference x y h)
+
+pub tenths-less : (x y : ℕ) → x < y → tenths x y ≡ negℤ (pos (nearest (1000 * (y - x)) y))
+unfolding tenths
+tenths-less x y h =
+    rw (difference-neg x y (omega arith), times-neg 1000 (pos (y - x)), rounded-neg (pos (1000 * (y - x))) y (omega arith))
+
+-- What 60 leaves of the counts
+pub counts-fit : (m1 m2 s1 s2 : ℕ) → over m1 m2 s1 s2 ≡ false → (m2 ≤ countMost) × (s2 ≤ countMost)
+counts-fit m1 m2 s1 s2 e =
+    let last = or-parts (ltb countMost m1 || ltb countMost m2 || ltb countMost s1) (ltb countMost s2) .0 e in
+    let three = or-parts (ltb countMost m1 || ltb countMost m2) (ltb countMost s1) .0 (last .0) in
+    let two = or-parts (ltb countMost m1) (ltb countMost m2) .0 (three .0) in
+    (ltb-false countMost m2 (two .1), ltb-false countMost s2 (last .1))

@@ -1,0 +1,20 @@
+-- `parts::quantities::is_paired` meets its contract. Assumes nothing.
+use borrow.Author.Needs.{needs}
+use borrow.Author.Tests.{eq-eqb, ne-eqb}
+use Rattle.format.specs.Quantities.{paired}
+use Rattle.parts.proofs.quantities.is_paired.Statement.{statement}
+use Rattle.parts.proofs.quantities.is_paired.Tie as tie
+
+returns : tie.Need-returns
+unfolding paired
+returns c = rw (eq-eqb _ _ (c .if1 .taken))
+
+quantity-of-requires : tie.Need-quantity-of-requires
+quantity-of-requires c κs = search needs
+
+returns-2 : tie.Need-returns-2
+unfolding paired
+returns-2 c = rw (ne-eqb _ _ (c .before .if1 .left), c .quantity-of .ensures)
+
+pub is-paired-spec : {M : Type 1} → statement M
+is-paired-spec = tie.close (tie.spec returns quantity-of-requires returns-2)

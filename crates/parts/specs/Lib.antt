@@ -1,0 +1,3 @@
+-- What the loops of this crate hold on to.
+pub mod Counting
+pub mod Walking

@@ -1,0 +1,7 @@
+// The parts of a line's body, read off its characters: bytes, digits, quantities, the point in time, the header, entries.
+pub mod bytes;
+pub mod digits;
+pub mod entries;
+pub mod headers;
+pub mod moments;
+pub mod quantities;

@@ -1,0 +1,10 @@
+-- `reading::scan::is_odd` meets its contract: folding gives the parity of the nine bits. Assumes nothing.
+use Rattle.format.specs.Folding.{folded-odd}
+use Rattle.reading.proofs.scan.is_odd.Statement.{statement}
+use Rattle.reading.proofs.scan.is_odd.Tie as tie
+
+returns : tie.Need-returns
+returns c = folded-odd (c .args .c)
+
+pub is-odd-spec : {M : Type 1} → statement M
+is-odd-spec = tie.close (tie.spec returns)

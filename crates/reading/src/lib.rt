@@ -1,0 +1,2 @@
+// Line reading.
+pub mod scan;
