@@ -1,0 +1,13 @@
+-- `writing::wrong::used_entry` meets its contract. Assumes nothing.
+use borrow.Author.Needs.{needs}
+use Rattle.writing.proofs.wrong.used_entry.Statement.{statement}
+use Rattle.writing.proofs.wrong.used_entry.Tie as tie
+
+used-value-requires : tie.Need-used-value-requires
+used-value-requires c κs = search needs
+
+returns : tie.Need-returns
+returns c = rw (c .before .before .used-value .ensures)
+
+pub used-entry-spec : {M : Type 1} → statement M
+used-entry-spec = tie.close (tie.spec used-value-requires returns)

@@ -1,0 +1,2 @@
+-- What the writer's walks hold on to, and what it answers.
+pub mod Walks

@@ -1,0 +1,2 @@
+// Line writing.
+mod wrong;
