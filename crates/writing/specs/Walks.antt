@@ -9,13 +9,14 @@ use borrow.Author.Tests.{lt-ltb, le-ltb, eqb-true, eqb-false}
 use lib.Dec.{eqb, lit<}
 use lib.ListN.{length, getD, take, drop, set, replicate, getD-replicate, length-set, drop-of-length-le}
 use lib.Seq.{drop-cons, take-suc, take-all, length-take-le, getD-take, getD-set-same, getD-set-other}
+use Rattle.format.specs.declared.Kind.{Kind}
 use Rattle.format.specs.declared.Entry.{Entry}
 use Rattle.format.specs.declared.Telegram.{Telegram}
 use Rattle.format.specs.Lists.{any}
 use Rattle.format.specs.Quantities.{quantityOf, between, energy, volume, power, flow, inlet, outlet, time, unknown}
 use Rattle.format.specs.Entries.{seen, missing}
 use Rattle.format.specs.TestLaws.{on, picked}
-use Rattle.format.specs.Writing.{entriesOf, usedEntry, wrongEntry, unwrittenHeader, repeats, wrongData}
+use Rattle.format.specs.Writing.{entriesOf, usedEntry, wrongEntry, unwrittenHeader, repeats, wrongData, wrongFor, unwritable}
 
 -- ---- a walk that looks from a place on
 
@@ -150,3 +151,7 @@ data-many t h = rw (lt-ltb 7 (t .count) h, or-true (unwrittenHeader (t .header))
 
 pub data-few : (t : Telegram) (u w p : Bool) → t .count ≤ 7 → u ≡ unwrittenHeader (t .header) → w ≡ wrongTogether (entriesOf t) → p ≡ any usedEntry (drop (t .count) (t .entries)) → (u || w || p) ≡ wrongData t
 data-few t u w p h eu ew ep = rw (le-ltb 7 (t .count) h, eu, ew, ep) (simp or-assoc)
+
+pub for-kind : (t : Telegram) {k : Kind} → t .kind ≡ k → wrongFor k t ≡ unwritable t
+unfolding unwritable
+for-kind t {k} e = ap (λ (x : Kind). wrongFor x t) (sym e)

@@ -1,4 +1,4 @@
-use Rattle.format.specs.Writing.{unwritable}
+use Rattle.writing.specs.Walks.{for-kind}
 use borrow.Author.Needs.{needs}
 use Rattle.writing.proofs.wrong.is_unwritable.Statement.{statement}
 use Rattle.writing.proofs.wrong.is_unwritable.Tie as tie
@@ -49,28 +49,23 @@ wrong-data-requires c κs = search needs
 
 -- src/wrong.rt:166:1
 returns : tie.Need-returns
-unfolding unwritable
-returns c = rw (c .before .before .enum-told .given, c .before .used-body .ensures)
+returns c = rw (c .before .used-body .ensures) (for-kind (c .before .before .before .before .args .t) (c .before .before .enum-told .given .1))
 
 -- src/wrong.rt:166:1
 returns-2 : tie.Need-returns-2
-unfolding unwritable
-returns-2 c = rw (c .before .enum-told2 .given, c .used-body2 .ensures)
+returns-2 c = rw (c .used-body2 .ensures) (for-kind (c .before .before .before .args .t) (c .before .enum-told2 .given .1))
 
 -- src/wrong.rt:166:1
 returns-3 : tie.Need-returns-3
-unfolding unwritable
-returns-3 c = rw (c .before .enum-told3 .given, c .used-body3 .ensures)
+returns-3 c = rw (c .used-body3 .ensures) (for-kind (c .before .before .before .args .t) (c .before .enum-told3 .given .1))
 
 -- src/wrong.rt:166:1
 returns-4 : tie.Need-returns-4
-unfolding unwritable
-returns-4 c = rw (c .before .enum-told4 .given, c .used-body4 .ensures)
+returns-4 c = rw (c .used-body4 .ensures) (for-kind (c .before .before .before .args .t) (c .before .enum-told4 .given .1))
 
 -- src/wrong.rt:166:1
 returns-5 : tie.Need-returns-5
-unfolding unwritable
-returns-5 c = rw (c .before .enum-told5 .given, c .wrong-data .ensures)
+returns-5 c = rw (c .wrong-data .ensures) (for-kind (c .before .before .before .args .t) (c .before .enum-told5 .given .1))
 
 pub is-unwritable-spec : {M : Type 1} → statement M
 is-unwritable-spec =
