@@ -1,2 +1,3 @@
 // Line writing.
+mod bytes;
 mod wrong;

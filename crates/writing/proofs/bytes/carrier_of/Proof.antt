@@ -1,0 +1,21 @@
+use borrow.Author.Needs.{needs}
+use Rattle.writing.specs.Laying.{carrier-folded}
+use Rattle.writing.proofs.bytes.carrier_of.Statement.{statement}
+use Rattle.writing.proofs.bytes.carrier_of.Tie as tie
+use Rattle.writing.proofs.bytes.carrier_of.Reads as reads
+use Rattle.writing.proofs.bytes.carrier_of.Lts as lts
+
+-- src/bytes.rt:121:5
+mul-result : tie.Need-mul-result
+mul-result c = search needs
+
+-- src/bytes.rt:121:5
+add-result : tie.Need-add-result
+add-result c = search needs
+
+-- src/bytes.rt:114:1
+returns : tie.Need-returns
+returns c = carrier-folded (c .args .byte) (search needs)
+
+pub carrier-of-spec : {M : Type 1} → statement M
+carrier-of-spec = tie.close (tie.spec mul-result add-result returns)
