@@ -17,7 +17,7 @@ use Rattle.format.specs.EntryLaws.{entry-written, six-wide}
 
 -- ---- the width of one entry
 
-width-most : (st : ℕ) → widthOf st ≤ 6
+pub width-most : (st : ℕ) → widthOf st ≤ 6
 unfolding widthOf
 width-most st =
     let P : ℕ → Type 0 = λ n. n ≤ 6 in

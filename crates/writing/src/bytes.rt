@@ -4,13 +4,12 @@ ghost use mathlib.Core.Bool.{true, false};
 ghost use mathlib.Core.List.{_∷_, _++_, map};
 ghost use Prim.Native.Nat.{_+_, _*_, _/_, _%_, _≤_};
 ghost use lib.ListN.{length, take, drop};
-ghost use lib.Seq.{paste};
 ghost use Rattle.format.specs.Lists.{any, total};
 ghost use Rattle.format.specs.Characters.{carrier};
 ghost use Rattle.format.specs.Digits.{packed};
 ghost use Rattle.format.specs.Moments.{dateExists, timeExists};
 ghost use Rattle.format.specs.Writing.{momentBytes, bytesOfHeader, wrongEntry, unwritable};
-ghost use Rattle.writing.specs.Laying.{sixBytes, told, EntriesLaid, LineLaid};
+ghost use Rattle.writing.specs.Laying.{laid, sixBytes, told, EntryFits, EntryLaid, EntriesFit, EntriesLaid, LineLaid};
 use format::Entry;
 use format::Header;
 use format::Kind;
@@ -88,7 +87,7 @@ fn head_bytes(l: u8, address: u8, h: Header) -> [u8; 19]
 // Puts bytes in their places.
 fn lay(to: &mut [u8], at: usize, from: &[u8])
     requires { ⌜ at + length (now from) ≤ length (now to) ⌝ }
-    ensures { λ _. ⌜ now (to .exit) ≡ paste (now (to .entry)) at (now (from .entry)) (length (now (from .entry))) ⌝ }
+    ensures { λ _. ⌜ now (to .exit) ≡ laid (now (to .entry)) at (now (from .entry)) ⌝ }
 {
     let mut i = 0;
     while i < from.len() {
@@ -108,6 +107,32 @@ fn sum_of(bytes: &[u8]) -> u8
         i += 1;
     }
     sum
+}
+
+// Puts an entry from a place on, and answers the place after it.
+fn put_entry(bytes: &mut [u8], at: usize, e: Entry) -> usize
+    requires { ⌜ EntryFits e (now bytes) at ⌝ }
+    ensures { λ r. ⌜ EntryLaid e (now (bytes .entry)) (now (bytes .exit)) at r ⌝ }
+{
+    let b = entry_bytes(e);
+    let width = 2 + width_of(e.structure);
+    lay(bytes, at, &b[..width]);
+    at + width
+}
+
+// Puts the entries within the count from place 19 on, and answers the place after them.
+fn put_entries(entries: [Entry; 7], count: usize, bytes: &mut [u8]) -> usize
+    requires { ⌜ EntriesFit entries count (now bytes) ⌝ }
+    ensures { λ r. ⌜ EntriesLaid (take count entries) (now (bytes .entry)) (now (bytes .exit)) r ⌝ }
+{
+    let mut at = 19;
+    let mut i = 0;
+    while i < count {
+        let e = entries[i];
+        at = put_entry(bytes, at, e);
+        i += 1;
+    }
+    at
 }
 
 // The character that carries a byte. The bits are folded onto the lowest one.
