@@ -1,18 +1,20 @@
 -- Bytes laid one part after the other.
-use Prim.Native.Nat.{ℕ, zero, suc, _+_, _*_, _/_, _%_, _≤_, _<_, zero-le}
+use Prim.Native.Nat.{ℕ, zero, suc, _+_, _*_, _-_, _/_, _%_, _≤_, _<_, zero-le}
 use mathlib.Core.Bool.{Bool, true, false, not, _&&_, _||_}
 use mathlib.Core.List.{List, [], _∷_, _++_, map, append-assoc, append-nil}
-use mathlib.Core.Path.{_≡_, refl, sym, ap, ap₂, _∙_}
+use mathlib.Core.Path.{_≡_, refl, sym, ap, ap₂, subst, _∙_}
 use native.Mathlib.Nat.{zero-add, not-suc-le-zero}
 use native.Mathlib.Numerals.{add-one}
 use native.Mathlib.Omega.{arith}
 use borrow.Author.Tests.{eqb-true, not-false}
 use lib.Count.{onesIn}
-use lib.Dec.{eqb, lit<}
+use lib.Dec.{eqb, ltb, lit<}
 use lib.ListN.{length, getD, take, drop, set, length-append, length-take, length-drop, take-append-drop, drop-of-length-le, length-map, List·getD-map}
-use lib.Seq.{drop-cons, drop-drop, take-add, take-suc, take-take, getD-take, take-at, drop-append-add, length-take-le, take-length, paste, paste-zero, paste-suc, length-paste}
+use lib.Seq.{drop-cons, drop-drop, take-add, take-suc, take-take, getD-take, take-at, drop-at, take-append-seam, drop-append-add, length-take-le, take-length, paste, paste-zero, paste-suc, length-paste}
 use Rattle.format.specs.declared.Value.{Value}
 use Rattle.format.specs.declared.Value.the-variants.{Number, Time}
+use Rattle.format.specs.declared.Kind.{Kind}
+use Rattle.format.specs.declared.Kind.the-variants.{Data}
 use Rattle.format.specs.declared.Entry.{Entry}
 use Rattle.format.specs.declared.Telegram.{Telegram}
 use Rattle.format.specs.Lists.{any, total}
@@ -23,9 +25,11 @@ use Rattle.format.specs.Digits.{packed}
 use Rattle.format.specs.Moments.{dateExists, timeExists}
 use Rattle.format.specs.Quantities.{widthOf, paired, isTime}
 use Rattle.format.specs.TestLaws.{none}
+use Rattle.format.specs.HeaderLaws.{header-length}
 use Rattle.format.specs.EntryLaws.{six-wide, entry-written}
-use Rattle.format.specs.LengthLaws.{width-most, entries-most}
-use Rattle.format.specs.Writing.{momentBytes, bytesOfValue, bytesOfEntry, bytesOfEntries, bytesOfKind, wrongValue, wrongEntry}
+use Rattle.format.specs.LengthLaws.{width-most, entries-least, entries-most}
+use Rattle.format.specs.LineLaws.{GoodData, good-data}
+use Rattle.format.specs.Writing.{momentBytes, bytesOfValue, bytesOfEntry, bytesOfEntries, bytesOfKind, wrongValue, wrongEntry, wrongData, entriesOf, bytesOfHeader, closed, unwritable}
 
 -- a list with another put in from a place on
 abbrev pub laid : List ℕ → ℕ → List ℕ → List ℕ
@@ -304,7 +308,105 @@ laying-all {entries} {count} {before} {i} {at} {now} g h =
       so = g .so ∙ ap (λ (k : ℕ). 19 + length (bytesOfEntries (take k entries))) e
     }
 
--- the line's bytes in the first places
-pub record LineLaid (t : Telegram) (after : List ℕ) (count : ℕ) : Type 0 where
-  pub bytes : take count after ≡ bytesOfKind (t .kind) t
-  pub so : count ≡ length (bytesOfKind (t .kind) t)
+-- ---- frames
+
+-- a frame that was closed: up to the end, then the sum from a place on, and 16
+pub record FrameClosed (before after : List ℕ) (from end next : ℕ) : Type 0 where
+  pub bytes : take next after ≡ take end before ++ (total (drop from (take end before)) % 256 ∷ 0x16 ∷ [])
+  pub so : next ≡ end + 2
+
+part-cut : (b : List ℕ) (from end : ℕ) → from ≤ end → end ≤ length b → take (end - from) (drop from b) ≡ drop from (take end b)
+part-cut b from end h k =
+    let e : end ≡ from + (end - from) = omega arith in
+    let n : length (take from b) ≡ from = length-take-le from b (omega arith) in
+    sym (ap (λ (j : ℕ). drop from (take j b)) e ∙ ap (drop from) (take-add from (end - from) b) ∙ drop-at (take from b) (take (end - from) (drop from b)) from n)
+
+pub frame-closed : {before after : List ℕ} {from end sum : ℕ} → (from ≤ end) × (end ≤ 75) × (length before ≡ 77) → sum ≡ total (take (end - from) (drop from before)) % 256
+    → after ≡ laid before end (sum ∷ 0x16 ∷ []) → FrameClosed before after from end (end + 2)
+frame-closed {before} {after} {from} {end} {sum} h e l =
+    let front : List ℕ = take end before ++ (sum ∷ 0x16 ∷ []) in
+    let part : take (end - from) (drop from before) ≡ drop from (take end before) = part-cut before from end (h .0) (omega arith) in
+    let n : length (take end before) ≡ end = length-take-le end before (omega arith) in
+    let m : length front ≡ end + 2 = length-append (take end before) (sum ∷ 0x16 ∷ []) ∙ ap (λ (k : ℕ). k + 2) n in
+    record {
+      bytes =
+        ap (take (end + 2)) l ∙ take-at front (drop (end + 2) before) (end + 2) m
+        ∙ ap (λ (x : ℕ). take end before ++ (x ∷ 0x16 ∷ [])) (e ∙ ap (λ (q : List ℕ). total q % 256) part);
+      so = refl
+    }
+
+-- bytes in the first places
+pub record BytesLaid (s after : List ℕ) (count : ℕ) : Type 0 where
+  pub bytes : take count after ≡ s
+  pub so : count ≡ length s
+
+-- a frame that was begun with s is s, closed
+pub frame-laid : {before after : List ℕ} {from end next : ℕ} (s : List ℕ) → FrameClosed before after from end next → take end before ≡ s → length s ≡ end
+    → BytesLaid (s ++ (total (drop from s) % 256 ∷ 0x16 ∷ [])) after next
+frame-laid {before} {after} {from} {end} {next} s c e n =
+    record {
+      bytes = c .bytes ∙ ap (λ (q : List ℕ). q ++ (total (drop from q) % 256 ∷ 0x16 ∷ [])) e;
+      so = c .so ∙ ap (λ (k : ℕ). k + 2) (sym n) ∙ sym (length-append s (total (drop from s) % 256 ∷ 0x16 ∷ []))
+    }
+
+-- what is laid from the first place on stands there
+pub front-laid : (d : List ℕ) {after : List ℕ} (s : List ℕ) → after ≡ laid d 0 s → take (length s) after ≡ s
+front-laid d {after} s e = ap (take (length s)) e ∙ take-append-seam s (drop (0 + length s) d)
+
+-- what a data telegram's bytes ask
+pub record DataFits (t : Telegram) (before : List ℕ) : Type 0 where
+  pub right : wrongData t ≡ false
+  pub room : length before ≡ 77
+
+module _ {t : Telegram} {before : List ℕ} (f : DataFits t before) where
+  pub entries-fit : EntriesFit (t .entries) (t .count) before
+  entries-fit =
+      let g : GoodData t = good-data t (f .right) in
+      record { few = g .count; right = g .good .right; room = f .room }
+
+  -- the place after the entries
+  pub entries-end : {after : List ℕ} {end : ℕ} → EntriesLaid (entriesOf t) before after end → (43 ≤ end) × (end ≤ 75)
+  entries-end {after} {end} l =
+      let g : GoodData t = good-data t (f .right) in
+      let least : 24 ≤ length (bytesOfEntries (entriesOf t)) = entries-least (entriesOf t) (g .good .right) (g .good .whole) in
+      let most : length (bytesOfEntries (entriesOf t)) ≤ 56 = entries-most (entriesOf t) (g .good .right) (g .good .few) in
+      let so : end ≡ 19 + length (bytesOfEntries (entriesOf t)) = l .so in
+      omega arith
+
+  -- the entries, then the start before them, then the end
+  pub data-laid : {first second last : List ℕ} {end next : ℕ} {head : List ℕ} → EntriesLaid (entriesOf t) before first end
+      → head ≡ 0x68 ∷ (end - 4) ∷ (end - 4) ∷ 0x68 ∷ 0x08 ∷ t .address ∷ 0x72 ∷ bytesOfHeader (t .header) → second ≡ laid first 0 head
+      → FrameClosed second last 4 end next → BytesLaid (bytesOfKind Data t) last next
+  data-laid {first} {second} {last} {end} {next} {head} l e m c =
+      let h : List ℕ = bytesOfHeader (t .header) in
+      let es : List ℕ = bytesOfEntries (entriesOf t) in
+      let body : List ℕ = 0x08 ∷ t .address ∷ 0x72 ∷ (h ++ es) in
+      let start : List ℕ = 0x68 ∷ (end - 4) ∷ (end - 4) ∷ 0x68 ∷ 0x08 ∷ t .address ∷ 0x72 ∷ h in
+      let rest : List ℕ = drop (19 + length es) before in
+      let twelve : length h ≡ 12 = header-length (t .header) in
+      let size : length (h ++ es) ≡ length h + length es = length-append h es in
+      let so : end ≡ 19 + length es = l .so in
+      let room : length before ≡ 77 = f .room in
+      let begins : length start ≡ 19 = omega arith in
+      let past : drop 19 first ≡ es ++ rest =
+          ap (drop 19) (l .bytes ∙ append-assoc (take 19 before) es rest) ∙ drop-at (take 19 before) (es ++ rest) 19 (length-take-le 19 before (omega arith)) in
+      let place : 0 + length start ≡ 19 = omega arith in
+      let whole : second ≡ start ++ es ++ rest =
+          m ∙ ap (laid first 0) e ∙ ap (λ (k : ℕ). start ++ drop k first) place ∙ ap (λ (q : List ℕ). start ++ q) past ∙ sym (append-assoc start es rest) in
+      let count : length (start ++ es) ≡ end = length-append start es ∙ omega arith in
+      let front : take end second ≡ start ++ es = ap (take end) whole ∙ take-at (start ++ es) rest end count in
+      let b : BytesLaid (start ++ es ++ (total body % 256 ∷ 0x16 ∷ [])) last next = frame-laid (start ++ es) c front count in
+      let long : end - 4 ≡ length body = omega arith in
+      subst (λ (k : ℕ). BytesLaid (0x68 ∷ k ∷ k ∷ 0x68 ∷ closed body) last next) long b
+
+-- ---- each kind
+
+pub kind-laid : (t : Telegram) {k : Kind} {after : List ℕ} {n : ℕ} → t .kind ≡ k → BytesLaid (bytesOfKind k t) after n → BytesLaid (bytesOfKind (t .kind) t) after n
+kind-laid t {k} {after} {n} e b = subst (λ (x : Kind). BytesLaid (bytesOfKind x t) after n) (sym e) b
+
+pub ack-laid : (d : List ℕ) {after : List ℕ} → after ≡ laid d 0 (0xE5 ∷ []) → BytesLaid (0xE5 ∷ []) after 1
+ack-laid d e = record { bytes = front-laid d (0xE5 ∷ []) e; so = refl }
+
+pub data-fits : (t : Telegram) {before : List ℕ} → t .kind ≡ Data → unwritable t ≡ false → length before ≡ 77 → DataFits t before
+unfolding unwritable
+data-fits t e w n = record { right = none (ltb 0 (t .method)) (wrongData t ∷ []) (rw e at w) .1 .0; room = n }

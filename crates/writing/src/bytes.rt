@@ -1,15 +1,15 @@
 // The bytes of a telegram, without parity.
 ghost use mathlib.Core.Path.{_≡_};
 ghost use mathlib.Core.Bool.{true, false};
-ghost use mathlib.Core.List.{_∷_, _++_, map};
+ghost use mathlib.Core.List.{[], _∷_, _++_, map};
 ghost use Prim.Native.Nat.{_+_, _*_, _/_, _%_, _≤_};
 ghost use lib.ListN.{length, take, drop};
 ghost use Rattle.format.specs.Lists.{any, total};
 ghost use Rattle.format.specs.Characters.{carrier};
 ghost use Rattle.format.specs.Digits.{packed};
 ghost use Rattle.format.specs.Moments.{dateExists, timeExists};
-ghost use Rattle.format.specs.Writing.{momentBytes, bytesOfHeader, wrongEntry, unwritable};
-ghost use Rattle.writing.specs.Laying.{laid, sixBytes, told, EntryFits, EntryLaid, EntriesFit, EntriesLaid, LineLaid};
+ghost use Rattle.format.specs.Writing.{momentBytes, bytesOfHeader, shortFrame, longFrame, bytesOfKind, unwritable};
+ghost use Rattle.writing.specs.Laying.{laid, sixBytes, told, EntryFits, EntryLaid, EntriesFit, EntriesLaid, FrameClosed, BytesLaid, DataFits};
 use format::Entry;
 use format::Header;
 use format::Kind;
@@ -133,6 +133,62 @@ fn put_entries(entries: [Entry; 7], count: usize, bytes: &mut [u8]) -> usize
         i += 1;
     }
     at
+}
+
+// Closes a frame: the sum of the bytes from a place up to the end, then 16. Answers the place after them.
+fn close(bytes: &mut [u8], from: usize, end: usize) -> usize
+    requires { ⌜ (from ≤ end) × (end ≤ 75) × (length (now bytes) ≡ 77) ⌝ }
+    ensures { λ r. ⌜ FrameClosed (now (bytes .entry)) (now (bytes .exit)) from end r ⌝ }
+{
+    let sum = sum_of(&bytes[from..end]);
+    lay(bytes, end, &[sum, 0x16]);
+    end + 2
+}
+
+fn put_read(address: u8, bytes: &mut [u8]) -> usize
+    requires { ⌜ length (now bytes) ≡ 77 ⌝ }
+    ensures { λ r. ⌜ BytesLaid (shortFrame (0x5B ∷ address ∷ [])) (now (bytes .exit)) r ⌝ }
+{
+    lay(bytes, 0, &[0x10, 0x5B, address]);
+    close(bytes, 1, 3)
+}
+
+fn put_command(address: u8, method: u8, bytes: &mut [u8]) -> usize
+    requires { ⌜ length (now bytes) ≡ 77 ⌝ }
+    ensures { λ r. ⌜ BytesLaid (longFrame (0x53 ∷ address ∷ 0x50 ∷ method ∷ [])) (now (bytes .exit)) r ⌝ }
+{
+    lay(bytes, 0, &[0x68, 4, 4, 0x68, 0x53, address, 0x50, method]);
+    close(bytes, 4, 8)
+}
+
+fn put_data(t: Telegram, bytes: &mut [u8]) -> usize
+    requires { ⌜ DataFits t (now bytes) ⌝ }
+    ensures { λ r. ⌜ BytesLaid (bytesOfKind Kind.Data t) (now (bytes .exit)) r ⌝ }
+{
+    let header = t.header;
+    let entries = t.entries;
+    let end = put_entries(entries, t.count, bytes);
+    let head = head_bytes((end - 4) as u8, t.address, header);
+    lay(bytes, 0, &head);
+    close(bytes, 4, end)
+}
+
+// Puts the bytes of a telegram in the first places, and answers how many they are.
+pub(crate) fn put_bytes(t: Telegram, bytes: &mut [u8]) -> usize
+    requires { ⌜ (unwritable t ≡ false) × (length (now bytes) ≡ 77) ⌝ }
+    ensures { λ r. ⌜ BytesLaid (bytesOfKind (t .kind) t) (now (bytes .exit)) r ⌝ }
+{
+    let kind = t.kind;
+    match kind {
+        Kind::Ack => {
+            lay(bytes, 0, &[0xE5]);
+            1
+        }
+        Kind::Read => put_read(t.address, bytes),
+        Kind::Enter => put_command(t.address, t.method, bytes),
+        Kind::Leave => put_command(t.address, 0, bytes),
+        Kind::Data => put_data(t, bytes),
+    }
 }
 
 // The character that carries a byte. The bits are folded onto the lowest one.
