@@ -1,6 +1,6 @@
 -- Bytes laid one part after the other.
 use Prim.Native.Nat.{ℕ, zero, suc, _+_, _*_, _-_, _/_, _%_, _≤_, _<_, zero-le}
-use mathlib.Core.Bool.{Bool, true, false, not, _&&_, _||_}
+use mathlib.Core.Bool.{Bool, true, false, not, _&&_}
 use mathlib.Core.List.{List, [], _∷_, _++_, map, append-assoc, append-nil}
 use mathlib.Core.Path.{_≡_, refl, sym, ap, ap₂, subst, _∙_}
 use native.Mathlib.Nat.{zero-add, not-suc-le-zero}
@@ -61,7 +61,7 @@ module _ {d : List ℕ} {at : ℕ} {s : List ℕ} {i : ℕ} {now : List ℕ} (g 
       record {
         inside = omega arith;
         fits = fits;
-        so = rw (g .so, e, add-one) (paste-suc d at s i z (omega arith) h)
+        so = rw (g .so, e, add-one) (paste-suc d at s i z (omega arith) h);
       }
 
   pub copied-length : length now ≡ length d
@@ -121,7 +121,7 @@ unfolding total
 added-next {s} {i} {sum} {new} g h e = record {
   inside = omega arith;
   small = omega arith;
-  so = rw (e, add-one) (added (getD s i 0) sum (total (drop (suc i) s))) ∙ ap (λ (l : List ℕ). (sum + total l) % 256) (sym (drop-cons s i 0 h)) ∙ g .so
+  so = rw (e, add-one) (added (getD s i 0) sum (total (drop (suc i) s))) ∙ ap (λ (l : List ℕ). (sum + total l) % 256) (sym (drop-cons s i 0 h)) ∙ g .so;
 }
 
 pub added-all : {s : List ℕ} {i sum : ℕ} → Added s i sum → length s ≤ i → sum ≡ total s % 256
@@ -143,8 +143,8 @@ laid-on d at s r h =
     let front : take (at + length s) (p ++ rest) ≡ p = take-at p rest (at + length s) n in
     let places : at + length s + length r ≡ at + length (s ++ r) = omega (arith, length-append s r) in
     let past : drop (at + length s + length r) (p ++ rest) ≡ drop (at + length (s ++ r)) d =
-        ap (λ (k : ℕ). drop (k + length r) (p ++ rest)) (sym n)
-        ∙ drop-append-add p rest (length r) ∙ drop-drop (length r) (at + length s) d ∙ ap (λ (k : ℕ). drop k d) places in
+    ap (λ (k : ℕ). drop (k + length r) (p ++ rest)) (sym n)
+    ∙ drop-append-add p rest (length r) ∙ drop-drop (length r) (at + length s) d ∙ ap (λ (k : ℕ). drop k d) places in
     ap₂ (λ (x y : List ℕ). x ++ r ++ y) front past ∙ ap (λ (l : List ℕ). l ++ drop (at + length (s ++ r)) d) (append-assoc (take at d) s r)
 
 -- a value of a right entry, cut to its width
@@ -178,7 +178,7 @@ entry-cut e h =
       cut = take-add 2 w (st ∷ e .unit ∷ sixBytes (e .value)) ∙ ap (λ (l : List ℕ). st ∷ e .unit ∷ l) (v .0);
       told = v .1;
       width = entry-written e [] h .width;
-      most = most
+      most = most;
     }
 
 -- what laying one entry asks, and what it gives
@@ -196,7 +196,7 @@ pub entry-laid : {e : Entry} {before after : List ℕ} {at width : ℕ} → Entr
 entry-laid {e} {before} {after} {at} {width} f w l =
     let c : EntryCut e = entry-cut e (f .right) in
     let same : take width (e .structure ∷ e .unit ∷ sixBytes (e .value)) ≡ bytesOfEntry e =
-        ap (λ (k : ℕ). take k (e .structure ∷ e .unit ∷ sixBytes (e .value))) w ∙ c .cut in
+    ap (λ (k : ℕ). take k (e .structure ∷ e .unit ∷ sixBytes (e .value))) w ∙ c .cut in
     record { bytes = l ∙ ap (laid before at) same; so = ap (λ (k : ℕ). at + k) (w ∙ sym (c .width)) }
 
 -- the same for all entries
@@ -259,7 +259,7 @@ laying-none {entries} {count} {before} n f = record {
   inside = zero-le;
   bytes = sym (ap (λ (l : List ℕ). l ++ drop 19 before) (append-nil (take 19 before)) ∙ take-append-drop 19 before);
   so = refl;
-  same = f .room
+  same = f .room;
 }
 
 module _ {entries : List Entry} {count : ℕ} {before : List ℕ} {i at : ℕ} {now : List ℕ} (g : Laying entries count before i at now) (h : i < count) (d : Entry) where
@@ -274,7 +274,7 @@ module _ {entries : List Entry} {count : ℕ} {before : List ℕ} {i at : ℕ} {
       let few : length (take (suc i) entries) ≤ 7 = rw (length-take (suc i) entries) (omega arith) in
       let most : length (bytesOfEntries (take (suc i) entries)) ≤ 56 = entries-most (take (suc i) entries) all few in
       let more : length (bytesOfEntries (take (suc i) entries)) ≡ length (bytesOfEntries (take i entries)) + length (bytesOfEntry e) =
-          ap length (entries-more entries i d (omega arith)) ∙ length-append (bytesOfEntries (take i entries)) (bytesOfEntry e) in
+      ap length (entries-more entries i d (omega arith)) ∙ length-append (bytesOfEntries (take i entries)) (bytesOfEntry e) in
       let place : at ≡ 19 + length (bytesOfEntries (take i entries)) = g .so in
       record { right = right; room = omega arith; size = g .same }
 
@@ -296,7 +296,7 @@ module _ {entries : List Entry} {count : ℕ} {before : List ℕ} {i at : ℕ} {
         inside = omega arith;
         bytes = l .bytes ∙ ap₂ (λ (b : List ℕ) (k : ℕ). laid b k (bytesOfEntry x)) (g .bytes) (g .so) ∙ on ∙ rw (add-one, more);
         so = rw add-one (omega (arith, g .so, l .so));
-        same = ap length (l .bytes) ∙ laid-length now at (bytesOfEntry x) (omega arith) ∙ same
+        same = ap length (l .bytes) ∙ laid-length now at (bytesOfEntry x) (omega arith) ∙ same;
       }
 
 pub laying-all : {entries : List Entry} {count : ℕ} {before : List ℕ} {i at : ℕ} {now : List ℕ} → Laying entries count before i at now → count ≤ i → EntriesLaid (take count entries) before now at
@@ -305,7 +305,7 @@ laying-all {entries} {count} {before} {i} {at} {now} g h =
     let e : i ≡ count = omega arith in
     record {
       bytes = g .bytes ∙ ap (λ (k : ℕ). laid before 19 (bytesOfEntries (take k entries))) e;
-      so = g .so ∙ ap (λ (k : ℕ). 19 + length (bytesOfEntries (take k entries))) e
+      so = g .so ∙ ap (λ (k : ℕ). 19 + length (bytesOfEntries (take k entries))) e;
     }
 
 -- ---- frames
@@ -330,9 +330,9 @@ frame-closed {before} {after} {from} {end} {sum} h e l =
     let m : length front ≡ end + 2 = length-append (take end before) (sum ∷ 0x16 ∷ []) ∙ ap (λ (k : ℕ). k + 2) n in
     record {
       bytes =
-        ap (take (end + 2)) l ∙ take-at front (drop (end + 2) before) (end + 2) m
-        ∙ ap (λ (x : ℕ). take end before ++ (x ∷ 0x16 ∷ [])) (e ∙ ap (λ (q : List ℕ). total q % 256) part);
-      so = refl
+          ap (take (end + 2)) l ∙ take-at front (drop (end + 2) before) (end + 2) m
+          ∙ ap (λ (x : ℕ). take end before ++ (x ∷ 0x16 ∷ [])) (e ∙ ap (λ (q : List ℕ). total q % 256) part);
+      so = refl;
     }
 
 -- bytes in the first places
@@ -346,7 +346,7 @@ pub frame-laid : {before after : List ℕ} {from end next : ℕ} (s : List ℕ) 
 frame-laid {before} {after} {from} {end} {next} s c e n =
     record {
       bytes = c .bytes ∙ ap (λ (q : List ℕ). q ++ (total (drop from q) % 256 ∷ 0x16 ∷ [])) e;
-      so = c .so ∙ ap (λ (k : ℕ). k + 2) (sym n) ∙ sym (length-append s (total (drop from s) % 256 ∷ 0x16 ∷ []))
+      so = c .so ∙ ap (λ (k : ℕ). k + 2) (sym n) ∙ sym (length-append s (total (drop from s) % 256 ∷ 0x16 ∷ []));
     }
 
 -- what is laid from the first place on stands there
@@ -389,10 +389,10 @@ module _ {t : Telegram} {before : List ℕ} (f : DataFits t before) where
       let room : length before ≡ 77 = f .room in
       let begins : length start ≡ 19 = omega arith in
       let past : drop 19 first ≡ es ++ rest =
-          ap (drop 19) (l .bytes ∙ append-assoc (take 19 before) es rest) ∙ drop-at (take 19 before) (es ++ rest) 19 (length-take-le 19 before (omega arith)) in
+      ap (drop 19) (l .bytes ∙ append-assoc (take 19 before) es rest) ∙ drop-at (take 19 before) (es ++ rest) 19 (length-take-le 19 before (omega arith)) in
       let place : 0 + length start ≡ 19 = omega arith in
       let whole : second ≡ start ++ es ++ rest =
-          m ∙ ap (laid first 0) e ∙ ap (λ (k : ℕ). start ++ drop k first) place ∙ ap (λ (q : List ℕ). start ++ q) past ∙ sym (append-assoc start es rest) in
+      m ∙ ap (laid first 0) e ∙ ap (λ (k : ℕ). start ++ drop k first) place ∙ ap (λ (q : List ℕ). start ++ q) past ∙ sym (append-assoc start es rest) in
       let count : length (start ++ es) ≡ end = length-append start es ∙ omega arith in
       let front : take end second ≡ start ++ es = ap (take end) whole ∙ take-at (start ++ es) rest end count in
       let b : BytesLaid (start ++ es ++ (total body % 256 ∷ 0x16 ∷ [])) last next = frame-laid (start ++ es) c front count in

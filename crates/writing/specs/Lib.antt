@@ -1,3 +1,4 @@
 -- What the writer's walks hold on to, and what it answers.
 pub mod Walks
 pub mod Laying
+pub mod Answering

@@ -1,8 +1,8 @@
 -- The walks over the entries of a telegram.
-use Prim.Native.Nat.{ℕ, zero, suc, _+_, _≤_, _<_, zero-le}
+use Prim.Native.Nat.{ℕ, suc, _+_, _≤_, _<_, zero-le}
 use mathlib.Core.Bool.{Bool, true, false, not, _||_, or-assoc, or-false, or-true}
 use mathlib.Core.List.{List, [], _∷_, _++_}
-use mathlib.Core.Path.{_≡_, refl, sym, ap, ap₂, _∙_}
+use mathlib.Core.Path.{_≡_, refl, sym, ap, _∙_}
 use native.Mathlib.Numerals.{add-one}
 use native.Mathlib.Omega.{arith}
 use borrow.Author.Tests.{lt-ltb, le-ltb, eqb-true, eqb-false}
@@ -31,7 +31,7 @@ unfolding any
 looked-next {test = test} {s} {from} {i} {found} d g h = record {
   so =
       or-assoc found (test (getD s i d)) (any test (drop (i + 1) s))
-      ∙ ap (λ (l : Bool). found || l) (rw add-one (ap (any test) (sym (drop-cons s i d h)))) ∙ g .so
+      ∙ ap (λ (l : Bool). found || l) (rw add-one (ap (any test) (sym (drop-cons s i d h)))) ∙ g .so;
 }
 
 pub looked-all : {A : Type 0} {test : A → Bool} {s : List A} {from i : ℕ} {found : Bool} → Looked test s from i found → length s ≤ i → found ≡ any test (drop from s)
@@ -84,14 +84,14 @@ mark marks done e q n h m =
     let more : seen q (done ++ (e ∷ [])) ≡ (seen q done || (eqb p q || false)) = any-append (λ (x : Entry). eqb (quantityOf (x .unit)) q) done (e ∷ []) in
     on (eqb p q)
     (λ y.
-      let same : p ≡ q = eqb-true p q y in
-      let now : getD (set marks p true) p false ≡ true = getD-set-same marks p true false (omega arith) in
-      let then : (seen q done || (eqb p q || false)) ≡ true = rw y (or-true (seen q done)) in
-      ap (λ (k : ℕ). getD (set marks p true) k false) (sym same) ∙ now ∙ sym (more ∙ then))
+    let same : p ≡ q = eqb-true p q y in
+    let now : getD (set marks p true) p false ≡ true = getD-set-same marks p true false (omega arith) in
+    let then : (seen q done || (eqb p q || false)) ≡ true = rw y (or-true (seen q done)) in
+    ap (λ (k : ℕ). getD (set marks p true) k false) (sym same) ∙ now ∙ sym (more ∙ then))
     (λ y.
-      let other : q ≡ p → ⊥ = λ (z : q ≡ p). eqb-false p q y (sym z) in
-      let then : (seen q done || (eqb p q || false)) ≡ seen q done = rw y (or-false (seen q done)) in
-      getD-set-other marks p q true false other ∙ m ∙ sym (more ∙ then))
+    let other : q ≡ p → ⊥ = λ (z : q ≡ p). eqb-false p q y (sym z) in
+    let then : (seen q done || (eqb p q || false)) ≡ seen q done = rw y (or-false (seen q done)) in
+    getD-set-other marks p q true false other ∙ m ∙ sym (more ∙ then))
 
 module _ {es : List Entry} {i : ℕ} {wrong : Bool} {marks : List Bool} (g : Walked es i wrong marks) where
   pub walked-next : (d : Entry) → i < length es
@@ -106,10 +106,10 @@ module _ {es : List Entry} {i : ℕ} {wrong : Bool} {marks : List Bool} (g : Wal
       let step : (wrong || (any wrongEntry (e ∷ rest) || repeats (take i es) (e ∷ rest))) ≡ (any wrongEntry es || repeats [] es) = rw left at (g .so) in
       record {
         so =
-          rw (add-one, done, g .marked q (quantity-below (e .unit)))
-          (regroup wrong (wrongEntry e) (seen q (take i es)) (any wrongEntry rest) (repeats (take i es ++ (e ∷ [])) rest) ∙ step);
+            rw (add-one, done, g .marked q (quantity-below (e .unit)))
+            (regroup wrong (wrongEntry e) (seen q (take i es)) (any wrongEntry rest) (repeats (take i es ++ (e ∷ [])) rest) ∙ step);
         marked = λ p k. rw (add-one, done) (mark marks (take i es) e p (g .eight) k (g .marked p k));
-        eight = length-set marks q true ∙ g .eight
+        eight = length-set marks q true ∙ g .eight;
       }
 
   pub walked-all : i ≡ length es

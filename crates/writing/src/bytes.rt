@@ -79,8 +79,25 @@ fn head_bytes(l: u8, address: u8, h: Header) -> [u8; 19]
     let low = (h.maker % 256) as u8;
     let high = (h.maker / 256) as u8;
     [
-        0x68, l, l, 0x68, 0x08, address, 0x72, first, second, third, fourth, low, high, h.version,
-        h.meter_type, h.access, h.status, 0, 0,
+        0x68,
+        l,
+        l,
+        0x68,
+        0x08,
+        address,
+        0x72,
+        first,
+        second,
+        third,
+        fourth,
+        low,
+        high,
+        h.version,
+        h.meter_type,
+        h.access,
+        h.status,
+        0,
+        0,
     ]
 }
 

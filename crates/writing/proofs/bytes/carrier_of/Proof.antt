@@ -1,19 +1,15 @@
+-- `writing::bytes::carrier_of` meets its contract: folding gives the parity of the eight bits. Assumes nothing.
 use borrow.Author.Needs.{needs}
 use Rattle.writing.specs.Laying.{carrier-folded}
 use Rattle.writing.proofs.bytes.carrier_of.Statement.{statement}
 use Rattle.writing.proofs.bytes.carrier_of.Tie as tie
-use Rattle.writing.proofs.bytes.carrier_of.Reads as reads
-use Rattle.writing.proofs.bytes.carrier_of.Lts as lts
 
--- src/bytes.rt:121:5
 mul-result : tie.Need-mul-result
 mul-result c = search needs
 
--- src/bytes.rt:121:5
 add-result : tie.Need-add-result
 add-result c = search needs
 
--- src/bytes.rt:114:1
 returns : tie.Need-returns
 returns c = carrier-folded (c .args .byte) (search needs)
 

@@ -1,3 +1,4 @@
+-- `writing::bytes::carry` meets its contract: so many bytes are carried. Assumes nothing.
 use Prim.Native.Nat.{_-_}
 use native.Mathlib.Omega.{arith}
 use borrow.Author.Needs.{needs}
@@ -5,9 +6,6 @@ use lib.ListN.{length}
 use Rattle.writing.specs.Laying.{Carried, carried-none, carried-next, carried-length, carried-all}
 use Rattle.writing.proofs.bytes.carry.Statement.{statement}
 use Rattle.writing.proofs.bytes.carry.Tie as tie
-use Rattle.writing.proofs.bytes.carry.Reads as reads
-use Rattle.writing.proofs.bytes.carry.Lts as lts
-use Rattle.writing.proofs.bytes.carrier_of.Reads as carrier-of-reads
 
 abbrev Inv-loop : tie.InvT-loop
 Inv-loop bytes out₀ i₀ out i = Carried bytes out₀ i out
@@ -15,43 +13,33 @@ Inv-loop bytes out₀ i₀ out i = Carried bytes out₀ i out
 abbrev μ-loop : tie.MeasureT-loop
 μ-loop bytes out₀ i₀ out i = length bytes - i
 
--- src/bytes.rt:130:5
 loop-holds : tie.Need-loop-holds Inv-loop μ-loop
 loop-holds c = carried-none (c .before .before .pre)
 
--- src/bytes.rt:131:29
 shared-slice-read-carrier-of : tie.Need-shared-slice-read-carrier-of Inv-loop μ-loop
 shared-slice-read-carrier-of c = search needs
 
--- src/bytes.rt:131:18
 carrier-of-requires : tie.Need-carrier-of-requires Inv-loop μ-loop
 carrier-of-requires c κs = search needs
 
--- src/bytes.rt:131:9
 mul-out : tie.Need-mul-out Inv-loop μ-loop
 mul-out c = omega (arith, c .before .before .before .before .before .before .good)
 
--- src/bytes.rt:131:9
 slice-write-out : tie.Need-slice-write-out Inv-loop μ-loop
 slice-write-out c = let n = carried-length (c .before .before .before .loop .inv) in omega (arith, c .before .before .before .before .before .before .pre)
 
--- src/bytes.rt:132:9
 add-i : tie.Need-add-i Inv-loop μ-loop
 add-i c = search needs
 
--- src/bytes.rt:130:5
 loop-less : tie.Need-loop-less Inv-loop μ-loop
 loop-less c = search needs
 
--- src/bytes.rt:130:5
 loop-again : tie.Need-loop-again Inv-loop μ-loop
 loop-again c = carried-next (c .before .before .before .loop .inv) (c .before .before .loop-test .taken) (c .carrier-of .ensures)
 
--- src/bytes.rt:125:1
 same-length : tie.Need-same-length Inv-loop μ-loop
 same-length c = carried-length (c .before .loop .inv)
 
--- src/bytes.rt:125:1
 returns : tie.Need-returns Inv-loop μ-loop
 returns c = carried-all (c .before .loop .inv) (c .loop-test .left)
 

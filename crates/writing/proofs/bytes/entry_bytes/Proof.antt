@@ -1,3 +1,4 @@
+-- `writing::bytes::entry_bytes` meets its contract. Assumes nothing.
 use borrow.Author.Needs.{needs}
 use Prim.Native.Nat.{ℕ}
 use mathlib.Core.List.{List, _∷_}
@@ -6,39 +7,28 @@ use lib.ListN.{length}
 use Rattle.format.specs.ByteLaws.{spell-whole}
 use Rattle.writing.proofs.bytes.entry_bytes.Statement.{statement}
 use Rattle.writing.proofs.bytes.entry_bytes.Tie as tie
-use Rattle.writing.proofs.bytes.entry_bytes.Reads as reads
-use Rattle.writing.proofs.bytes.entry_bytes.Lts as lts
-use Rattle.writing.proofs.bytes.value_bytes.Reads as value-bytes-reads
 
--- src/bytes.rt:66:13
 value-bytes-requires : tie.Need-value-bytes-requires
 value-bytes-requires c κs = search needs
 
--- src/bytes.rt:67:27
 array-read-t7 : tie.Need-array-read-t7
 array-read-t7 c = search needs
 
--- src/bytes.rt:67:33
 array-read-t10 : tie.Need-array-read-t10
 array-read-t10 c = search needs
 
--- src/bytes.rt:67:39
 array-read-t13 : tie.Need-array-read-t13
 array-read-t13 c = search needs
 
--- src/bytes.rt:67:45
 array-read-t16 : tie.Need-array-read-t16
 array-read-t16 c = search needs
 
--- src/bytes.rt:67:51
 array-read-t19 : tie.Need-array-read-t19
 array-read-t19 c = search needs
 
--- src/bytes.rt:67:57
 array-read-t22 : tie.Need-array-read-t22
 array-read-t22 c = search needs
 
--- src/bytes.rt:61:1
 returns : tie.Need-returns
 returns c =
     let n : length (c .value-bytes .result) ≡ 6 = search needs in

@@ -1,40 +1,30 @@
+-- `writing::bytes::head_bytes` meets its contract. Assumes nothing.
 use borrow.Author.Needs.{needs}
 use Rattle.format.specs.Digits.{packed}
 use Rattle.writing.proofs.bytes.head_bytes.Statement.{statement}
 use Rattle.writing.proofs.bytes.head_bytes.Tie as tie
-use Rattle.writing.proofs.bytes.head_bytes.Reads as reads
-use Rattle.writing.proofs.bytes.head_bytes.Lts as lts
-use Rattle.writing.proofs.bytes.two_digits.Reads as two-digits-reads
 
--- src/bytes.rt:74:13
 cast-n : tie.Need-cast-n
 cast-n c = search needs
 
--- src/bytes.rt:75:9
 two-digits-requires : tie.Need-two-digits-requires
 two-digits-requires c κs = search needs
 
--- src/bytes.rt:76:9
 two-digits-requires-2 : tie.Need-two-digits-requires-2
 two-digits-requires-2 c κs = search needs
 
--- src/bytes.rt:77:9
 two-digits-requires-3 : tie.Need-two-digits-requires-3
 two-digits-requires-3 c κs = search needs
 
--- src/bytes.rt:78:9
 two-digits-requires-4 : tie.Need-two-digits-requires-4
 two-digits-requires-4 c κs = search needs
 
--- src/bytes.rt:79:15
 cast-low : tie.Need-cast-low
 cast-low c = search needs
 
--- src/bytes.rt:80:16
 cast-high : tie.Need-cast-high
 cast-high c = search needs
 
--- src/bytes.rt:71:1
 returns : tie.Need-returns
 unfolding packed
 returns c = rw (c .before .before .before .before .before .two-digits .ensures, c .before .before .before .before .two-digits2 .ensures, c .before .before .before .two-digits3 .ensures, c .before .before .two-digits4 .ensures)

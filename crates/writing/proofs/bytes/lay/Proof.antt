@@ -1,3 +1,4 @@
+-- `writing::bytes::lay` meets its contract: so many bytes are copied. Assumes nothing.
 use Prim.Native.Nat.{_-_}
 use mathlib.Core.Path.{refl}
 use native.Mathlib.Omega.{arith}
@@ -6,8 +7,6 @@ use lib.ListN.{length}
 use Rattle.writing.specs.Laying.{Copied, copied-none, copied-next, copied-length, copied-all}
 use Rattle.writing.proofs.bytes.lay.Statement.{statement}
 use Rattle.writing.proofs.bytes.lay.Tie as tie
-use Rattle.writing.proofs.bytes.lay.Reads as reads
-use Rattle.writing.proofs.bytes.lay.Lts as lts
 
 abbrev Inv-loop : tie.InvT-loop
 Inv-loop to₀ at from i₀ to i = Copied to₀ at from i to
@@ -15,39 +14,30 @@ Inv-loop to₀ at from i₀ to i = Copied to₀ at from i to
 abbrev μ-loop : tie.MeasureT-loop
 μ-loop to₀ at from i₀ to i = length from - i
 
--- src/bytes.rt:93:5
 loop-holds : tie.Need-loop-holds Inv-loop μ-loop
 loop-holds c = copied-none (c .pre)
 
--- src/bytes.rt:94:22
 shared-slice-read-to : tie.Need-shared-slice-read-to Inv-loop μ-loop
 shared-slice-read-to c = search needs
 
--- src/bytes.rt:94:12
 add-to : tie.Need-add-to Inv-loop μ-loop
 add-to c = let n = copied-length (c .before .before .loop .inv) in omega arith
 
--- src/bytes.rt:94:9
 slice-write-to : tie.Need-slice-write-to Inv-loop μ-loop
 slice-write-to c = let n = copied-length (c .before .before .loop .inv) in omega arith
 
--- src/bytes.rt:95:9
 add-i : tie.Need-add-i Inv-loop μ-loop
 add-i c = search needs
 
--- src/bytes.rt:93:5
 loop-less : tie.Need-loop-less Inv-loop μ-loop
 loop-less c = search needs
 
--- src/bytes.rt:93:5
 loop-again : tie.Need-loop-again Inv-loop μ-loop
 loop-again c = copied-next (c .before .before .loop .inv) 0 (c .before .loop-test .taken) refl
 
--- src/bytes.rt:88:1
 same-length : tie.Need-same-length Inv-loop μ-loop
 same-length c = copied-length (c .before .loop .inv)
 
--- src/bytes.rt:88:1
 returns : tie.Need-returns Inv-loop μ-loop
 returns c = copied-all (c .before .loop .inv) (c .loop-test .left)
 

@@ -1,28 +1,22 @@
+-- `writing::bytes::moment_bytes` meets its contract: the numbers of a point in time that exists fit their bits. Assumes nothing.
 use borrow.Author.Needs.{needs}
 use native.Mathlib.Omega.{arith}
 use Rattle.format.specs.MomentLaws.{moment-exists}
 use Rattle.writing.proofs.bytes.moment_bytes.Statement.{statement}
 use Rattle.writing.proofs.bytes.moment_bytes.Tie as tie
-use Rattle.writing.proofs.bytes.moment_bytes.Reads as reads
-use Rattle.writing.proofs.bytes.moment_bytes.Lts as lts
 
--- src/bytes.rt:45:15
 mul-day : tie.Need-mul-day
 mul-day c = search needs
 
--- src/bytes.rt:45:15
 add-day : tie.Need-add-day
 add-day c = let x = moment-exists (c .before .before .args .m) (c .before .before .pre .0) (c .before .before .pre .1) in omega arith
 
--- src/bytes.rt:46:17
 mul-month : tie.Need-mul-month
 mul-month c = let x = moment-exists (c .before .before .before .args .m) (c .before .before .before .pre .0) (c .before .before .before .pre .1) in omega arith
 
--- src/bytes.rt:46:17
 add-month : tie.Need-add-month
 add-month c = let x = moment-exists (c .before .before .before .before .args .m) (c .before .before .before .before .pre .0) (c .before .before .before .before .pre .1) in omega arith
 
--- src/bytes.rt:41:1
 returns : tie.Need-returns
 returns c = search needs
 

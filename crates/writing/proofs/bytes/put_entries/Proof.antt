@@ -1,13 +1,10 @@
+-- `writing::bytes::put_entries` meets its contract: the entries so far lie one after the other. Assumes nothing.
 use Prim.Native.Nat.{_-_}
 use native.Mathlib.Omega.{arith}
 use borrow.Author.Needs.{needs}
-use lib.ListN.{length}
 use Rattle.writing.specs.Laying.{Laying, laying-none, laying-fits, laying-next, laying-all}
 use Rattle.writing.proofs.bytes.put_entries.Statement.{statement}
 use Rattle.writing.proofs.bytes.put_entries.Tie as tie
-use Rattle.writing.proofs.bytes.put_entries.Reads as reads
-use Rattle.writing.proofs.bytes.put_entries.Lts as lts
-use Rattle.writing.proofs.bytes.put_entry.Reads as put-entry-reads
 
 abbrev Inv-loop : tie.InvT-loop
 Inv-loop count bytes₀ entries at₀ i₀ bytes at i = Laying entries count bytes₀ i at bytes
@@ -15,40 +12,31 @@ Inv-loop count bytes₀ entries at₀ i₀ bytes at i = Laying entries count byt
 abbrev μ-loop : tie.MeasureT-loop
 μ-loop count bytes₀ entries at₀ i₀ bytes at i = count - i
 
--- src/bytes.rt:130:5
 loop-holds : tie.Need-loop-holds Inv-loop μ-loop
 loop-holds c = laying-none (search needs) (c .before .pre)
 
--- src/bytes.rt:131:17
 mul-e : tie.Need-mul-e Inv-loop μ-loop
 mul-e c = search needs
 
--- src/bytes.rt:131:17
 array-copy-out-e : tie.Need-array-copy-out-e Inv-loop μ-loop
 array-copy-out-e c = search needs
 
--- src/bytes.rt:132:9
 put-entry-requires : tie.Need-put-entry-requires Inv-loop μ-loop
 put-entry-requires c κs = laying-fits (c .before .before .before .loop .inv) (c .before .before .loop-test .taken) _
 
--- src/bytes.rt:133:9
 add-i : tie.Need-add-i Inv-loop μ-loop
 add-i c = search needs
 
--- src/bytes.rt:130:5
 loop-less : tie.Need-loop-less Inv-loop μ-loop
 loop-less c = search needs
 
--- src/bytes.rt:130:5
 loop-again : tie.Need-loop-again Inv-loop μ-loop
 loop-again c =
     laying-next (c .before .before .before .before .before .before .loop .inv) (c .before .before .before .before .before .loop-test .taken) _ (c .before .before .put-entry .ensures)
 
--- src/bytes.rt:124:1
 same-length : tie.Need-same-length Inv-loop μ-loop
 same-length c = omega (arith, c .before .loop .inv .same, c .before .loop .inv .fit .room)
 
--- src/bytes.rt:124:1
 returns : tie.Need-returns Inv-loop μ-loop
 returns c = laying-all (c .before .loop .inv) (c .loop-test .left)
 

@@ -1,38 +1,29 @@
+-- `writing::bytes::value_bytes` meets its contract, case by case. Assumes nothing.
 use borrow.Author.Needs.{needs}
 use mathlib.Core.List.{[], _∷_}
 use Rattle.format.specs.Moments.{dateExists, timeExists}
 use Rattle.format.specs.TestLaws.{every}
 use Rattle.writing.proofs.bytes.value_bytes.Statement.{statement}
 use Rattle.writing.proofs.bytes.value_bytes.Tie as tie
-use Rattle.writing.proofs.bytes.value_bytes.Reads as reads
-use Rattle.writing.proofs.bytes.value_bytes.Lts as lts
-use Rattle.writing.proofs.bytes.moment_bytes.Reads as moment-bytes-reads
-use Rattle.writing.proofs.bytes.packed_six.Reads as packed-six-reads
 
--- src/bytes.rt:56:23
 enum-known-value : tie.Need-enum-known-value
 enum-known-value c = search needs
 
--- src/bytes.rt:56:29
 packed-six-requires : tie.Need-packed-six-requires
 packed-six-requires c κs = search needs
 
--- src/bytes.rt:57:21
 enum-known-value-2 : tie.Need-enum-known-value-2
 enum-known-value-2 c = search needs
 
--- src/bytes.rt:57:27
 moment-bytes-requires : tie.Need-moment-bytes-requires
 moment-bytes-requires c κs =
     let m = c .before .value2 .given .0 .0 in
     let k = every (dateExists m) (timeExists m ∷ []) (rw (c .before .value2 .given .1) at (c .before .before .before .pre)) in
     (k .0, k .1 .0)
 
--- src/bytes.rt:51:1
 returns : tie.Need-returns
 returns c = rw (c .before .before .value .given .1) (c .packed-six .ensures)
 
--- src/bytes.rt:51:1
 returns-2 : tie.Need-returns-2
 returns-2 c = rw (c .before .before .value2 .given .1) (c .moment-bytes .ensures)
 

@@ -1,3 +1,4 @@
+-- `writing::wrong::any_used` meets its contract: what was found so far, or is in the rest, is what there is. Assumes nothing.
 use Prim.Native.Nat.{_-_}
 use mathlib.Core.Path.{_≡_}
 use lib.ListN.{length}
@@ -7,9 +8,6 @@ use Rattle.format.specs.Writing.{usedEntry}
 use Rattle.writing.specs.Walks.{Looked, looked-none, looked-next, looked-all}
 use Rattle.writing.proofs.wrong.any_used.Statement.{statement}
 use Rattle.writing.proofs.wrong.any_used.Tie as tie
-use Rattle.writing.proofs.wrong.any_used.Reads as reads
-use Rattle.writing.proofs.wrong.any_used.Lts as lts
-use Rattle.writing.proofs.wrong.used_entry.Reads as used-entry-reads
 
 abbrev Inv-loop : tie.InvT-loop
 Inv-loop from entries found₀ i₀ found i = Looked usedEntry entries from i found
@@ -17,37 +15,29 @@ Inv-loop from entries found₀ i₀ found i = Looked usedEntry entries from i fo
 abbrev μ-loop : tie.MeasureT-loop
 μ-loop from entries found₀ i₀ found i = 7 - i
 
--- src/wrong.rt:44:5
 loop-holds : tie.Need-loop-holds Inv-loop μ-loop
 loop-holds c = looked-none usedEntry (c .args .t1) (c .args .from)
 
--- src/wrong.rt:45:17
 mul-e : tie.Need-mul-e Inv-loop μ-loop
 mul-e c = search needs
 
--- src/wrong.rt:45:17
 array-copy-out-e : tie.Need-array-copy-out-e Inv-loop μ-loop
 array-copy-out-e c = search needs
 
--- src/wrong.rt:46:25
 used-entry-requires : tie.Need-used-entry-requires Inv-loop μ-loop
 used-entry-requires c κs = search needs
 
--- src/wrong.rt:47:9
 add-i : tie.Need-add-i Inv-loop μ-loop
 add-i c = search needs
 
--- src/wrong.rt:44:5
 loop-less : tie.Need-loop-less Inv-loop μ-loop
 loop-less c = search needs
 
--- src/wrong.rt:44:5
 loop-again : tie.Need-loop-again Inv-loop μ-loop
 loop-again c =
     let n : length (c .before .before .before .before .args .t1) ≡ 7 = search needs in
     rw (c .used-entry .ensures) (looked-next _ (c .before .before .before .loop .inv) (omega arith))
 
--- src/wrong.rt:39:1
 returns : tie.Need-returns Inv-loop μ-loop
 returns c =
     let n : length (c .before .before .args .t1) ≡ 7 = search needs in

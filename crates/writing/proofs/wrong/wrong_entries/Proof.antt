@@ -1,14 +1,10 @@
+-- `writing::wrong::wrong_entries` meets its contract: what is wrong so far, and with what is left, is what is wrong; the marks say which quantities came. Assumes nothing.
 use Prim.Native.Nat.{_-_, _≤_}
-use native.Mathlib.Omega.{arith}
 use borrow.Author.Needs.{needs}
 use lib.ListN.{length}
 use Rattle.writing.specs.Walks.{Counted, counted-none, counted-next, counted-all, quantity-below}
 use Rattle.writing.proofs.wrong.wrong_entries.Statement.{statement}
 use Rattle.writing.proofs.wrong.wrong_entries.Tie as tie
-use Rattle.writing.proofs.wrong.wrong_entries.Reads as reads
-use Rattle.writing.proofs.wrong.wrong_entries.Lts as lts
-use Rattle.parts.proofs.quantities.quantity_of.Reads as quantity-of-reads
-use Rattle.writing.proofs.wrong.wrong_entry.Reads as wrong-entry-reads
 
 abbrev Inv-loop : tie.InvT-loop
 Inv-loop count entries seen₀ wrong₀ i₀ seen wrong i = Counted entries count i wrong seen
@@ -16,73 +12,56 @@ Inv-loop count entries seen₀ wrong₀ i₀ seen wrong i = Counted entries coun
 abbrev μ-loop : tie.MeasureT-loop
 μ-loop count entries seen₀ wrong₀ i₀ seen wrong i = count - i
 
--- src/wrong.rt:138:5
 loop-holds : tie.Need-loop-holds Inv-loop μ-loop
 loop-holds c = counted-none
 
--- src/wrong.rt:139:17
 mul-e : tie.Need-mul-e Inv-loop μ-loop
 mul-e c = search needs
 
--- src/wrong.rt:139:17
 array-copy-out-e : tie.Need-array-copy-out-e Inv-loop μ-loop
 array-copy-out-e c = search needs
 
--- src/wrong.rt:140:24
 quantity-of-requires : tie.Need-quantity-of-requires Inv-loop μ-loop
 quantity-of-requires c κs = search needs
 
--- src/wrong.rt:140:24
 cast-quantity : tie.Need-cast-quantity Inv-loop μ-loop
 cast-quantity c = search needs
 
--- src/wrong.rt:141:13
 wrong-entry-requires : tie.Need-wrong-entry-requires Inv-loop μ-loop
 wrong-entry-requires c κs = search needs
 
--- src/wrong.rt:142:31
 array-read-wrong : tie.Need-array-read-wrong Inv-loop μ-loop
 array-read-wrong c = rw (c .before .quantity-of .ensures) (quantity-below _)
 
--- src/wrong.rt:143:9
 array-write-seen : tie.Need-array-write-seen Inv-loop μ-loop
 array-write-seen c = rw (c .before .quantity-of .ensures) (quantity-below _)
 
--- src/wrong.rt:144:9
 add-i : tie.Need-add-i Inv-loop μ-loop
 add-i c = search needs
 
--- src/wrong.rt:138:5
 loop-less : tie.Need-loop-less Inv-loop μ-loop
 loop-less c = search needs
 
--- src/wrong.rt:138:5
 loop-again : tie.Need-loop-again Inv-loop μ-loop
 loop-again c =
     let n : c .before .before .before .before .before .args .count ≤ length (c .before .before .before .before .before .args .t1) = search needs in
     counted-next _ (c .before .before .before .before .loop .inv) n (c .before .before .before .loop-test .taken) (c .before .quantity-of .ensures) (c .wrong-entry .ensures)
 
--- src/wrong.rt:146:14
 array-read-result : tie.Need-array-read-result Inv-loop μ-loop
 array-read-result c = search needs
 
--- src/wrong.rt:146:25
 array-read-result-2 : tie.Need-array-read-result-2 Inv-loop μ-loop
 array-read-result-2 c = search needs
 
--- src/wrong.rt:146:36
 array-read-result-3 : tie.Need-array-read-result-3 Inv-loop μ-loop
 array-read-result-3 c = search needs
 
--- src/wrong.rt:146:47
 array-read-result-4 : tie.Need-array-read-result-4 Inv-loop μ-loop
 array-read-result-4 c = search needs
 
--- src/wrong.rt:146:58
 array-read-result-5 : tie.Need-array-read-result-5 Inv-loop μ-loop
 array-read-result-5 c = search needs
 
--- src/wrong.rt:131:1
 returns : tie.Need-returns Inv-loop μ-loop
 returns c =
     let n : c .before .before .args .count ≤ length (c .before .before .args .t1) = search needs in
