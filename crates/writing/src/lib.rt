@@ -1,12 +1,10 @@
 // Line writing.
 mod bytes;
-mod wrong;
-
 ghost use Rattle.writing.specs.Answering.{WritesLine};
 use bytes::carry;
 use bytes::put_bytes;
 use format::Telegram;
-use wrong::is_unwritable;
+use writable::is_unwritable;
 
 // The characters written, or the number of a refusal.
 pub enum Written {

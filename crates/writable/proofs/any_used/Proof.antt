@@ -1,13 +1,13 @@
--- `writing::wrong::any_used` meets its contract: what was found so far, or is in the rest, is what there is. Assumes nothing.
+-- `writable::any_used` meets its contract: what was found so far, or is in the rest, is what there is. Assumes nothing.
 use Prim.Native.Nat.{_-_}
 use mathlib.Core.Path.{_≡_}
 use lib.ListN.{length}
 use native.Mathlib.Omega.{arith}
 use borrow.Author.Needs.{needs}
 use Rattle.format.specs.Writing.{usedEntry}
-use Rattle.writing.specs.Walks.{Looked, looked-none, looked-next, looked-all}
-use Rattle.writing.proofs.wrong.any_used.Statement.{statement}
-use Rattle.writing.proofs.wrong.any_used.Tie as tie
+use Rattle.writable.specs.Walks.{Looked, looked-none, looked-next, looked-all}
+use Rattle.writable.proofs.any_used.Statement.{statement}
+use Rattle.writable.proofs.any_used.Tie as tie
 
 abbrev Inv-loop : tie.InvT-loop
 Inv-loop from entries found₀ i₀ found i = Looked usedEntry entries from i found

@@ -1,10 +1,10 @@
--- `writing::wrong::wrong_entries` meets its contract: what is wrong so far, and with what is left, is what is wrong; the marks say which quantities came. Assumes nothing.
+-- `writable::wrong_entries` meets its contract: what is wrong so far, and with what is left, is what is wrong; the marks say which quantities came. Assumes nothing.
 use Prim.Native.Nat.{_-_, _≤_}
 use borrow.Author.Needs.{needs}
 use lib.ListN.{length}
-use Rattle.writing.specs.Walks.{Counted, counted-none, counted-next, counted-all, quantity-below}
-use Rattle.writing.proofs.wrong.wrong_entries.Statement.{statement}
-use Rattle.writing.proofs.wrong.wrong_entries.Tie as tie
+use Rattle.writable.specs.Walks.{Counted, counted-none, counted-next, counted-all, quantity-below}
+use Rattle.writable.proofs.wrong_entries.Statement.{statement}
+use Rattle.writable.proofs.wrong_entries.Tie as tie
 
 abbrev Inv-loop : tie.InvT-loop
 Inv-loop count entries seen₀ wrong₀ i₀ seen wrong i = Counted entries count i wrong seen

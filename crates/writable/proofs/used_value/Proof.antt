@@ -1,7 +1,7 @@
--- `writing::wrong::used_value` meets its contract. Assumes nothing.
+-- `writable::used_value` meets its contract. Assumes nothing.
 use borrow.Author.Needs.{needs}
-use Rattle.writing.proofs.wrong.used_value.Statement.{statement}
-use Rattle.writing.proofs.wrong.used_value.Tie as tie
+use Rattle.writable.proofs.used_value.Statement.{statement}
+use Rattle.writable.proofs.used_value.Tie as tie
 
 enum-known-value : tie.Need-enum-known-value
 enum-known-value c = search needs

@@ -1,7 +1,7 @@
--- `writing::wrong::unwritten_header` meets its contract. Assumes nothing.
+-- `writable::unwritten_header` meets its contract. Assumes nothing.
 use borrow.Author.Needs.{needs}
-use Rattle.writing.proofs.wrong.unwritten_header.Statement.{statement}
-use Rattle.writing.proofs.wrong.unwritten_header.Tie as tie
+use Rattle.writable.proofs.unwritten_header.Statement.{statement}
+use Rattle.writable.proofs.unwritten_header.Tie as tie
 
 maker-named-requires : tie.Need-maker-named-requires
 maker-named-requires c κs = search needs

@@ -1,7 +1,7 @@
--- `writing::wrong::wrong_entry` meets its contract. Assumes nothing.
+-- `writable::wrong_entry` meets its contract. Assumes nothing.
 use borrow.Author.Needs.{needs}
-use Rattle.writing.proofs.wrong.wrong_entry.Statement.{statement}
-use Rattle.writing.proofs.wrong.wrong_entry.Tie as tie
+use Rattle.writable.proofs.wrong_entry.Statement.{statement}
+use Rattle.writable.proofs.wrong_entry.Tie as tie
 
 is-paired-requires : tie.Need-is-paired-requires
 is-paired-requires c κs = search needs

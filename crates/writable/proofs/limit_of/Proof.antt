@@ -1,8 +1,8 @@
--- `writing::wrong::limit_of` meets its contract, test by test. Assumes nothing.
+-- `writable::limit_of` meets its contract, test by test. Assumes nothing.
 use borrow.Author.Tests.{eq-eqb, ne-eqb}
 use Rattle.format.specs.Quantities.{widthOf}
-use Rattle.writing.proofs.wrong.limit_of.Statement.{statement}
-use Rattle.writing.proofs.wrong.limit_of.Tie as tie
+use Rattle.writable.proofs.limit_of.Statement.{statement}
+use Rattle.writable.proofs.limit_of.Tie as tie
 
 returns : tie.Need-returns
 unfolding widthOf

@@ -1,7 +1,7 @@
--- `writing::wrong::wrong_value` meets its contract, case by case. Assumes nothing.
+-- `writable::wrong_value` meets its contract, case by case. Assumes nothing.
 use borrow.Author.Needs.{needs}
-use Rattle.writing.proofs.wrong.wrong_value.Statement.{statement}
-use Rattle.writing.proofs.wrong.wrong_value.Tie as tie
+use Rattle.writable.proofs.wrong_value.Statement.{statement}
+use Rattle.writable.proofs.wrong_value.Tie as tie
 
 enum-known-value : tie.Need-enum-known-value
 enum-known-value c = search needs

@@ -1,9 +1,9 @@
--- `writing::wrong::wrong_data` meets its contract. Assumes nothing.
+-- `writable::wrong_data` meets its contract. Assumes nothing.
 use mathlib.Core.Path.{sym}
-use Rattle.writing.specs.Walks.{data-many, data-few}
+use Rattle.writable.specs.Walks.{data-many, data-few}
 use borrow.Author.Needs.{needs}
-use Rattle.writing.proofs.wrong.wrong_data.Statement.{statement}
-use Rattle.writing.proofs.wrong.wrong_data.Tie as tie
+use Rattle.writable.proofs.wrong_data.Statement.{statement}
+use Rattle.writable.proofs.wrong_data.Tie as tie
 
 returns : tie.Need-returns
 returns c = sym (data-many (c .before .args .t) (c .if1 .taken))

@@ -1,8 +1,8 @@
--- `writing::wrong::is_unwritable` meets its contract, kind by kind. Assumes nothing.
-use Rattle.writing.specs.Walks.{for-kind}
+-- `writable::is_unwritable` meets its contract, kind by kind. Assumes nothing.
+use Rattle.writable.specs.Walks.{for-kind}
 use borrow.Author.Needs.{needs}
-use Rattle.writing.proofs.wrong.is_unwritable.Statement.{statement}
-use Rattle.writing.proofs.wrong.is_unwritable.Tie as tie
+use Rattle.writable.proofs.is_unwritable.Statement.{statement}
+use Rattle.writable.proofs.is_unwritable.Tie as tie
 
 enum-told : tie.Need-enum-told
 enum-told c = search needs

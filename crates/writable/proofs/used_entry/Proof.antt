@@ -1,7 +1,7 @@
--- `writing::wrong::used_entry` meets its contract. Assumes nothing.
+-- `writable::used_entry` meets its contract. Assumes nothing.
 use borrow.Author.Needs.{needs}
-use Rattle.writing.proofs.wrong.used_entry.Statement.{statement}
-use Rattle.writing.proofs.wrong.used_entry.Tie as tie
+use Rattle.writable.proofs.used_entry.Statement.{statement}
+use Rattle.writable.proofs.used_entry.Tie as tie
 
 used-value-requires : tie.Need-used-value-requires
 used-value-requires c κs = search needs

@@ -1,7 +1,7 @@
--- `writing::wrong::used_body` meets its contract. Assumes nothing.
+-- `writable::used_body` meets its contract. Assumes nothing.
 use borrow.Author.Needs.{needs}
-use Rattle.writing.proofs.wrong.used_body.Statement.{statement}
-use Rattle.writing.proofs.wrong.used_body.Tie as tie
+use Rattle.writable.proofs.used_body.Statement.{statement}
+use Rattle.writable.proofs.used_body.Tie as tie
 
 used-header-requires : tie.Need-used-header-requires
 used-header-requires c κs = search needs

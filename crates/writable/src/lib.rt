@@ -1,11 +1,11 @@
-// 20: what no accepted line reads as.
+// 20: the telegrams that no accepted line reads as.
 ghost use mathlib.Core.Path.{_≡_};
 ghost use lib.ListN.{take, drop};
 ghost use Prim.Native.Nat.{_^_, _≤_};
 ghost use Rattle.format.specs.Lists.{any};
 ghost use Rattle.format.specs.Quantities.{widthOf};
 ghost use Rattle.format.specs.Writing.{usedValue, usedEntry, usedHeader, usedBody, wrongValue, wrongEntry, unwrittenHeader, wrongData, unwritable};
-ghost use Rattle.writing.specs.Walks.{wrongTogether};
+ghost use Rattle.writable.specs.Walks.{wrongTogether};
 use format::Entry;
 use format::Header;
 use format::Kind;
@@ -163,7 +163,7 @@ fn wrong_data(t: Telegram) -> bool
 }
 
 // No accepted line reads as this telegram.
-pub(crate) fn is_unwritable(t: Telegram) -> bool
+pub fn is_unwritable(t: Telegram) -> bool
     ensures { λ r. ⌜ r ≡ unwritable t ⌝ }
 {
     let kind = t.kind;
