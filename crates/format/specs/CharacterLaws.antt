@@ -1,30 +1,19 @@
 -- Laws about characters: by one test that is computed for all 512 of them, and of a bit turned over.
 use Prim.Native.Nat.{ℕ, zero, suc, _+_, _-_, _*_, _/_, _%_, _^_, _≤_, _<_}
-use native.Mathlib.Nat.{not-suc-le-zero, eq-or-lt-of-le, le-of-suc-le-suc, mod-lt, mod-eq-of-lt, mod-add-mod}
+use native.Mathlib.Nat.{le-of-suc-le-suc, mod-lt, mod-eq-of-lt, mod-add-mod}
 use native.Mathlib.Omega.{arith}
 use native.Mathlib.Numerals.{add-one}
 use mathlib.Core.Bool.{Bool, true, false, cond, not, _&&_, and-eq-true-iff}
-use mathlib.Core.Logic.{_⊎_, inl, inr, ⊎-elim, _≢_}
-use mathlib.Core.Path.{_≡_, refl, sym, ap, subst, _∙_}
-use lib.Dec.{ltb, eqb, lit<}
+use mathlib.Core.Logic.{_⊎_, inl, inr}
+use mathlib.Core.Path.{_≡_, refl, sym, ap, _∙_}
+use lib.Dec.{eqb, lit<}
 use lib.Bits.{bitXor, bitAnd, xor-add-and, xor-shr, xor-lt, and-high}
 use lib.Count.{onesIn}
 use lib.Pow.{pow-lt, pow-pos, pow-add, mod-mod-pow, field}
-use borrow.Author.Tests.{eqb-true, ltb-false, le-ltb, not-true}
+use borrow.Author.Tests.{eqb-true, le-ltb, not-true}
 use Rattle.format.specs.Characters.{over, byteOf, odd, carrier}
+use Rattle.format.specs.Tests.{everyBelow, below}
 use Rattle.format.specs.Flips.{flipBit}
-
--- ---- a test passed by every number below a bound
-
-abbrev pub everyBelow : ℕ → (ℕ → Bool) → Bool
-everyBelow zero test = true
-everyBelow (suc n) test = test n && everyBelow n test
-
-pub below : (n : ℕ) (test : ℕ → Bool) → everyBelow n test ≡ true → (k : ℕ) → k < n → test k ≡ true
-below zero test all k h = absurd (not-suc-le-zero h)
-below (suc n) test all k h =
-    let both = and-eq-true-iff (test n) (everyBelow n test) .0 all in
-    ⊎-elim (λ e. subst (λ (m : ℕ). test m ≡ true) (sym e) (both .0)) (λ l. below n test (both .1) k l) (eq-or-lt-of-le (le-of-suc-le-suc h))
 
 -- ---- the 512 characters
 
@@ -32,6 +21,7 @@ below (suc n) test all k h =
 with-parity : Bool → ℕ → ℕ
 with-parity isOdd b = cond isOdd (flipBit 8 (carrier b)) (carrier b)
 
+-- the computed test: byte and parity give the character back, and the carrier's parity is even
 known : ℕ → Bool
 known c = eqb c (with-parity (odd c) (byteOf c)) && not (odd (carrier (byteOf c)))
 
@@ -42,7 +32,8 @@ all-known = refl
 both-known : (c : ℕ) → c ≤ 511 → (c ≡ with-parity (odd c) (byteOf c)) × (odd (carrier (byteOf c)) ≡ false)
 unfolding known
 both-known c h =
-    let both = and-eq-true-iff (eqb c (with-parity (odd c) (byteOf c))) (not (odd (carrier (byteOf c)))) .0 (below 512 known all-known c (omega arith)) in
+    let passes = below 512 known all-known c (omega arith) in
+    let both = and-eq-true-iff (eqb c (with-parity (odd c) (byteOf c))) (not (odd (carrier (byteOf c)))) .0 passes in
     (eqb-true _ _ (both .0), not-true _ (both .1))
 
 -- Byte and parity settle a character.
@@ -141,4 +132,6 @@ weights (suc j) (suc k) e = ap suc (weights j k (omega arith))
 
 -- Two bits turned over that give the old character back are one and the same.
 pub flip-twice : (j k c : ℕ) → flipBit j (flipBit k c) ≡ c → j ≡ k
-flip-twice j k c e = weights j k (there-and-back c (flipBit k c) (2 ^ j) (2 ^ k) (pow-pos j) (flip-moves k c) (rw e at (flip-moves j (flipBit k c))))
+flip-twice j k c e =
+    let back = rw e at (flip-moves j (flipBit k c)) in
+    weights j k (there-and-back c (flipBit k c) (2 ^ j) (2 ^ k) (pow-pos j) (flip-moves k c) back)

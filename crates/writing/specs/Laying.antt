@@ -18,7 +18,7 @@ use Rattle.format.specs.declared.Kind.the-variants.{Data}
 use Rattle.format.specs.declared.Entry.{Entry}
 use Rattle.format.specs.declared.Telegram.{Telegram}
 use Rattle.format.specs.Lists.{any, total}
-use Rattle.format.specs.Computed.{below, each}
+use Rattle.format.specs.Tests.{below}
 use Rattle.format.specs.Characters.{carrier}
 use Rattle.format.specs.Folding.{fold}
 use Rattle.format.specs.Digits.{packed}
@@ -102,8 +102,8 @@ module _ {s d : List ℕ} {i : ℕ} {now : List ℕ} (g : Carried s d i now) whe
 
 -- the parity of a byte, folded onto its lowest bit
 pub carrier-folded : (b : ℕ) → b < 256 → 256 * (fold 2 (fold 4 (fold 16 b)) % 2) + b ≡ carrier b
-unfolding below onesIn carrier
-carrier-folded b h = eqb-true _ _ (each 256 (λ (n : ℕ). eqb (256 * (fold 2 (fold 4 (fold 16 n)) % 2) + n) (carrier n)) refl b h)
+unfolding onesIn carrier
+carrier-folded b h = eqb-true _ _ (below 256 (λ (n : ℕ). eqb (256 * (fold 2 (fold 4 (fold 16 n)) % 2) + n) (carrier n)) refl b h)
 
 pub record Added (s : List ℕ) (i sum : ℕ) : Type 0 where
   pub inside : i ≤ length s
