@@ -19,7 +19,9 @@ use Rattle.format.specs.Moments.{dateExists, timeExists, wrongMoment}
 use Rattle.format.specs.Quantities.{quantityOf, widthOf, paired, isTime, isPacked, unknown, between}
 use Rattle.format.specs.Entries.{valueBytes, entryWidth, valueOf, entryOf, unfit, wrongDigit, wrongTime, seen, missing, readEntries}
 use Rattle.format.specs.Writing.{bytesOfValue, bytesOfEntry, bytesOfEntries, wrongValue, wrongEntry, repeats}
-use Rattle.format.specs.TestLaws.{none, on, not-refused, reads-same, unrefused, passed, passing}
+use Rattle.format.specs.TestLaws.{none, not-refused, all-passed, all-passing}
+use Rattle.format.specs.Tests.{by-test, passed}
+use Rattle.format.specs.AnswerLaws.{reads-same}
 use Rattle.format.specs.ByteLaws.{Bytes, bytes-append, bytes-take, bytes-drop, spell}
 use Rattle.format.specs.DigitLaws.{packed-digits, digits-below, digits-packed, packed-right, length-packed, bytes-packed}
 use Rattle.format.specs.MomentLaws.{MomentRead, moment-read, MomentWritten, moment-written}
@@ -31,7 +33,7 @@ record ValueRead (w u : ℕ) (b : List ℕ) : Type 0 where
   pub right : wrongValue w u (valueOf u b) ≡ false
 
 value-read : (w u : ℕ) (b : List ℕ) → length b ≡ w → (isTime u ≡ true → w ≡ 6) → Bytes b → (not (isTime u) && any overNine b) ≡ false → (isTime u && wrongMoment b) ≡ false → ValueRead w u b
-value-read w u b e six bytes digits moment = on (isTime u) timed counted
+value-read w u b e six bytes digits moment = by-test (isTime u) timed counted
   where
     timed : isTime u ≡ true → ValueRead w u b
     timed q =
@@ -107,7 +109,7 @@ paired-bytes : (st u : ℕ) → paired st u ≡ true → (st < 256) × (u < 256)
 unfolding paired
 paired-bytes st u e =
     let nost : 256 ≤ st → ⊥ = λ h.
-    on (isTime u) (λ q. false≢true (rw (q, ne-eqb st 0x06 (omega arith)) at e))
+    by-test (isTime u) (λ q. false≢true (rw (q, ne-eqb st 0x06 (omega arith)) at e))
     (λ q. false≢true (rw (q, ne-eqb st 0x0A (omega arith), ne-eqb st 0x0B (omega arith), ne-eqb st 0x0C (omega arith), ne-eqb st 0x0E (omega arith)) at e)) in
     let nou : 256 ≤ u → ⊥ = λ h. false≢true (rw (ne-eqb u 0x6D (omega arith), unit-unknown u h, and-false (isPacked st)) at e) in
     omega arith
@@ -192,7 +194,7 @@ pub entries-read : (left : ℕ) (s : List ℕ) (done es : List Entry) → Bytes 
 unfolding readEntries bytesOfEntries any repeats
 entries-read zero s done es bytes few e = absurd (not-refused e)
 entries-read (suc left) [] done es bytes few e =
-    let k = unrefused 16 (missing done) (reads done) e in
+    let k = passed 16 (missing done) (reads done) es e in
     let same : done ≡ es = reads-same (k .1) in
     record {
       more = [];
@@ -207,7 +209,7 @@ entries-read (suc left) (b ∷ t) done es bytes few e =
     let s : List ℕ = b ∷ t in
     let x : Entry = entryOf s in
     let k =
-    passed ((11, unfit s) ∷ (12, wrongDigit s) ∷ (13, wrongTime s) ∷ (14, seen (quantityOf (at s 1)) done) ∷ (15, eqb (length done) 7) ∷ [])
+    all-passed ((11, unfit s) ∷ (12, wrongDigit s) ∷ (13, wrongTime s) ∷ (14, seen (quantityOf (at s 1)) done) ∷ (15, eqb (length done) 7) ∷ [])
     (readEntries left (drop (entryWidth s) s) (done ++ (x ∷ []))) e in
     let o : EntryRead s = entry-read s bytes (k .0 .0) (k .0 .1 .0) (k .0 .1 .1 .0) in
     let room : length done ≡ 7 → ⊥ = eqb-false (length done) 7 (k .0 .1 .1 .1 .1 .0) in
@@ -228,7 +230,7 @@ entries-written (suc left) done (e ∷ more) right once whole few fuel =
     let w : EntryWritten e rest = entry-written e rest (r .0) in
     let tail : readEntries left rest (done ++ (e ∷ [])) ≡ reads (done ++ (e ∷ []) ++ more) =
     entries-written left (done ++ (e ∷ [])) more (r .1 .0) (o .1 .0) (rw append-assoc whole) (rw (length-append done (e ∷ [])) (omega arith)) (omega arith) in
-    passing ((11, unfit s) ∷ (12, wrongDigit s) ∷ (13, wrongTime s) ∷ (14, seen (quantityOf (at s 1)) done) ∷ (15, eqb (length done) 7) ∷ [])
+    all-passing ((11, unfit s) ∷ (12, wrongDigit s) ∷ (13, wrongTime s) ∷ (14, seen (quantityOf (at s 1)) done) ∷ (15, eqb (length done) 7) ∷ [])
     (readEntries left (drop (entryWidth s) s) (done ++ (entryOf s ∷ [])))
     (w .fit, (w .digits, (w .moment, (o .0, (ne-eqb (length done) 7 (omega arith), tt)))))
     ∙ ap₂ (λ (l : List ℕ) (x : Entry). readEntries left l (done ++ (x ∷ []))) (w .after) (w .back)

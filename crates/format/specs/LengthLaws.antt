@@ -12,7 +12,8 @@ use Rattle.format.specs.Lists.{any}
 use Rattle.format.specs.Quantities.{quantityOf, widthOf, paired, isTime, isPacked, between, unknown, energy, volume, power, flow, inlet, outlet, time}
 use Rattle.format.specs.Entries.{seen, missing}
 use Rattle.format.specs.Writing.{bytesOfEntry, bytesOfEntries, wrongValue, wrongEntry}
-use Rattle.format.specs.TestLaws.{none, every, on, picked}
+use Rattle.format.specs.TestLaws.{none, every, picked}
+use Rattle.format.specs.Tests.{by-test}
 use Rattle.format.specs.EntryLaws.{entry-written, six-wide}
 
 -- ---- the width of one entry
@@ -29,10 +30,10 @@ width-most st =
 width-least : (st : ℕ) → isPacked st ≡ true → 2 ≤ widthOf st
 unfolding widthOf
 width-least st e =
-    on (eqb st 0x0A) (λ a. rw a (lit≤ tt)) λ a.
-    on (eqb st 0x0B) (λ b. rw (a, b) (lit≤ tt)) λ b.
-    on (eqb st 0x0C) (λ c. rw (a, b, c) (lit≤ tt)) λ c.
-    on (eqb st 0x0E) (λ d. rw (a, b, c, d) (lit≤ tt)) λ d.
+    by-test (eqb st 0x0A) (λ a. rw a (lit≤ tt)) λ a.
+    by-test (eqb st 0x0B) (λ b. rw (a, b) (lit≤ tt)) λ b.
+    by-test (eqb st 0x0C) (λ c. rw (a, b, c) (lit≤ tt)) λ c.
+    by-test (eqb st 0x0E) (λ d. rw (a, b, c, d) (lit≤ tt)) λ d.
     absurd (false≢true (rw (a, b, c, d) at e))
 
 -- a unit that is not the point in time's is of another quantity
@@ -76,11 +77,11 @@ owes-or a b =
 -- a quantity is at most one of them
 one-owed : (n : ℕ) → owes (eqb n) ≤ cond (eqb n time) 8 4
 one-owed n =
-    on (eqb n energy) (λ a. rw (eqb-true n energy a) (lit≤ tt)) λ a.
-    on (eqb n volume) (λ b. rw (eqb-true n volume b) (lit≤ tt)) λ b.
-    on (eqb n inlet) (λ c. rw (eqb-true n inlet c) (lit≤ tt)) λ c.
-    on (eqb n outlet) (λ d. rw (eqb-true n outlet d) (lit≤ tt)) λ d.
-    on (eqb n time) (λ e. rw (eqb-true n time e) (lit≤ tt)) λ e.
+    by-test (eqb n energy) (λ a. rw (eqb-true n energy a) (lit≤ tt)) λ a.
+    by-test (eqb n volume) (λ b. rw (eqb-true n volume b) (lit≤ tt)) λ b.
+    by-test (eqb n inlet) (λ c. rw (eqb-true n inlet c) (lit≤ tt)) λ c.
+    by-test (eqb n outlet) (λ d. rw (eqb-true n outlet d) (lit≤ tt)) λ d.
+    by-test (eqb n time) (λ e. rw (eqb-true n time e) (lit≤ tt)) λ e.
     rw (a, b, c, d, e) (lit≤ tt)
 
 entry-least : (e : Entry) → wrongEntry e ≡ false → owes (eqb (quantityOf (e .unit))) ≤ 2 + widthOf (e .structure)
@@ -91,7 +92,7 @@ entry-least e h =
     let k = none (not (paired st u)) (wrongValue (widthOf st) u (e .value) ∷ []) h in
     let pair : paired st u ≡ true = not-false (paired st u) (k .0) in
     let one : owes (eqb (quantityOf u)) ≤ cond (eqb (quantityOf u) time) 8 4 = one-owed (quantityOf u) in
-    on (isTime u)
+    by-test (isTime u)
     (λ q.
     let w : widthOf st ≡ 6 = six-wide st u pair q in
     let most : cond (eqb (quantityOf u) time) 8 4 ≤ 8 = picked (λ (n : ℕ). n ≤ 8) (eqb (quantityOf u) time) 8 4 (lit≤ tt) (lit≤ tt) in

@@ -20,13 +20,16 @@ use Rattle.format.specs.Answers.{Answer, reads, refuse, within}
 use Rattle.format.specs.Headers.{headerOf, wrongHeader}
 use Rattle.format.specs.Entries.{missing, readEntries}
 use Rattle.format.specs.Telegrams.{readOf, enterOf, leaveOf, dataOf, bare}
-use Rattle.format.specs.Lines.{isAck, isShort, isLong, wrongStart, wrongCount, wrongLengths, wrongEnd, wrongSum, field, isMethod, isCommand, isData, readShort, commandOf, readData, readLong, readBody, readFrame}
+use Rattle.format.specs.Lines.{isAck, isShort, wrongStart, wrongCount, wrongLengths, wrongEnd, wrongSum, field, isMethod, isCommand, isData, readShort, commandOf, readData, readLong, readBody, readFrame}
 use Rattle.format.specs.Writing.{bytesOfHeader, bytesOfEntries, closed, shortFrame, longFrame, entriesOf, bytesOfKind, usedBody, usedEntry, unwrittenHeader, wrongEntry, repeats, wrongData, wrongFor, unwritable}
-use Rattle.format.specs.TestLaws.{none, every, on, picked, unrefused, passed, reads-same, within-reads}
+use Rattle.format.specs.TestLaws.{none, every, all-passed, within-reads}
+use Rattle.format.specs.Tests.{not-different, by-test, passed}
+use Rattle.format.specs.AnswerLaws.{reads-same}
 use Rattle.format.specs.ByteLaws.{Bytes, bytes-append, bytes-take, bytes-drop, spell, spell-whole}
 use Rattle.format.specs.HeaderLaws.{HeaderRead, header-read, header-length, header-written, Fits, header-bytes}
 use Rattle.format.specs.EntryLaws.{EntriesRead, entries-read, entries-written, entries-bytes}
 use Rattle.format.specs.LengthLaws.{entries-least, entries-most}
+use Rattle.format.specs.Frames.{Framed, Short, Long, form}
 use Rattle.format.specs.FrameLaws.{ack-read, short-read, long-read, short-written, closed-length, long-written, long-field}
 use Rattle.format.specs.TelegramLaws.{Sized, zero-of, bare-back, data-back, data-entries, data-writable}
 
@@ -65,8 +68,8 @@ pub record Round (b : List ℕ) (t : Telegram) : Type 0 where
 short-round : (b f : List ℕ) (t : Telegram) → b ≡ shortFrame f → length f ≡ 2 → readShort f ≡ reads t → Round b t
 unfolding unwritable any
 short-round b f t e n r =
-    let k = unrefused 9 (not (eqb (at f 0) 0x5B)) (reads (readOf (at f 1))) r in
-    let c : at f 0 ≡ 0x5B = eqb-true (at f 0) 0x5B (not-false (eqb (at f 0) 0x5B) (k .0)) in
+    let k = passed 9 (not (eqb (at f 0) 0x5B)) (reads (readOf (at f 1))) t r in
+    let c : at f 0 ≡ 0x5B = not-different (at f 0) 0x5B (k .0) in
     let form : f ≡ 0x5B ∷ at f 1 ∷ [] = spell-whole 2 f n ∙ rw c in
     subst (Round b) (reads-same (k .1)) (record { back = e ∙ ap shortFrame form; writable = refl })
 
@@ -77,7 +80,7 @@ command-round b f t e q r =
     let form : f ≡ 0x53 ∷ at f 1 ∷ 0x50 ∷ at f 3 ∷ [] =
     spell-whole 4 f (eqb-true (length f) 4 (k .0)) ∙ rw (eqb-true (at f 0) 0x53 (k .1 .0), eqb-true (at f 2) 0x50 (k .1 .1 .0)) in
     subst (Round b) (reads-same r)
-    (on (eqb (at f 3) 0x00)
+    (by-test (eqb (at f 3) 0x00)
     (λ z.
     let leave : f ≡ 0x53 ∷ at f 1 ∷ 0x50 ∷ 0x00 ∷ [] = form ∙ rw (eqb-true (at f 3) 0x00 z) in
     rw z (record { back = e ∙ ap longFrame leave; writable = refl }))
@@ -102,7 +105,7 @@ data-round b f t e bytes q r =
     let n : 15 ≤ length f = leb-true 15 (length f) (k .0) in
     let d : List ℕ = drop 3 f in
     let first : take 3 f ≡ 0x08 ∷ at f 1 ∷ 0x72 ∷ [] = spell 3 0 f (omega arith) ∙ rw (eqb-true (at f 0) 0x08 (k .1 .0), eqb-true (at f 2) 0x72 (k .1 .1 .0)) in
-    let u = unrefused 10 (wrongHeader d) (within (dataOf (at f 1) (headerOf d)) (readEntries 8 (drop 12 d) [])) r in
+    let u = passed 10 (wrongHeader d) (within (dataOf (at f 1) (headerOf d)) (readEntries 8 (drop 12 d) [])) t r in
     let w = within-reads (dataOf (at f 1) (headerOf d)) (readEntries 8 (drop 12 d) []) (u .1) in
     let o : HeaderRead d = header-read d (rw (length-drop 3 f) (omega arith)) (bytes-drop 3 f bytes) (u .0) in
     let es : EntriesRead (drop 12 d) [] (w .0) = entries-read 8 (drop 12 d) [] (w .0) (bytes-drop 12 d (bytes-drop 3 f bytes)) (lit≤ tt) (w .1) in
@@ -113,32 +116,31 @@ data-round b f t e bytes q r =
 
 long-round : (b f : List ℕ) (t : Telegram) → b ≡ longFrame f → Bytes f → readLong f ≡ reads t → Round b t
 long-round b f t e bytes r =
-    on (isCommand f) (λ q. command-round b f t e q (rw q at r))
+    by-test (isCommand f) (λ q. command-round b f t e q (rw q at r))
     (λ q.
-    let u = unrefused 9 (not (isData f)) (readData (at f 1) (drop 3 f)) (rw q at r) in
+    let u = passed 9 (not (isData f)) (readData (at f 1) (drop 3 f)) t (rw q at r) in
     data-round b f t e bytes (not-false (isData f) (u .0)) (u .1))
 
-field-bytes : (b : List ℕ) → Bytes b → Bytes (field b)
-field-bytes b h =
-    picked Bytes (isLong b) (take (length b - 6) (drop 4 b)) (take 2 (drop 1 b)) (bytes-take (length b - 6) (drop 4 b) (bytes-drop 4 b h))
-    (bytes-take 2 (drop 1 b) (bytes-drop 1 b h))
+short-bytes : (b : List ℕ) (t : Telegram) → isShort b ≡ true → Short b → readShort (field b) ≡ reads t → Round b t
+short-bytes b t q s r =
+    let z : at b 0 ≡ 0x10 = eqb-true (at b 0) 0x10 q in
+    let h = short-read b z s in
+    short-round b (take 2 (drop 1 b)) t (h .0) (h .1) (rw z at r)
+
+long-bytes : (b : List ℕ) (t : Telegram) → Bytes b → Long b → readLong (field b) ≡ reads t → Round b t
+long-bytes b t bytes l r =
+    let f : List ℕ = take (length b - 6) (drop 4 b) in
+    let is : field b ≡ f = rw (l .start) in
+    long-round b f t (long-read b l) (bytes-take (length b - 6) (drop 4 b) (bytes-drop 4 b bytes)) (ap readLong (sym is) ∙ r)
 
 pub frame-round : (b : List ℕ) (t : Telegram) → Bytes b → readFrame readBody b ≡ reads t → Round b t
 unfolding readBody unwritable any
 frame-round b t bytes r =
-    let k = passed ((4, wrongStart b) ∷ (5, wrongCount b) ∷ (6, wrongLengths b) ∷ (7, wrongEnd b) ∷ (8, wrongSum b) ∷ []) (readBody b) r in
-    let count : wrongCount b ≡ false = k .0 .1 .0 in
-    let end : wrongEnd b ≡ false = k .0 .1 .1 .1 .0 in
-    let sum : wrongSum b ≡ false = k .0 .1 .1 .1 .1 .0 in
-    on (isAck b)
-    (λ q. subst (Round b) (reads-same (rw q at (k .1))) (record { back = ack-read b q count; writable = refl }))
-    (λ a. on (isShort b)
-    (λ q.
-    let h = short-read b (field b) refl count end sum q in
-    short-round b (field b) t (h .0) (h .1) (rw (a, q) at (k .1)))
-    (λ p.
-    let q : isLong b ≡ true = not-false (isLong b) (rw (a, p) at (k .0 .0)) in
-    long-round b (field b) t (long-read b (field b) refl count end sum q (k .0 .1 .1 .0)) (field-bytes b bytes) (rw (a, p) at (k .1))))
+    let k = all-passed ((4, wrongStart b) ∷ (5, wrongCount b) ∷ (6, wrongLengths b) ∷ (7, wrongEnd b) ∷ (8, wrongSum b) ∷ []) (readBody b) r in
+    let f : Framed b = record { start = k .0 .0; count = k .0 .1 .0; lengths = k .0 .1 .1 .0; end = k .0 .1 .1 .1 .0; sum = k .0 .1 .1 .1 .1 .0 } in
+    by-test (isAck b) (λ q. subst (Round b) (reads-same (rw q at (k .1))) (record { back = ack-read b q (rw q at (form b f)); writable = refl }))
+    (λ a. by-test (isShort b) (λ q. short-bytes b t q (rw (a, q) at (form b f)) (rw (a, q) at (k .1)))
+    (λ q. long-bytes b t bytes (rw (a, q) at (form b f)) (rw (a, q) at (k .1))))
 
 -- ---- from a telegram that can be written to its line and back
 

@@ -15,7 +15,8 @@ use Rattle.format.specs.Characters.{over, odd, byteOf, carrier}
 use Rattle.format.specs.Answers.{reads}
 use Rattle.format.specs.Lines.{readBody, readFrame, readLine}
 use Rattle.format.specs.Writing.{entriesOf, bytesOfKind, lineOf, wrongData, wrongFor, unwritable}
-use Rattle.format.specs.TestLaws.{none, on, passed, passing}
+use Rattle.format.specs.TestLaws.{none, all-passed, all-passing}
+use Rattle.format.specs.Tests.{by-test}
 use Rattle.format.specs.ByteLaws.{bytes-of}
 use Rattle.format.specs.LineLaws.{even-line, Carried, carried, Round, frame-round, Reads, kind-reads, data-length, good-data, kind-length}
 use Rattle.format.specs.TelegramLaws.{Sized}
@@ -28,7 +29,7 @@ pub record Rewritten (s : List ℕ) (t : Telegram) : Type 0 where
 pub read-then-write : (s : List ℕ) (t : Telegram) → readLine s ≡ reads t → Rewritten s t
 unfolding readLine lineOf
 read-then-write s t r =
-    let k = passed ((1, eqb (length s) 0) ∷ (2, any over s) ∷ (3, any odd s) ∷ []) (readFrame readBody (map byteOf s)) r in
+    let k = all-passed ((1, eqb (length s) 0) ∷ (2, any over s) ∷ (3, any odd s) ∷ []) (readFrame readBody (map byteOf s)) r in
     let o : Round (map byteOf s) t = frame-round (map byteOf s) t (bytes-of s) (k .1) in
     record { same = even-line s (k .0 .1 .0) (k .0 .1 .1 .0) ∙ ap (map carrier) (o .back); writable = o .writable }
 
@@ -40,7 +41,7 @@ write-then-read t z w =
     let r : Reads b t = kind-reads t (t .kind) refl z w in
     let c : Carried b = carried b (r .bytes) in
     let n : length (map carrier b) ≡ length b = length-map b carrier in
-    passing ((1, eqb (length (map carrier b)) 0) ∷ (2, any over (map carrier b)) ∷ (3, any odd (map carrier b)) ∷ []) (readFrame readBody (map byteOf (map carrier b)))
+    all-passing ((1, eqb (length (map carrier b)) 0) ∷ (2, any over (map carrier b)) ∷ (3, any odd (map carrier b)) ∷ []) (readFrame readBody (map byteOf (map carrier b)))
     (ne-eqb (length (map carrier b)) 0 (omega (arith, r .begun)), (c .range, (c .even, tt)))
     ∙ ap (readFrame readBody) (c .back) ∙ r .back
 
@@ -48,7 +49,7 @@ write-then-read t z w =
 pub refusal-20 : (t : Telegram) → Sized t → (unwritable t ≡ true) ↔ ((s : List ℕ) → readLine s ≡ reads t → ⊥)
 refusal-20 t z = (
   λ w s r. true≢false (sym w ∙ read-then-write s t r .writable),
-  λ none. on (unwritable t) (λ w. w) (λ w. absurd (none (lineOf t) (write-then-read t z w))),
+  λ none. by-test (unwritable t) (λ w. w) (λ w. absurd (none (lineOf t) (write-then-read t z w))),
 )
 
 -- For a telegram that can be written there is exactly one accepted line.

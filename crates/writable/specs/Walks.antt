@@ -13,9 +13,11 @@ use Rattle.format.specs.declared.Kind.{Kind}
 use Rattle.format.specs.declared.Entry.{Entry}
 use Rattle.format.specs.declared.Telegram.{Telegram}
 use Rattle.format.specs.Lists.{any}
+use Rattle.format.specs.ListLaws.{any-snoc}
 use Rattle.format.specs.Quantities.{quantityOf, between, energy, volume, power, flow, inlet, outlet, time, unknown}
 use Rattle.format.specs.Entries.{seen, missing}
-use Rattle.format.specs.TestLaws.{on, picked}
+use Rattle.format.specs.TestLaws.{picked}
+use Rattle.format.specs.Tests.{by-test}
 use Rattle.format.specs.Writing.{entriesOf, usedEntry, wrongEntry, unwrittenHeader, repeats, wrongData, wrongFor, unwritable}
 
 -- ---- a walk that looks from a place on
@@ -43,11 +45,6 @@ looked-all {test = test} {s} {from} {i} {found} g h = sym (or-false found) ∙ a
 -- one is wrong, one repeats a quantity, or a required quantity is missing
 abbrev pub wrongTogether : List Entry → Bool
 wrongTogether es = any wrongEntry es || repeats [] es || missing es
-
-any-append : {A : Type 0} (test : A → Bool) (s r : List A) → any test (s ++ r) ≡ (any test s || any test r)
-unfolding any
-any-append test [] r = refl
-any-append test (x ∷ s) r = ap (λ (t : Bool). test x || t) (any-append test s r) ∙ sym (or-assoc (test x) (any test s) (any test r))
 
 pub quantity-below : (u : ℕ) → quantityOf u < 8
 unfolding quantityOf
@@ -81,16 +78,16 @@ unfolding any
 mark marks done e q n h m =
     let p : ℕ = quantityOf (e .unit) in
     let small : p < 8 = quantity-below (e .unit) in
-    let more : seen q (done ++ (e ∷ [])) ≡ (seen q done || (eqb p q || false)) = any-append (λ (x : Entry). eqb (quantityOf (x .unit)) q) done (e ∷ []) in
-    on (eqb p q)
+    let more : seen q (done ++ (e ∷ [])) ≡ (seen q done || eqb p q) = any-snoc (λ (x : Entry). eqb (quantityOf (x .unit)) q) done e in
+    by-test (eqb p q)
     (λ y.
     let same : p ≡ q = eqb-true p q y in
     let now : getD (set marks p true) p false ≡ true = getD-set-same marks p true false (omega arith) in
-    let then : (seen q done || (eqb p q || false)) ≡ true = rw y (or-true (seen q done)) in
+    let then : (seen q done || eqb p q) ≡ true = rw y (or-true (seen q done)) in
     ap (λ (k : ℕ). getD (set marks p true) k false) (sym same) ∙ now ∙ sym (more ∙ then))
     (λ y.
     let other : q ≡ p → ⊥ = λ (z : q ≡ p). eqb-false p q y (sym z) in
-    let then : (seen q done || (eqb p q || false)) ≡ seen q done = rw y (or-false (seen q done)) in
+    let then : (seen q done || eqb p q) ≡ seen q done = rw y (or-false (seen q done)) in
     getD-set-other marks p q true false other ∙ m ∙ sym (more ∙ then))
 
 module _ {es : List Entry} {i : ℕ} {wrong : Bool} {marks : List Bool} (g : Walked es i wrong marks) where

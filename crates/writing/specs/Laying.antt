@@ -18,7 +18,7 @@ use Rattle.format.specs.declared.Kind.the-variants.{Data}
 use Rattle.format.specs.declared.Entry.{Entry}
 use Rattle.format.specs.declared.Telegram.{Telegram}
 use Rattle.format.specs.Lists.{any, total}
-use Rattle.format.specs.Tests.{below}
+use Rattle.format.specs.Tests.{below, none-at}
 use Rattle.format.specs.Characters.{carrier}
 use Rattle.format.specs.Folding.{fold}
 use Rattle.format.specs.Digits.{packed}
@@ -217,12 +217,6 @@ any-front test (suc j) (x ∷ s) h =
     let k = none (test x) (any test s ∷ []) h in
     rw (k .0) (any-front test j s (k .1 .0))
 
-any-at : {A : Type 0} (test : A → Bool) (i : ℕ) (s : List A) (d : A) → any test s ≡ false → i < length s → test (getD s i d) ≡ false
-unfolding any
-any-at test i [] d h l = absurd (not-suc-le-zero l)
-any-at test zero (x ∷ s) d h l = none (test x) (any test s ∷ []) h .0
-any-at test (suc i) (x ∷ s) d h l = any-at test i s d (none (test x) (any test s ∷ []) h .1 .0) (omega arith)
-
 entries-append : (a b : List Entry) → bytesOfEntries (a ++ b) ≡ bytesOfEntries a ++ bytesOfEntries b
 unfolding bytesOfEntries
 entries-append [] b = refl
@@ -269,7 +263,7 @@ module _ {entries : List Entry} {count : ℕ} {before : List ℕ} {i at : ℕ} {
       let f : EntriesFit entries count before = g .fit in
       let seven : length entries ≡ 7 = g .places in
       let size : length (take count entries) ≡ count = length-take-le count entries (omega arith) in
-      let right : wrongEntry e ≡ false = rw (getD-take count entries i d h) at (any-at wrongEntry i (take count entries) d (f .right) (omega arith)) in
+      let right : wrongEntry e ≡ false = rw (getD-take count entries i d h) at (none-at wrongEntry (take count entries) d i (f .right) (omega arith)) in
       let all : any wrongEntry (take (suc i) entries) ≡ false = rw (take-take (suc i) count entries h) at (any-front wrongEntry (suc i) (take count entries) (f .right)) in
       let few : length (take (suc i) entries) ≤ 7 = rw (length-take (suc i) entries) (omega arith) in
       let most : length (bytesOfEntries (take (suc i) entries)) ≤ 56 = entries-most (take (suc i) entries) all few in

@@ -1,5 +1,6 @@
 // Line writing.
 mod bytes;
+
 ghost use Rattle.writing.specs.Answering.{WritesLine};
 use bytes::carry;
 use bytes::put_bytes;
