@@ -12,9 +12,9 @@ use Rattle.format.specs.declared.Kind.the-variants.{Data}
 use Rattle.format.specs.declared.Telegram.{Telegram}
 use Rattle.format.specs.Lists.{at, any}
 use Rattle.format.specs.Characters.{over, odd, byteOf, carrier}
-use Rattle.format.specs.Answers.{reads}
+use Rattle.format.specs.Answers.{reads, refusal}
 use Rattle.format.specs.Lines.{readBody, readFrame, readLine}
-use Rattle.format.specs.Writing.{entriesOf, bytesOfKind, lineOf, wrongData, wrongFor, unwritable}
+use Rattle.format.specs.Writing.{entriesOf, bytesOfKind, lineOf, wrongData, wrongFor, unwritable, writeLine}
 use Rattle.format.specs.TestLaws.{none, all-passed, all-passing}
 use Rattle.format.specs.Tests.{by-test}
 use Rattle.format.specs.ByteLaws.{bytes-of}
@@ -55,6 +55,10 @@ refusal-20 t z = (
 -- For a telegram that can be written there is exactly one accepted line.
 pub one-line : (t : Telegram) → Sized t → unwritable t ≡ false → (readLine (lineOf t) ≡ reads t) × ((s : List ℕ) → readLine s ≡ reads t → s ≡ lineOf t)
 one-line t z w = (write-then-read t z w, λ s r. read-then-write s t r .same)
+
+-- Within 20 and 21 the lower goes first.
+pub lower-first : (t : Telegram) (places : ℕ) → unwritable t ≡ true → writeLine t places ≡ refusal 20
+lower-first t places w = rw w
 
 -- L runs from 39 to 71.
 pub data-lengths : (t : Telegram) → wrongFor Data t ≡ false → (39 ≤ at (bytesOfKind Data t) 1) × (at (bytesOfKind Data t) 1 ≤ 71)

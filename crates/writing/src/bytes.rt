@@ -224,9 +224,9 @@ pub(crate) fn carry(bytes: &[u8], out: &mut [u16])
     requires { ⌜ length (now bytes) ≤ length (now out) ⌝ }
     ensures { λ _. ⌜ now (out .exit) ≡ map carrier (now (bytes .entry)) ++ drop (length (now (bytes .entry))) (now (out .entry)) ⌝ }
 {
-    let mut i = 0;
-    while i < bytes.len() {
-        out[i] = carrier_of(bytes[i]);
-        i += 1;
+    let mut place = 0;
+    while place < bytes.len() {
+        out[place] = carrier_of(bytes[place]);
+        place += 1;
     }
 }

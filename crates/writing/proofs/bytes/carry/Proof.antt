@@ -8,10 +8,10 @@ use Rattle.writing.proofs.bytes.carry.Statement.{statement}
 use Rattle.writing.proofs.bytes.carry.Tie as tie
 
 abbrev Inv-loop : tie.InvT-loop
-Inv-loop bytes out₀ i₀ out i = Carried bytes out₀ i out
+Inv-loop bytes out₀ place₀ out place = Carried bytes out₀ place out
 
 abbrev μ-loop : tie.MeasureT-loop
-μ-loop bytes out₀ i₀ out i = length bytes - i
+μ-loop bytes out₀ place₀ out place = length bytes - place
 
 loop-holds : tie.Need-loop-holds Inv-loop μ-loop
 loop-holds c = carried-none (c .before .before .pre)
@@ -28,8 +28,8 @@ mul-out c = omega (arith, c .before .before .before .before .before .before .goo
 slice-write-out : tie.Need-slice-write-out Inv-loop μ-loop
 slice-write-out c = let n = carried-length (c .before .before .before .loop .inv) in omega (arith, c .before .before .before .before .before .before .pre)
 
-add-i : tie.Need-add-i Inv-loop μ-loop
-add-i c = search needs
+add-place : tie.Need-add-place Inv-loop μ-loop
+add-place c = search needs
 
 loop-less : tie.Need-loop-less Inv-loop μ-loop
 loop-less c = search needs
@@ -54,7 +54,7 @@ carry-spec =
     carrier-of-requires
     mul-out
     slice-write-out
-    add-i
+    add-place
     loop-less
     loop-again
     same-length
