@@ -25,3 +25,15 @@ pub mod Closing
 pub mod Frames
 pub mod LineCode
 pub mod FourFlips
+-- Demand 2: what is read and what is written undo each other.
+pub mod TestLaws
+pub mod ByteLaws
+pub mod DigitLaws
+pub mod MomentLaws
+pub mod HeaderLaws
+pub mod EntryLaws
+pub mod LengthLaws
+pub mod FrameLaws
+pub mod TelegramLaws
+pub mod LineLaws
+pub mod RoundTrip
