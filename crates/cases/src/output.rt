@@ -1,0 +1,95 @@
+// Standard output, by way of a buffer. Each function is told how many bytes wait in the buffer, and
+// answers how many wait then.
+use crate::input::Run;
+use libc::STDOUT_FILENO;
+
+// Puts a byte behind those that wait, which are written first where the buffer is full.
+pub fn put(out: &mut [u8; 4096], at: usize, b: u8) -> usize {
+    if at < 4096 {
+        out[at] = b;
+        at + 1
+    } else {
+        io::write_all(STDOUT_FILENO, out);
+        out[0] = b;
+        1
+    }
+}
+
+pub fn put_text(out: &mut [u8; 4096], at: usize, text: &[u8]) -> usize {
+    let mut next = at;
+    for i in 0..text.len() {
+        next = put(out, next, text[i]);
+    }
+    next
+}
+
+// A hexadecimal digit, of a number's last four bits.
+fn digit(n: u16) -> u8 {
+    let d = (n % 16) as u8;
+    if d < 10 { 48 + d } else { 55 + d }
+}
+
+// Two hexadecimal digits behind a space.
+pub fn put_byte(out: &mut [u8; 4096], at: usize, b: u8) -> usize {
+    let n = b as u16;
+    let spaced = put(out, at, b' ');
+    let high = put(out, spaced, digit(n / 16));
+    put(out, high, digit(n))
+}
+
+// Three hexadecimal digits behind a space.
+fn put_three(out: &mut [u8; 4096], at: usize, n: u16) -> usize {
+    let high = put(out, at, digit(n / 256));
+    let mid = put(out, high, digit(n / 16));
+    put(out, mid, digit(n))
+}
+
+pub fn put_four(out: &mut [u8; 4096], at: usize, n: u16) -> usize {
+    let spaced = put(out, at, b' ');
+    let high = put(out, spaced, digit(n / 4096));
+    put_three(out, high, n)
+}
+
+// A character: three hexadecimal digits, four above FFF.
+pub fn put_character(out: &mut [u8; 4096], at: usize, c: u16) -> usize {
+    if c > 0xFFF {
+        return put_four(out, at, c);
+    }
+    let spaced = put(out, at, b' ');
+    put_three(out, spaced, c)
+}
+
+fn put_digits(out: &mut [u8; 4096], at: usize, n: u64) -> usize {
+    let mut text = [0u8; 20];
+    let k = io::decimal(n, &mut text);
+    put_text(out, at, &text[..k])
+}
+
+// A decimal number with its sign, behind a space.
+pub fn put_decimal(out: &mut [u8; 4096], at: usize, n: u64) -> usize {
+    let signed = put_text(out, at, b" +");
+    put_digits(out, signed, n)
+}
+
+pub fn put_refusal(out: &mut [u8; 4096], at: usize, n: u16) -> usize {
+    let said = put_text(out, at, b"refused ");
+    put_digits(out, said, n as u64)
+}
+
+pub fn put_bad(out: &mut [u8; 4096], at: usize) -> usize {
+    put_text(out, at, b"bad case")
+}
+
+// Ends an answer behind which so many bytes wait.
+pub fn end_line(run: Run, out: &mut [u8; 4096], at: usize) -> Run {
+    let waiting = put(out, at, b'\n');
+    Run { waiting, ..run }
+}
+
+// Writes what waits.
+pub fn write_out(run: Run, out: &[u8]) {
+    let waiting = run.waiting;
+    if waiting <= out.len() {
+        io::write_all(STDOUT_FILENO, &out[0..waiting]);
+    }
+}
