@@ -22,6 +22,6 @@ pub use output::put_refusal;
 pub use output::put_text;
 pub use output::write_out;
 pub use words::Number;
-pub use words::characters;
+pub use words::characters_at;
 pub use words::has_name;
 pub use words::number_at;

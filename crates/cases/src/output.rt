@@ -86,10 +86,13 @@ pub fn end_line(run: Run, out: &mut [u8; 4096], at: usize) -> Run {
     Run { waiting, ..run }
 }
 
-// Writes what waits.
-pub fn write_out(run: Run, out: &[u8]) {
-    let waiting = run.waiting;
-    if waiting <= out.len() {
-        io::write_all(STDOUT_FILENO, &out[0..waiting]);
+fn write_first(out: &[u8], n: usize) {
+    if n <= out.len() {
+        io::write_all(STDOUT_FILENO, &out[0..n]);
     }
+}
+
+// Writes what waits.
+pub fn write_out(run: Run, out: &[u8; 4096]) {
+    write_first(out, run.waiting);
 }

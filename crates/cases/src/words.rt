@@ -1,4 +1,6 @@
 // The words of a case.
+ghost use Prim.Native.Nat.{_≤_};
+ghost use lib.ListN.{length};
 use crate::word::Word;
 
 // A number at a place, if there is one there that is no larger than asked.
@@ -49,20 +51,27 @@ pub fn number_at(
     }
 }
 
-// The characters behind the first word, and whether all other words are characters.
-pub fn characters(
+// Puts the characters that stand in a row from a place on into a line, and answers how many.
+pub fn characters_at(
     names: &[bool; 4096],
     values: &[u64; 4096],
     count: usize,
-    line: &mut [u16; 4096],
-) -> bool {
-    let mut are_there = true;
-    for at in 1..count {
-        let next = number_at(names, values, count, at, 0xFFFF);
-        if at < 4096 {
-            line[at - 1] = (next.value % 65536) as u16;
+    from: usize,
+    line: &mut [u16],
+) -> usize
+    ensures { λ r. ⌜ r ≤ length (now (line .exit)) ⌝ }
+{
+    let mut many = 0;
+    for at in from..count {
+        let c = number_at(names, values, count, at, 0xFFFF);
+        if !c.is_there {
+            break;
         }
-        are_there = are_there & next.is_there;
+        if line.len() <= many {
+            break;
+        }
+        line[many] = (c.value % 65536) as u16;
+        many += 1;
     }
-    are_there
+    many
 }

@@ -63,7 +63,12 @@ fn byte(n: u64) -> u8 {
 fn take_moment(names: &[bool; 4096], values: &[u64; 4096], count: usize, at: usize) -> TakenMoment {
     let numbers = numbers_at(names, values, count, at);
     let n = numbers.values;
-    let do_fit = (n[0] < 256) & (n[1] < 256) & (n[2] < 256) & (n[3] < 256) & (n[4] < 256) & (n[5] < 256);
+    let do_fit = (n[0] < 256)
+        & (n[1] < 256)
+        & (n[2] < 256)
+        & (n[3] < 256)
+        & (n[4] < 256)
+        & (n[5] < 256);
     let moment = Moment {
         year: byte(n[0]),
         month: byte(n[1]),
@@ -104,7 +109,11 @@ fn take_entry(names: &[bool; 4096], values: &[u64; 4096], count: usize, at: usiz
     }
     let is_number = has_name(names, values, count, third, b"number");
     let n = number_at(names, values, count, fourth, u64::MAX);
-    let counted = entry_of(structure.value, unit.value, Value::Number(Decimal { count: n.value }));
+    let counted = entry_of(
+        structure.value,
+        unit.value,
+        Value::Number(Decimal { count: n.value }),
+    );
     TakenEntry {
         is_there: is_pair & is_number & n.is_there,
         next: wrapping_add_usize(at, 4),
