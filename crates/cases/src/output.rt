@@ -1,7 +1,12 @@
 // Standard output, by way of a buffer. Each function is told how many bytes wait in the buffer, and
 // answers how many wait then.
+ghost use Prim.Native.Nat.{_≤_};
+ghost use lib.ListN.{length};
 use crate::input::Run;
 use libc::STDOUT_FILENO;
+
+// What a place that no writer has touched holds.
+pub const MARKER: u16 = 0xFFFF;
 
 // Puts a byte behind those that wait, which are written first where the buffer is full.
 pub fn put(out: &mut [u8; 4096], at: usize, b: u8) -> usize {
@@ -71,6 +76,32 @@ pub fn put_decimal(out: &mut [u8; 4096], at: usize, n: u64) -> usize {
     put_digits(out, signed, n)
 }
 
+// How far a number is from 0.
+fn size_of(n: i64) -> u64 {
+    if n < 0 {
+        let next = n + 1;
+        let size = -next;
+        return size as u64 + 1;
+    }
+    n as u64
+}
+
+// The same of a number that may be negative.
+pub fn put_signed(out: &mut [u8; 4096], at: usize, n: i64) -> usize {
+    let size = size_of(n);
+    if n < 0 {
+        let signed = put_text(out, at, b" -");
+        return put_digits(out, signed, size);
+    }
+    put_decimal(out, at, size)
+}
+
+// What was written and how long it is.
+pub fn put_length(out: &mut [u8; 4096], at: usize, length: usize) -> usize {
+    let said = put_text(out, at, b"wrote");
+    put_decimal(out, said, length as u64)
+}
+
 pub fn put_refusal(out: &mut [u8; 4096], at: usize, n: u16) -> usize {
     let said = put_text(out, at, b"refused ");
     put_digits(out, said, n as u64)
@@ -78,6 +109,33 @@ pub fn put_refusal(out: &mut [u8; 4096], at: usize, n: u16) -> usize {
 
 pub fn put_bad(out: &mut [u8; 4096], at: usize) -> usize {
     put_text(out, at, b"bad case")
+}
+
+// How many places there are up to the last that does not hold MARKER.
+fn touched(buffer: &[u16]) -> usize
+    ensures { λ r. ⌜ r ≤ length (now (buffer .entry)) ⌝ }
+{
+    let mut last = 0;
+    for i in 0..buffer.len() {
+        if buffer[i] != MARKER {
+            last = i + 1;
+        }
+    }
+    last
+}
+
+fn put_characters(out: &mut [u8; 4096], at: usize, characters: &[u16]) -> usize {
+    let mut next = at;
+    for i in 0..characters.len() {
+        next = put_character(out, next, characters[i]);
+    }
+    next
+}
+
+// What a writer left in a buffer, every place of which held MARKER before.
+pub fn put_buffer(out: &mut [u8; 4096], at: usize, buffer: &[u16]) -> usize {
+    let n = touched(buffer);
+    put_characters(out, at, &buffer[0..n])
 }
 
 // Ends an answer behind which so many bytes wait.
