@@ -1,7 +1,4 @@
 // Standard input, a line at a time.
-use crate::output::end_line;
-use crate::output::put;
-use crate::output::put_bad;
 use crate::word::Word;
 use libc::STDIN_FILENO;
 
@@ -157,7 +154,7 @@ fn next_line(
         }
         line = line.with(next.byte, names, values);
         if line.is_note {
-            waiting = put(out, waiting, next.byte);
+            waiting = answers::put(out, waiting, next.byte);
         }
     }
     let whole = line.end_word(names, values);
@@ -188,9 +185,10 @@ pub fn next_case(
         }
         let mut said = next.waiting;
         if !next.is_note {
-            said = put_bad(out, said);
+            said = answers::put_bad(out, said);
         }
-        next = end_line(next, out, said);
+        let waiting = answers::end_line(out, said);
+        next = Run { waiting, ..next };
     }
     next
 }

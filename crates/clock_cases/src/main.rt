@@ -6,15 +6,15 @@ use clock::Wake;
 
 fn put_gap(out: &mut [u8; 4096], at: usize, gap: Gap) -> usize {
     match gap {
-        Gap::Refused(n) => cases::put_refusal(out, at, n),
-        Gap::Fine => cases::put_text(out, at, b"fine"),
+        Gap::Refused(n) => answers::put_refusal(out, at, n),
+        Gap::Fine => answers::put_text(out, at, b"fine"),
     }
 }
 
 fn put_wake(out: &mut [u8; 4096], at: usize, wake: Wake) -> usize {
     match wake {
-        Wake::Refused(n) => cases::put_refusal(out, at, n),
-        Wake::Written(n) => cases::put_length(out, at, n),
+        Wake::Refused(n) => answers::put_refusal(out, at, n),
+        Wake::Written(n) => answers::put_length(out, at, n),
     }
 }
 
@@ -22,7 +22,7 @@ fn put_wake(out: &mut [u8; 4096], at: usize, wake: Wake) -> usize {
 fn answer_wake(out: &mut [u8; 4096], at: usize, count: usize, buffer: &mut [u16]) -> usize {
     let wake = clock::write_wake(count, buffer);
     let said = put_wake(out, at, wake);
-    cases::put_buffer(out, said, buffer)
+    answers::put_buffer(out, said, buffer)
 }
 
 fn answer(
@@ -40,7 +40,7 @@ fn answer(
     }
     let places = second.value;
     if are_there & (places <= 600) & cases::has_name(names, values, count, 0, b"wake") {
-        let mut buffer = [cases::MARKER; 600];
+        let mut buffer = [answers::MARKER; 600];
         return answer_wake(
             out,
             at,
@@ -48,7 +48,7 @@ fn answer(
             &mut buffer[0..(places % 601) as usize],
         );
     }
-    cases::put_bad(out, at)
+    answers::put_bad(out, at)
 }
 
 // One case and its answer.
@@ -64,7 +64,8 @@ fn turn(
         return next;
     }
     let said = answer(names, values, next.count, out, next.waiting);
-    cases::end_line(next, out, said)
+    let waiting = answers::end_line(out, said);
+    Run { waiting, ..next }
 }
 
 fn main() {
@@ -79,5 +80,5 @@ fn main() {
             break;
         }
     }
-    cases::write_out(run, &out);
+    answers::write_out(&out, run.waiting);
 }

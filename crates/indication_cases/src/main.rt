@@ -4,10 +4,10 @@ use indication::Indication;
 
 fn put_indication(out: &mut [u8; 4096], at: usize, found: Indication) -> usize {
     match found {
-        Indication::Refused(n) => cases::put_refusal(out, at, n),
+        Indication::Refused(n) => answers::put_refusal(out, at, n),
         Indication::Error(tenths) => {
-            let said = cases::put_text(out, at, b"error");
-            cases::put_signed(out, said, tenths)
+            let said = answers::put_text(out, at, b"error");
+            answers::put_signed(out, said, tenths)
         }
     }
 }
@@ -31,7 +31,7 @@ fn answer(
             indication::error_of(m1.value, m2.value, s1.value, s2.value),
         );
     }
-    cases::put_bad(out, at)
+    answers::put_bad(out, at)
 }
 
 // One case and its answer.
@@ -47,7 +47,8 @@ fn turn(
         return next;
     }
     let said = answer(names, values, next.count, out, next.waiting);
-    cases::end_line(next, out, said)
+    let waiting = answers::end_line(out, said);
+    Run { waiting, ..next }
 }
 
 fn main() {
@@ -62,5 +63,5 @@ fn main() {
             break;
         }
     }
-    cases::write_out(run, &out);
+    answers::write_out(&out, run.waiting);
 }

@@ -7,7 +7,7 @@ fn put_reading(out: &mut [u8; 4096], at: usize, reading: Reading) -> usize {
     let outcome = reading.outcome;
     let telegram = reading.telegram;
     match outcome {
-        Outcome::Refused(n) => cases::put_refusal(out, at, n),
+        Outcome::Refused(n) => answers::put_refusal(out, at, n),
         Outcome::Accepted => telegrams::put_telegram(out, at, telegram),
     }
 }
@@ -25,7 +25,7 @@ fn answer(
     if is_whole & cases::has_name(names, values, count, 0, b"read") {
         return put_reading(out, at, reading::read_line(&line[0..n]));
     }
-    cases::put_bad(out, at)
+    answers::put_bad(out, at)
 }
 
 // One case and its answer.
@@ -41,7 +41,8 @@ fn turn(
         return next;
     }
     let said = answer(names, values, next.count, out, next.waiting);
-    cases::end_line(next, out, said)
+    let waiting = answers::end_line(out, said);
+    Run { waiting, ..next }
 }
 
 fn main() {
@@ -56,5 +57,5 @@ fn main() {
             break;
         }
     }
-    cases::write_out(run, &out);
+    answers::write_out(&out, run.waiting);
 }

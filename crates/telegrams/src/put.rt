@@ -1,8 +1,8 @@
 // A telegram put into an answer.
-use cases::put_byte;
-use cases::put_decimal;
-use cases::put_four;
-use cases::put_text;
+use answers::put_byte;
+use answers::put_decimal;
+use answers::put_four;
+use answers::put_text;
 use format::Entry;
 use format::Header;
 use format::Kind;

@@ -1,10 +1,10 @@
--- `cases::output::put_characters` is safe and ends.
+-- `answers::put_characters` is safe and ends.
 use Prim.Native.Nat.{_≤_, _-_}
 use mathlib.Core.Path.{_≡_}
 use lib.ListN.{length}
 use borrow.Author.Needs.{needs}
-use Rattle.cases.proofs.output.put_characters.Statement.{statement}
-use Rattle.cases.proofs.output.put_characters.Tie as tie
+use Rattle.answers.proofs.put_characters.Statement.{statement}
+use Rattle.answers.proofs.put_characters.Tie as tie
 
 abbrev Inv-loop : tie.InvT-loop
 Inv-loop out₀ at characters next₀ i₀ i-end out next i = (i ≤ i-end) × (i-end ≡ length characters)

@@ -1,4 +1,4 @@
--- `cases::output::size_of` is safe: below 0 the number is -(k + 1) for some k, one more is -k, and k + 1 fits.
+-- `answers::size_of` is safe: below 0 the number is -(k + 1) for some k, one more is -k, and k + 1 fits.
 use Prim.Native.Nat.{ℕ, zero, suc, _<_, _^_}
 use mathlib.Core.Path.{_≡_, _∙_, ap}
 use mathlib.Core.Bool.{true, false}
@@ -11,8 +11,8 @@ use mir.Val.{SFits, Fits, toZ, ofZ}
 use mir.ValLaws.{toZ-ofZ}
 use borrow.Author.Needs.{needs}
 use borrow.Author.Tests.{ltb-true}
-use Rattle.cases.proofs.output.size_of.Statement.{statement}
-use Rattle.cases.proofs.output.size_of.Tie as tie
+use Rattle.answers.proofs.size_of.Statement.{statement}
+use Rattle.answers.proofs.size_of.Tie as tie
 
 -- a number, stored and read again
 abbrev stored : ℤ → ℤ

@@ -1,12 +1,12 @@
--- `cases::output::touched` is safe, ends, and counts no more places than there are.
+-- `answers::touched` is safe, ends, and counts no more places than there are.
 use Prim.Native.Nat.{_≤_, _-_}
 use mathlib.Core.Path.{_≡_}
 use lib.ListN.{length}
 use mathlib.Core.Logic.{⊎-elim}
 use native.Mathlib.Omega.{arith}
 use borrow.Author.Needs.{needs}
-use Rattle.cases.proofs.output.touched.Statement.{statement}
-use Rattle.cases.proofs.output.touched.Tie as tie
+use Rattle.answers.proofs.touched.Statement.{statement}
+use Rattle.answers.proofs.touched.Tie as tie
 
 abbrev Inv-loop : tie.InvT-loop
 Inv-loop buffer last₀ i₀ i-end last i = (i ≤ i-end) × (i-end ≡ length buffer) × (last ≤ i)

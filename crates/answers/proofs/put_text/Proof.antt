@@ -1,11 +1,11 @@
--- `cases::output::put_text` is safe and ends.
+-- `answers::put_text` is safe and ends.
 use Prim.Native.Nat.{_≤_, _-_}
 use native.Mathlib.Omega.{arith}
 use mathlib.Core.Path.{_≡_}
 use lib.ListN.{length}
 use borrow.Author.Needs.{needs}
-use Rattle.cases.proofs.output.put_text.Statement.{statement}
-use Rattle.cases.proofs.output.put_text.Tie as tie
+use Rattle.answers.proofs.put_text.Statement.{statement}
+use Rattle.answers.proofs.put_text.Tie as tie
 
 abbrev Inv-loop : tie.InvT-loop
 Inv-loop out₀ at text next₀ i₀ i-end out next i = (i ≤ i-end) × (i-end ≡ length text)
