@@ -44,21 +44,22 @@ pub fn put_byte(out: &mut [u8; 4096], at: usize, b: u8) -> usize {
     put(out, high, digit(n))
 }
 
-// Three hexadecimal digits behind a space.
+// Three hexadecimal digits.
 fn put_three(out: &mut [u8; 4096], at: usize, n: u16) -> usize {
     let high = put(out, at, digit(n / 256));
     let mid = put(out, high, digit(n / 16));
     put(out, mid, digit(n))
 }
 
+// Four hexadecimal digits behind a space.
 pub fn put_four(out: &mut [u8; 4096], at: usize, n: u16) -> usize {
     let spaced = put(out, at, b' ');
     let high = put(out, spaced, digit(n / 4096));
     put_three(out, high, n)
 }
 
-// A character: three hexadecimal digits, four above FFF.
-pub fn put_character(out: &mut [u8; 4096], at: usize, c: u16) -> usize {
+// A character: three hexadecimal digits behind a space, four above FFF.
+fn put_character(out: &mut [u8; 4096], at: usize, c: u16) -> usize {
     if c > 0xFFF {
         return put_four(out, at, c);
     }
