@@ -1,0 +1,2 @@
+-- The three demands on Skarrowith, and 01's thirteen values.
+pub mod Values
