@@ -5,5 +5,6 @@ pub mod Rows
 pub mod Bodies
 pub mod Bundles
 pub mod Accepted
+pub mod Records
 pub mod Shown
 pub mod Stretches

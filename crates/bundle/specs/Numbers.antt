@@ -5,6 +5,7 @@ use mathlib.Core.Path.{_≡_, refl, sym, ap, _∙_}
 use native.Mathlib.Nat.{pow-suc, pow-zero, add-zero, zero-add, mul-comm, mul-assoc, mul-add, add-assoc, one-mul}
 use native.Mathlib.Numerals.{add-one, add-two}
 use native.Mathlib.Omega.{arith}
+use lib.Arith.{lt-one}
 use lib.ListN.{length, getD, take, drop, length-take, length-drop}
 use lib.Seq.{drop-cons, take-add, drop-drop, length-take-le}
 
@@ -33,3 +34,16 @@ pub number-four : (s : List ℕ) (i : ℕ) → i + 4 ≤ length s
     → number (take 2 (drop i s)) + 65536 * number (take 2 (drop (i + 2) s)) ≡ number (take 4 (drop i s))
 number-four s i h =
     rw (take-add 2 2 (drop i s), number-append, drop-drop, length-take-le 2 (drop i s) (omega (arith, length-drop i s)))
+
+-- a number that fits is read back from its bytes
+pub length-bytes : (k n : ℕ) → length (bytesOf k n) ≡ k
+unfolding bytesOf
+length-bytes zero n = refl
+length-bytes (suc k) n = ap suc (length-bytes k (n / 256))
+
+pub number-bytes : (k n : ℕ) → n < 256 ^ k → number (bytesOf k n) ≡ n
+unfolding number bytesOf
+number-bytes zero n h = sym (lt-one h)
+number-bytes (suc k) n h =
+    let p : n < 256 ^ k * 256 = rw pow-suc at h in
+    rw (number-bytes k (n / 256) (omega arith)) (omega arith)

@@ -1,11 +1,11 @@
 -- 01, "The run bundle": n contents rows of 12 bytes, and what they say of the bodies behind them.
 use Prim.Native.Nat.{ℕ, zero, suc, _+_, _*_, _%_, _≤_, _<_, zero-le}
-use mathlib.Core.Bool.{Bool, false, not, _||_}
+use mathlib.Core.Bool.{Bool, false, not, cond, _||_}
 use mathlib.Core.List.{List, [], _∷_}
 use mathlib.Core.Path.{_≡_, refl, sym, ap, _∙_}
 use native.Mathlib.Nat.{not-suc-le-zero, add-zero}
 use native.Mathlib.Omega.{arith}
-use lib.Dec.{ltb, eqb}
+use lib.Dec.{ltb, leb, eqb}
 use lib.ListN.{length, getD, take, drop}
 use lib.Seq.{drop-drop, getD-drop}
 use Rattle.format.specs.Lists.{at}
@@ -68,6 +68,10 @@ bodiesEnd place rows = endOf nextOffset place rows
 -- a row with nothing in it, for a place past the last row
 abbrev pub blankRow : Row
 blankRow = record { position = 0; direction = 0; time = 0; offset = 0; length = 0 }
+
+-- the row that stands at a place, with nothing else asked of the bundle; blank where its bytes are not all there
+unfoldable pub rowIn : List ℕ → ℕ → Row
+rowIn b i = cond (leb mostRows i) blankRow (cond (ltb (length b) (firstOffset (i + 1))) blankRow (rowOf (drop (firstOffset i) b)))
 
 -- Laws: how many rows there are, and which row stands at each place.
 pub length-rows : (n : ℕ) (s : List ℕ) → length (rowsOf n s) ≡ n

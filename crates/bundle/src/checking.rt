@@ -6,17 +6,14 @@ ghost use Rattle.bundle.specs.Bodies.{charactersOf};
 ghost use Rattle.bundle.specs.Bundles.{checkOf};
 ghost use Rattle.bundle.specs.Shown.{shownChecked};
 use crate::Checked;
+use crate::MOST_BYTES;
+use crate::MOST_ROWS;
 use crate::contents::walk_bodies;
 use crate::contents::wrong_rows;
 use crate::numbers::two;
 
-// The most bytes and rows of a bundle.
-pub const MOST_BYTES: usize = 65_536;
-
-pub const MOST_ROWS: usize = 512;
-
 // A character of the bodies is over 511: its second byte is over 1.
-pub(crate) fn any_over(bodies: &[u8]) -> bool
+pub fn any_over(bodies: &[u8]) -> bool
     ensures { λ r. ⌜ r ≡ any over (charactersOf (now (bodies .entry))) ⌝ }
 {
     let mut found = false;

@@ -2,7 +2,7 @@
 ghost use mathlib.Core.Path.{_≡_};
 ghost use Prim.Native.Nat.{_+_, _≤_};
 ghost use lib.ListN.{length, drop};
-ghost use Rattle.bundle.specs.Rows.{mostRows, rowOf, rowsOf, wrongField, wrongRows, firstOffset, wrongPlaces, bodiesEnd};
+ghost use Rattle.bundle.specs.Rows.{mostRows, rowOf, rowsOf, wrongField, wrongRows, firstOffset, wrongPlaces, bodiesEnd, blankRow};
 use crate::Row;
 use crate::numbers::four;
 use crate::numbers::two;
@@ -24,8 +24,21 @@ pub(crate) fn row_of(s: &[u8], at: usize) -> Row
     }
 }
 
+// A row with nothing in it.
+pub(crate) fn blank_row() -> Row
+    ensures { λ r. ⌜ r ≡ blankRow ⌝ }
+{
+    Row {
+        position: 0,
+        direction: 0,
+        time: 0,
+        offset: 0,
+        length: 0,
+    }
+}
+
 // A position, direction or length is out of its range.
-pub(crate) fn wrong_field(position: u8, direction: u8, length: usize) -> bool
+pub fn wrong_field(position: u8, direction: u8, length: usize) -> bool
     ensures { λ r. ⌜ r ≡ wrongField position direction length ⌝ }
 {
     (position < 1)

@@ -1,8 +1,13 @@
-// The run bundle of document 01, on lent bytes: checking, reading its rows and their bodies, adding a row.
+// The run bundle of document 01, on lent bytes: checking it, its rows and their bodies.
 pub mod checking;
-mod contents;
+pub mod contents;
 mod numbers;
 pub mod reading;
+
+// The most bytes and the most rows of a bundle.
+pub const MOST_BYTES: usize = 65_536;
+
+pub const MOST_ROWS: usize = 512;
 
 // What became of checking a bundle: its number of rows, or refused by 30 to 37.
 pub enum Checked {
