@@ -13,7 +13,7 @@ use Rattle.format.specs.Characters.{over}
 use Rattle.format.specs.Answers.{Answer, reads, refusal, refuse, within}
 use Rattle.bundle.specs.declared.Row.{Row}
 use Rattle.bundle.specs.Walks.{both-false, none-wrong, endOf}
-use Rattle.bundle.specs.Rows.{mostRows, rowOf, rowsOf, wrongRows, firstOffset, nextOffset, wrongPlace, wrongPlaces, bodiesEnd, blankRow, rowIn, length-rows, row-at}
+use Rattle.bundle.specs.Rows.{mostRows, rowOf, rowsOf, wrongRows, firstOffset, nextOffset, wrongPlace, wrongPlaces, bodiesEnd, blankRow, rowIn, length-rows, row-at, row-in}
 use Rattle.bundle.specs.Bodies.{charactersOf}
 use Rattle.bundle.specs.Bundles.{mostBytes, countOf, contentsOf, bodiesOf, checkOf, andThen, rowAt, bodyAt, placeOf, Place}
 
@@ -109,11 +109,15 @@ module _ (b : List ℕ) (i : ℕ) where
       rw (e, lt-leb n i h, row-at (countOf b) i (drop 2 b) (rw (← m) h), drop-drop (12 * i) 2 b)
 
   -- the row that is read without the check
-  pub row-unchecked : (n : ℕ) → checkOf b ≡ reads n → i < n → rowAt b i ≡ reads (rowIn b i)
-  unfolding rowIn
-  row-unchecked n e h =
+  pub row-there : (n : ℕ) → checkOf b ≡ reads n → i < n → rowIn b i ≡ getD (contentsOf b) i blankRow
+  row-there n e h =
       let s = accepted-sound b n e in
-      rw (lt-leb mostRows i (omega (arith, s .0 .few, s .1)), le-ltb (length b) (firstOffset (i + 1)) (omega (arith, s .0 .whole, s .1))) (row-found n e h)
+      row-in b i (omega (arith, s .0 .few, s .1)) (omega (arith, s .0 .whole, s .1))
+      ∙ sym (row-at (countOf b) i (drop 2 b) (omega (arith, s .1)) ∙ ap rowOf (drop-drop (12 * i) 2 b))
+
+  pub row-unchecked : (n : ℕ) → checkOf b ≡ reads n → i < n → rowAt b i ≡ reads (rowIn b i)
+  unfolding rowAt
+  row-unchecked n e h = rw (row-there n e h, e, lt-leb n i h)
 
   -- a row that is found lies whole in the bundle, and so does its body
   pub row-inside : (n : ℕ) → checkOf b ≡ reads n → i < n → 2 + 12 * i + 12 ≤ length b

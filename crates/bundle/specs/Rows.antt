@@ -5,6 +5,7 @@ use mathlib.Core.List.{List, [], _∷_}
 use mathlib.Core.Path.{_≡_, refl, sym, ap, _∙_}
 use native.Mathlib.Nat.{not-suc-le-zero, add-zero}
 use native.Mathlib.Omega.{arith}
+use borrow.Author.Tests.{le-ltb, lt-leb}
 use lib.Dec.{ltb, leb, eqb}
 use lib.ListN.{length, getD, take, drop}
 use lib.Seq.{drop-drop, getD-drop}
@@ -96,6 +97,11 @@ pub row-read : (s : List ℕ) (i : ℕ) → record {
   length = number (take 2 (drop (i + 10) s));
 } ≡ rowOf (drop i s)
 row-read s i = rw (getD-drop i s 0 0, getD-drop i s 1 0, add-zero, drop-drop 2 i s, drop-drop 6 i s, drop-drop 10 i s)
+
+-- the row that is read with nothing else asked for
+pub row-in : (b : List ℕ) (i : ℕ) → i < mostRows → firstOffset (i + 1) ≤ length b → rowIn b i ≡ rowOf (drop (firstOffset i) b)
+unfolding rowIn
+row-in b i h k = rw (lt-leb mostRows i h, le-ltb (length b) (firstOffset (i + 1)) k)
 
 -- A loop that walks along the rows of a bundle, each read where it begins.
 pub record RowsWalked {S : Type 0} (wrong : S → Row → Bool) (next : S → Row → S) (b : List ℕ) (n : ℕ) (s₀ : S) (i : ℕ) (s : S) (found : Bool) : Type 0 where

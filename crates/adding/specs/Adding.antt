@@ -1,0 +1,71 @@
+-- 01, "The run bundle": adding is told how many bytes of the buffer the old bundle fills, puts a row last and moves the bodies by 12;
+-- bytes past the new end stay.
+use Prim.Native.Nat.{ℕ, zero, suc, _+_, _-_, _<_}
+use mathlib.Core.Bool.{Bool, _||_}
+use mathlib.Core.List.{List, [], _∷_, _++_}
+use mathlib.Core.Path.{_≡_, refl, sym, ap, _∙_}
+use native.Mathlib.Omega.{arith}
+use lib.Dec.{ltb, leb}
+use lib.ListN.{length, getD, take, drop}
+use Rattle.format.specs.Lists.{any}
+use Rattle.format.specs.Characters.{over}
+use Rattle.format.specs.Answers.{Answer, reads, refusal, refuse}
+use Rattle.bundle.specs.declared.Row.{Row}
+use Rattle.bundle.specs.Walks.{endOf}
+use Rattle.bundle.specs.Rows.{mostRows, rowsOf, wrongRow, timeOf, blankRow, rowIn, length-rows}
+use Rattle.bundle.specs.Bodies.{charactersOf}
+use Rattle.bundle.specs.Bundles.{mostBytes, countOf, contentsOf, checkOf, andThen}
+use Rattle.bundle.specs.Accepted.{accepted-sound, row-there}
+use Rattle.bundle.specs.Records.{Recorded, recordsOf, rowFor, bundleOf}
+
+-- what is to be added
+abbrev pub recorded : ℕ → ℕ → ℕ → List ℕ → Recorded
+recorded position direction time body = record { position = position; direction = direction; time = time; body = body }
+
+-- the time of the last row; where there is none, times count from 0
+abbrev pub lastTime : List Row → ℕ
+lastTime rows = endOf timeOf 0 rows
+
+-- the bytes of the new bundle: a row more and the body
+abbrev pub grown : ℕ → Recorded → ℕ
+grown filled k = filled + 12 + length (k .body)
+
+-- 38: 512 rows, or the new bundle exceeds the buffer or 65,536
+abbrev pub noRoom : List ℕ → ℕ → ℕ → Bool
+noRoom buffer rows bytes = leb mostRows rows || ltb (length buffer) bytes || ltb mostBytes bytes
+
+-- The bytes that the new bundle fills, or the refusal: more than the buffer has is 30; it tries the old bundle first, then the new
+-- row (34, 37, 38).
+unfoldable pub addOf : List ℕ → ℕ → Recorded → Answer ℕ
+addOf buffer filled k =
+    refuse 30 (ltb (length buffer) filled)
+    (andThen (checkOf (take filled buffer)) (λ n.
+    refuse 34 (wrongRow (lastTime (contentsOf (take filled buffer))) (rowFor (filled + 12) k))
+    (refuse 37 (any over (charactersOf (k .body)))
+    (refuse 38 (noRoom buffer n (grown filled k))
+    (reads (grown filled k))))))
+
+-- What the buffer then holds: the bundle of what the old one held and of what is added, last, and the bytes past the new end as they
+-- were; after a refusal, what it held.
+abbrev pub held : Answer ℕ → List ℕ → ℕ → Recorded → List ℕ
+held (reads n) buffer filled k = bundleOf (recordsOf (take filled buffer) ++ (k ∷ [])) ++ drop n buffer
+held (refusal n) buffer filled k = buffer
+
+-- Law: where there are rows, the last time is that of the last one.
+pub last-row : (s i : ℕ) (rows : List Row) (d : Row) → length rows ≡ suc i → endOf timeOf s rows ≡ getD rows i d .time
+unfolding endOf
+last-row s i [] d e = let never : ⊥ = omega arith in absurd never
+last-row s zero (r ∷ []) d e = refl
+last-row s zero (r ∷ (q ∷ rows)) d e = let never : ⊥ = omega arith in absurd never
+last-row s (suc i) (r ∷ []) d e = let never : ⊥ = omega arith in absurd never
+last-row s (suc i) (r ∷ (q ∷ rows)) d e = last-row (r .time) i (q ∷ rows) d (omega arith)
+
+module _ (b : List ℕ) (n : ℕ) (e : checkOf b ≡ reads n) where
+  pub last-none : n ≡ 0 → 0 ≡ lastTime (contentsOf b)
+  unfolding endOf rowsOf
+  last-none z = rw (sym (accepted-sound b n e .1) ∙ z)
+
+  pub last-there : 0 < n → rowIn b (n - 1) .time ≡ lastTime (contentsOf b)
+  last-there h =
+      ap (λ (r : Row). r .time) (row-there b (n - 1) n e (omega arith))
+      ∙ sym (last-row 0 (n - 1) (contentsOf b) blankRow (omega (arith, length-rows (countOf b) (drop 2 b), accepted-sound b n e .1)))
