@@ -1,17 +1,18 @@
 -- 01, "The run bundle": adding is told how many bytes of the buffer the old bundle fills, puts a row last and moves the bodies by 12;
 -- bytes past the new end stay.
-use Prim.Native.Nat.{ℕ, zero, suc, _+_, _-_, _<_}
-use mathlib.Core.Bool.{Bool, _||_}
+use Prim.Native.Nat.{ℕ, zero, suc, _+_, _-_, _≤_, _<_}
+use mathlib.Core.Bool.{Bool, true, false, _||_}
 use mathlib.Core.List.{List, [], _∷_, _++_}
 use mathlib.Core.Path.{_≡_, refl, sym, ap, _∙_}
 use native.Mathlib.Omega.{arith}
+use borrow.Author.Tests.{le-ltb, ltb-false, leb-false}
 use lib.Dec.{ltb, leb}
 use lib.ListN.{length, getD, take, drop}
 use Rattle.format.specs.Lists.{any}
 use Rattle.format.specs.Characters.{over}
 use Rattle.format.specs.Answers.{Answer, reads, refusal, refuse}
 use Rattle.bundle.specs.declared.Row.{Row}
-use Rattle.bundle.specs.Walks.{endOf}
+use Rattle.bundle.specs.Walks.{endOf, both-false}
 use Rattle.bundle.specs.Rows.{mostRows, rowsOf, wrongRow, timeOf, blankRow, rowIn, length-rows}
 use Rattle.bundle.specs.Bodies.{charactersOf}
 use Rattle.bundle.specs.Bundles.{mostBytes, countOf, contentsOf, checkOf, andThen}
@@ -69,3 +70,43 @@ module _ (b : List ℕ) (n : ℕ) (e : checkOf b ≡ reads n) where
   last-there h =
       ap (λ (r : Row). r .time) (row-there b (n - 1) n e (omega arith))
       ∙ sym (last-row 0 (n - 1) (contentsOf b) blankRow (omega (arith, length-rows (countOf b) (drop 2 b), accepted-sound b n e .1)))
+
+-- What is answered: past the buffer, the check's refusal, or what the tests of the new row say.
+module _ (buffer : List ℕ) (filled : ℕ) (k : Recorded) where
+  pub add-past : ltb (length buffer) filled ≡ true → addOf buffer filled k ≡ refusal 30
+  unfolding addOf
+  add-past p = rw p
+
+  pub add-refused : (n : ℕ) → filled ≤ length buffer → checkOf (take filled buffer) ≡ refusal n → addOf buffer filled k ≡ refusal n
+  unfolding addOf
+  add-refused n h e = rw (le-ltb (length buffer) filled h, e)
+
+  module _ (n : ℕ) (h : filled ≤ length buffer) (e : checkOf (take filled buffer) ≡ reads n) where
+    abbrev wrong : Bool
+    wrong = wrongRow (lastTime (contentsOf (take filled buffer))) (rowFor (filled + 12) k)
+
+    abbrev wide : Bool
+    wide = any over (charactersOf (k .body))
+
+    pub add-wrong : wrong ≡ true → addOf buffer filled k ≡ refusal 34
+    unfolding addOf
+    add-wrong p = rw (le-ltb (length buffer) filled h, e, p)
+
+    pub add-wide : wrong ≡ false → wide ≡ true → addOf buffer filled k ≡ refusal 37
+    unfolding addOf
+    add-wide p q = rw (le-ltb (length buffer) filled h, e, p, q)
+
+    pub add-full : wrong ≡ false → wide ≡ false → noRoom buffer n (grown filled k) ≡ true → addOf buffer filled k ≡ refusal 38
+    unfolding addOf
+    add-full p q r = rw (le-ltb (length buffer) filled h, e, p, q, r)
+
+    pub add-grown : wrong ≡ false → wide ≡ false → noRoom buffer n (grown filled k) ≡ false → addOf buffer filled k ≡ reads (grown filled k)
+    unfolding addOf
+    add-grown p q r = rw (le-ltb (length buffer) filled h, e, p, q, r)
+
+-- what is left where there is room
+pub room-left : (buffer : List ℕ) (n m : ℕ) → noRoom buffer n m ≡ false → (n < mostRows) × (m ≤ length buffer) × (m ≤ mostBytes)
+room-left buffer n m e =
+    let p = both-false (leb mostRows n || ltb (length buffer) m) (ltb mostBytes m) e in
+    let q = both-false (leb mostRows n) (ltb (length buffer) m) (p .0) in
+    (leb-false mostRows n (q .0), ltb-false (length buffer) m (q .1), ltb-false mostBytes m (p .1))

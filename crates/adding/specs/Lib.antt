@@ -5,3 +5,4 @@ pub mod Lists
 pub mod RecordLaws
 pub mod HeldLaws
 pub mod Writing
+pub mod Grown
