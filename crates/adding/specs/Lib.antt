@@ -6,3 +6,4 @@ pub mod RecordLaws
 pub mod HeldLaws
 pub mod Writing
 pub mod Grown
+pub mod AddingLaws

@@ -29,7 +29,7 @@ pub record Sound (b : List ℕ) : Type 0 where
   pub range : any over (charactersOf (bodiesOf b)) ≡ false
 
 -- a chain that answers a value is past all its tests
-no-refusal : {A : Type 0} {k : ℕ} {a : A} → refusal k ≡ reads a → ⊥
+pub no-refusal : {A : Type 0} {k : ℕ} {a : A} → refusal k ≡ reads a → ⊥
 no-refusal e = let z : _≡_ {A = ℕ} 0 1 = cc in omega arith
 
 unrefused : (t30 t31 t32 t33 t34 t35 t36 t37 : Bool) (n m : ℕ)
@@ -102,11 +102,13 @@ module _ (b : List ℕ) (i : ℕ) where
   unfolding rowAt
   row-none n e h = rw (e, le-leb n i h)
 
-  pub row-found : (n : ℕ) → checkOf b ≡ reads n → i < n → rowAt b i ≡ reads (rowOf (drop (2 + 12 * i) b))
+  pub row-reads : (n : ℕ) → checkOf b ≡ reads n → i < n → rowAt b i ≡ reads (getD (contentsOf b) i blankRow)
   unfolding rowAt
+  row-reads n e h = rw (e, lt-leb n i h)
+
+  pub row-found : (n : ℕ) → checkOf b ≡ reads n → i < n → rowAt b i ≡ reads (rowOf (drop (2 + 12 * i) b))
   row-found n e h =
-      let m = accepted-sound b n e .1 in
-      rw (e, lt-leb n i h, row-at (countOf b) i (drop 2 b) (rw (← m) h), drop-drop (12 * i) 2 b)
+      row-reads n e h ∙ ap reads (row-at (countOf b) i (drop 2 b) (omega (arith, accepted-sound b n e .1)) ∙ ap rowOf (drop-drop (12 * i) 2 b))
 
   -- the row that is read without the check
   pub row-there : (n : ℕ) → checkOf b ≡ reads n → i < n → rowIn b i ≡ getD (contentsOf b) i blankRow
@@ -116,8 +118,7 @@ module _ (b : List ℕ) (i : ℕ) where
       ∙ sym (row-at (countOf b) i (drop 2 b) (omega (arith, s .1)) ∙ ap rowOf (drop-drop (12 * i) 2 b))
 
   pub row-unchecked : (n : ℕ) → checkOf b ≡ reads n → i < n → rowAt b i ≡ reads (rowIn b i)
-  unfolding rowAt
-  row-unchecked n e h = rw (row-there n e h, e, lt-leb n i h)
+  row-unchecked n e h = row-reads n e h ∙ ap reads (sym (row-there n e h))
 
   -- a row that is found lies whole in the bundle, and so does its body
   pub row-inside : (n : ℕ) → checkOf b ≡ reads n → i < n → 2 + 12 * i + 12 ≤ length b
