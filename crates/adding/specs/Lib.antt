@@ -7,3 +7,4 @@ pub mod HeldLaws
 pub mod Writing
 pub mod Grown
 pub mod AddingLaws
+pub mod Example

@@ -8,3 +8,4 @@ pub mod Accepted
 pub mod Records
 pub mod Shown
 pub mod Stretches
+pub mod Example

@@ -46,11 +46,11 @@ pub fn check(bundle: &[u8]) -> Checked
         return Checked::Refused(33);
     }
     let field = wrong_rows(bundle, count);
+    let places = walk_bodies(bundle, count);
+    let place = places.wrong;
     if field {
         return Checked::Refused(34);
     }
-    let places = walk_bodies(bundle, count);
-    let place = places.wrong;
     if place {
         return Checked::Refused(35);
     }
