@@ -1,0 +1,119 @@
+// Which reply fits, which step is called for, and the state that comes next.
+ghost use mathlib.Core.Path.{_≡_};
+ghost use Rattle.exchange.specs.Fits.{ackFits, dataFits, fits};
+ghost use Rattle.exchange.specs.Steps.{afterLine, afterTick, asksResend, causeOf, failed, waits};
+use crate::Cause;
+use crate::State;
+use format::Request;
+use format::View;
+
+// The address that asks every meter.
+const BROADCAST: u8 = 0xFE;
+
+// The most sends of one exchange.
+const MOST: u8 = 3;
+
+// Ack fits enter and leave.
+fn ack_fits(request: Request) -> bool
+    ensures { λ r. ⌜ r ≡ ackFits request ⌝ }
+{
+    match request {
+        Request::Read(_) => false,
+        Request::Enter(_, _) => true,
+        Request::Leave(_) => true,
+    }
+}
+
+// Data fits a read of FE or of the address that answers.
+fn data_fits(request: Request, answers: u8) -> bool
+    ensures { λ r. ⌜ r ≡ dataFits request answers ⌝ }
+{
+    match request {
+        Request::Read(asked) => (asked == BROADCAST) | (asked == answers),
+        Request::Enter(_, _) => false,
+        Request::Leave(_) => false,
+    }
+}
+
+// Whether a line of this view is a reply to the request.
+pub fn fits(request: Request, view: View) -> bool
+    ensures { λ r. ⌜ r ≡ fits request view ⌝ }
+{
+    match view {
+        View::Refused(_) => false,
+        View::Ack => ack_fits(request),
+        View::Asks(_) => false,
+        View::Data(answers) => data_fits(request, answers),
+    }
+}
+
+// What a line that does not fit fails its send as.
+fn cause_of(view: View) -> Cause
+    ensures { λ r. ⌜ r ≡ causeOf view ⌝ }
+{
+    match view {
+        View::Refused(_) => Cause::Damaged,
+        View::Ack => Cause::WrongKind,
+        View::Asks(_) => Cause::WrongKind,
+        View::Data(_) => Cause::WrongKind,
+    }
+}
+
+// The state after a send that failed: a resend is asked for, or it was the third.
+fn failed(sends: u8, cause: Cause) -> State
+    ensures { λ r. ⌜ r ≡ failed sends cause ⌝ }
+{
+    let more = sends < MOST;
+    if more {
+        return State::Resend(cause);
+    }
+    State::Failed(cause)
+}
+
+// The state after a line heard while waiting.
+pub fn after_line(request: Request, sends: u8, past: bool, view: View) -> State
+    ensures { λ r. ⌜ r ≡ afterLine request sends past view ⌝ }
+{
+    if past {
+        return failed(sends, Cause::Silent);
+    }
+    let fitting = fits(request, view);
+    if fitting {
+        return State::Well;
+    }
+    failed(sends, cause_of(view))
+}
+
+// The state after a tick while waiting.
+pub fn after_tick(sends: u8, past: bool) -> State
+    ensures { λ r. ⌜ r ≡ afterTick sends past ⌝ }
+{
+    if past {
+        return failed(sends, Cause::Silent);
+    }
+    State::Waiting
+}
+
+// Whether a line or a tick is called for.
+pub fn waits(state: State) -> bool
+    ensures { λ r. ⌜ r ≡ waits state ⌝ }
+{
+    match state {
+        State::Waiting => true,
+        State::Resend(_) => false,
+        State::Well => false,
+        State::Failed(_) => false,
+    }
+}
+
+// Whether a send is called for.
+pub fn asks_resend(state: State, sends: u8) -> bool
+    ensures { λ r. ⌜ r ≡ asksResend state sends ⌝ }
+{
+    match state {
+        State::Waiting => false,
+        State::Resend(_) => sends < MOST,
+        State::Well => false,
+        State::Failed(_) => false,
+    }
+}
