@@ -1,9 +1,9 @@
 -- 01, "The exchange": start and the three steps. Each takes the exchange as it stood and gives the exchange as it then stands.
-use Prim.Native.Nat.{ℕ, _+_, _<_}
+use Prim.Native.Nat.{ℕ, _+_, _≤_, _<_}
 use mathlib.Core.Bool.{Bool, true, false, cond, not, true≢false}
-use mathlib.Core.Path.{_≡_, sym}
+use mathlib.Core.Path.{_≡_, refl, sym}
 use lib.Dec.{ltb}
-use borrow.Author.Tests.{ltb-true}
+use borrow.Author.Tests.{ltb-true, ltb-false, le-ltb, not-false}
 use Rattle.clock.specs.declared.Clock.{Clock}
 use Rattle.clock.specs.Times.{late, earlier}
 use Rattle.format.specs.declared.Request.{Request}
@@ -62,13 +62,6 @@ asksResend (Resend cause) sends = ltb sends 3
 asksResend Well sends = false
 asksResend (Failed cause) sends = false
 
--- A resend is asked for after less than three sends.
-pub asks-few : (state : State) (sends : ℕ) → asksResend state sends ≡ true → sends < 3
-asks-few Waiting sends e = absurd (true≢false (sym e))
-asks-few (Resend cause) sends e = ltb-true sends 3 e
-asks-few Well sends e = absurd (true≢false (sym e))
-asks-few (Failed cause) sends e = absurd (true≢false (sym e))
-
 -- ---- the exchange that comes next
 
 -- A send of the request has ended at t, and it was so many sends with this one.
@@ -115,12 +108,6 @@ abbrev pub shownStep : Answer Exchange → Stepped
 shownStep (refusal n) = Refused n
 shownStep (reads x) = To x
 
-pub shownStep-same : (a b : Answer Exchange) → shownStep a ≡ shownStep b → a ≡ b
-shownStep-same (refusal m) (refusal n) e = cc
-shownStep-same (refusal m) (reads y) e = cc
-shownStep-same (reads x) (refusal n) e = cc
-shownStep-same (reads x) (reads y) e = cc
-
 -- The reply: the telegram of the line by which the exchange ended well; blank where it did not.
 abbrev pub replyAt : State → Telegram → Telegram
 replyAt Waiting telegram = blank
@@ -138,3 +125,39 @@ heardOf x reading t = record {
   stepped = shownStep (heardIn x (viewed reading) t);
   reply = replyIn (shownStep (heardIn x (viewed reading) t)) (shown reading .telegram);
 }
+
+-- ---- laws
+
+-- no two answers have one case
+pub shownStep-same : (a b : Answer Exchange) → shownStep a ≡ shownStep b → a ≡ b
+shownStep-same (refusal m) (refusal n) e = cc
+shownStep-same (refusal m) (reads y) e = cc
+shownStep-same (reads x) (refusal n) e = cc
+shownStep-same (reads x) (reads y) e = cc
+
+-- a resend is asked for after less than three sends
+pub asks-few : (state : State) (sends : ℕ) → asksResend state sends ≡ true → sends < 3
+asks-few Waiting sends e = absurd (true≢false (sym e))
+asks-few (Resend cause) sends e = ltb-true sends 3 e
+asks-few Well sends e = absurd (true≢false (sym e))
+asks-few (Failed cause) sends e = absurd (true≢false (sym e))
+
+pub by-cond : {A : Type 0} (P : A → Type 0) (test : Bool) (u v : A) → (test ≡ true → P u) → (test ≡ false → P v) → P (cond test u v)
+by-cond P true u v f g = f refl
+by-cond P false u v f g = g refl
+
+module _ (x : Exchange) (t : Clock) where
+  -- what holds of every refusal, and of the next exchange where time and state allow it, holds of a step's answer
+  pub step-cases : (P : Answer Exchange → Type 0) (called : Bool) (next : Exchange) → ((n : ℕ) → P (refusal n))
+      → (x .last .0 ≤ t .0 → called ≡ true → P (reads next)) → P (step x t called next)
+  step-cases P called next refused taken =
+      by-cond P (earlier (x .last .0) (t .0)) (refusal 40) _ (λ e. refused 40)
+      (λ e. by-cond P (not called) (refusal 41) (reads next) (λ d. refused 41) (λ d. taken (ltb-false (t .0) (x .last .0) e) (not-false called d)))
+
+  -- a step that time and state allow is taken
+  pub step-taken : (called : Bool) (next : Exchange) → x .last .0 ≤ t .0 → called ≡ true → step x t called next ≡ reads next
+  step-taken called next h c = rw (le-ltb (t .0) (x .last .0) h, c)
+
+  -- a step that is not called for is refused: by 40 if its time is earlier than the last step's, else by 41
+  pub uncalled : (called : Bool) (next : Exchange) → called ≡ false → step x t called next ≡ refusal (cond (earlier (x .last .0) (t .0)) 40 41)
+  uncalled called next c = rw c (by-cond (λ (n : ℕ). _≡_ {A = Answer Exchange} (cond (earlier (x .last .0) (t .0)) (refusal 40) (refusal 41)) (refusal n)) (earlier (x .last .0) (t .0)) 40 41 (λ e. rw e) (λ e. rw e))

@@ -17,7 +17,8 @@ use states::asks_resend;
 use states::waits;
 use views::view_of;
 
-pub mod states;
+pub mod fits;
+mod states;
 
 // Why a send failed: no line in time, a refused line, or an accepted line that does not fit.
 pub enum Cause {

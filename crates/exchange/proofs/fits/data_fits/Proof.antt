@@ -1,7 +1,7 @@
--- `states::data_fits` meets its contract, request by request.
+-- `fits::data_fits` meets its contract, request by request.
 use borrow.Author.Needs.{needs}
-use Rattle.exchange.proofs.states.data_fits.Statement.{statement}
-use Rattle.exchange.proofs.states.data_fits.Tie as tie
+use Rattle.exchange.proofs.fits.data_fits.Statement.{statement}
+use Rattle.exchange.proofs.fits.data_fits.Tie as tie
 
 enum-known-request : tie.Need-enum-known-request
 enum-known-request c = search needs

@@ -1,7 +1,7 @@
--- `states::fits` meets its contract, view by view.
+-- `fits::fits` meets its contract, view by view.
 use borrow.Author.Needs.{needs}
-use Rattle.exchange.proofs.states.fits.Statement.{statement}
-use Rattle.exchange.proofs.states.fits.Tie as tie
+use Rattle.exchange.proofs.fits.fits.Statement.{statement}
+use Rattle.exchange.proofs.fits.fits.Tie as tie
 
 enum-told : tie.Need-enum-told
 enum-told c = search needs
