@@ -1,11 +1,11 @@
 -- How an exchange ends: well, only by a line in time that fits; and once it has ended, it stays as it is.
-use Prim.Native.Nat.{ℕ, _+_, _≤_, _<_}
+use Prim.Native.Nat.{ℕ, _+_}
 use native.Mathlib.Nat.{le-trans}
 use native.Mathlib.Omega.{arith}
 use mathlib.Core.Bool.{Bool, true, false, cond}
-use mathlib.Core.List.{List, [], _∷_, _++_}
+use mathlib.Core.List.{List, [], _∷_}
 use mathlib.Core.Logic.{_⊎_, inl, inr, ⊎-elim}
-use mathlib.Core.Path.{_≡_, refl, sym, ap, subst, _∙_}
+use mathlib.Core.Path.{_≡_, refl, ap, _∙_}
 use lib.Dec.{ltb}
 use Rattle.clock.specs.declared.Clock.{Clock}
 use Rattle.clock.specs.Times.{late, late-false}
@@ -21,8 +21,8 @@ use Rattle.exchange.specs.declared.State.{State}
 use Rattle.exchange.specs.declared.State.the-variants.{Waiting, Resend, Well, Failed}
 use Rattle.exchange.specs.declared.Exchange.{Exchange}
 use Rattle.exchange.specs.Fits.{fits}
-use Rattle.exchange.specs.Steps.{failed, causeOf, afterLine, afterTick, waits, asksResend, sending, moved, step, heardIn, tickIn, sentIn, step-cases}
-use Rattle.exchange.specs.Histories.{Step, heard, tick, sent, answer, stands, next, run, noted, sendsMade, ended, EndedWell}
+use Rattle.exchange.specs.Steps.{failed, causeOf, afterLine, afterTick, waits, asksResend, sending, moved, step-cases}
+use Rattle.exchange.specs.Histories.{Step, heard, tick, sent, answer, stands, next, run, noted, sendsMade, EndedWell}
 use Rattle.exchange.specs.Kept.{Kept, kept-step}
 
 -- ---- which states come next

@@ -3,20 +3,18 @@ use Prim.Native.Nat.{ℕ, suc, _+_, _≤_, _<_}
 use native.Mathlib.Nat.{le-refl, le-trans}
 use native.Mathlib.Omega.{arith}
 use native.Mathlib.Numerals.{add-one}
-use mathlib.Core.Bool.{Bool, true, false, cond, not}
-use mathlib.Core.List.{List, [], _∷_, _++_}
-use mathlib.Core.Path.{_≡_, refl, ap, subst, _∙_}
+use mathlib.Core.Bool.{Bool, true, false}
+use mathlib.Core.List.{List, [], _∷_}
+use mathlib.Core.Path.{_≡_, refl, ap, _∙_}
 use lib.Dec.{ltb}
 use lib.ListN.{length}
-use borrow.Author.Tests.{ltb-true, ltb-false, not-false}
+use borrow.Author.Tests.{ltb-true, ltb-false}
 use Rattle.clock.specs.declared.Clock.{Clock}
-use Rattle.clock.specs.Times.{late, earlier}
+use Rattle.clock.specs.Times.{late}
 use Rattle.format.specs.declared.Request.{Request}
 use Rattle.format.specs.declared.View.{View}
-use Rattle.format.specs.Answers.{Answer, reads, refusal}
-use Rattle.format.specs.AnswerLaws.{reads-same}
+use Rattle.format.specs.Answers.{Answer}
 use Rattle.format.specs.Lines.{readLine}
-use Rattle.format.specs.Tests.{by-test, passed}
 use Rattle.format.specs.Views.{viewed}
 use Rattle.exchange.specs.declared.Cause.{Cause}
 use Rattle.exchange.specs.declared.Cause.the-variants.{Silent}

@@ -8,7 +8,6 @@ use Rattle.clock.specs.declared.Clock.{Clock}
 use Rattle.clock.specs.Times.{late, earlier}
 use Rattle.format.specs.declared.Request.{Request}
 use Rattle.format.specs.declared.Telegram.{Telegram}
-use Rattle.format.specs.declared.Reading.{Reading}
 use Rattle.format.specs.declared.View.{View}
 use Rattle.format.specs.declared.View.the-variants as views
 use Rattle.format.specs.Answers.{Answer, reads, refusal, refuse}
@@ -142,22 +141,30 @@ asks-few (Resend cause) sends e = ltb-true sends 3 e
 asks-few Well sends e = absurd (true≢false (sym e))
 asks-few (Failed cause) sends e = absurd (true≢false (sym e))
 
+-- what a test decides has a property that both its outcomes have
 pub by-cond : {A : Type 0} (P : A → Type 0) (test : Bool) (u v : A) → (test ≡ true → P u) → (test ≡ false → P v) → P (cond test u v)
 by-cond P true u v f g = f refl
 by-cond P false u v f g = g refl
 
+one-of : (test : Bool) (m n : ℕ) → _≡_ {A = Answer Exchange} (cond test (refusal m) (refusal n)) (refusal (cond test m n))
+one-of true m n = refl
+one-of false m n = refl
+
+-- the number of a step at t that the state does not call for
+abbrev pub refusedBy : Exchange → Clock → ℕ
+refusedBy x t = cond (earlier (x .last .0) (t .0)) 40 41
+
 module _ (x : Exchange) (t : Clock) where
-  -- what holds of every refusal, and of the next exchange where time and state allow it, holds of a step's answer
+  -- what holds of every refusal, and of the next exchange where time and state allow the step, holds of the step's answer
   pub step-cases : (P : Answer Exchange → Type 0) (called : Bool) (next : Exchange) → ((n : ℕ) → P (refusal n))
       → (x .last .0 ≤ t .0 → called ≡ true → P (reads next)) → P (step x t called next)
   step-cases P called next refused taken =
       by-cond P (earlier (x .last .0) (t .0)) (refusal 40) _ (λ e. refused 40)
-      (λ e. by-cond P (not called) (refusal 41) (reads next) (λ d. refused 41) (λ d. taken (ltb-false (t .0) (x .last .0) e) (not-false called d)))
+      (λ e. by-cond P (not called) (refusal 41) (reads next) (λ d. refused 41)
+      (λ d. taken (ltb-false (t .0) (x .last .0) e) (not-false called d)))
 
-  -- a step that time and state allow is taken
   pub step-taken : (called : Bool) (next : Exchange) → x .last .0 ≤ t .0 → called ≡ true → step x t called next ≡ reads next
   step-taken called next h c = rw (le-ltb (t .0) (x .last .0) h, c)
 
-  -- a step that is not called for is refused: by 40 if its time is earlier than the last step's, else by 41
-  pub uncalled : (called : Bool) (next : Exchange) → called ≡ false → step x t called next ≡ refusal (cond (earlier (x .last .0) (t .0)) 40 41)
-  uncalled called next c = rw c (by-cond (λ (n : ℕ). _≡_ {A = Answer Exchange} (cond (earlier (x .last .0) (t .0)) (refusal 40) (refusal 41)) (refusal n)) (earlier (x .last .0) (t .0)) 40 41 (λ e. rw e) (λ e. rw e))
+  pub uncalled : (called : Bool) (next : Exchange) → called ≡ false → step x t called next ≡ refusal (refusedBy x t)
+  uncalled called next c = rw c (one-of (earlier (x .last .0) (t .0)) 40 41)

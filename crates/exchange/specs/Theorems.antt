@@ -1,36 +1,30 @@
 -- Theorems about every history of an exchange, from its start: any list of steps, those that are refused included.
 use Prim.Native.Nat.{ℕ, _+_, _≤_, _<_}
 use native.Mathlib.Omega.{arith}
-use mathlib.Core.Bool.{Bool, true, false, cond}
+use mathlib.Core.Bool.{true, false}
 use mathlib.Core.List.{List, [], _∷_, _++_}
 use mathlib.Core.Logic.{⊎-elim}
-use mathlib.Core.Path.{_≡_, refl, sym, ap, subst, _∙_}
+use mathlib.Core.Path.{_≡_, refl, sym, subst, _∙_}
 use lib.ListN.{length}
 use Rattle.clock.specs.declared.Clock.{Clock}
-use Rattle.clock.specs.Times.{replyTime, late, earlier, le-late, lt-late}
+use Rattle.clock.specs.Times.{replyTime, le-late, lt-late}
 use Rattle.format.specs.declared.Request.{Request}
 use Rattle.format.specs.declared.Telegram.{Telegram}
 use Rattle.format.specs.declared.View.{View}
-use Rattle.format.specs.Answers.{Answer, reads, refusal}
+use Rattle.format.specs.Answers.{reads, refusal}
 use Rattle.format.specs.Lines.{readLine}
 use Rattle.format.specs.Views.{viewed}
 use Rattle.exchange.specs.declared.Cause.{Cause}
-use Rattle.exchange.specs.declared.Cause.the-variants.{Silent}
 use Rattle.exchange.specs.declared.State.{State}
 use Rattle.exchange.specs.declared.State.the-variants.{Waiting, Resend, Well, Failed}
 use Rattle.exchange.specs.declared.Exchange.{Exchange}
-use Rattle.exchange.specs.declared.Heard.{Heard}
 use Rattle.exchange.specs.Fits.{fits}
-use Rattle.exchange.specs.Steps.{afterLine, afterTick, waits, asksResend, begun, moved, sending, step, heardIn, tickIn, heardOf, step-taken, uncalled}
-use Rattle.exchange.specs.Histories.{Step, heard, tick, sent, timeOf, answer, stands, next, run, after, made, ended, EndedWell}
+use Rattle.exchange.specs.Steps.{waits, asksResend, begun, moved, heardIn, heardOf, refusedBy, step-taken, uncalled}
+use Rattle.exchange.specs.Histories.{Step, heard, tick, sent, timeOf, answer, next, run, after, made, ended, EndedWell}
 use Rattle.exchange.specs.Kept.{Agrees, Kept, kept-begun, kept}
 use Rattle.exchange.specs.Endings.{request-stays, ended-well}
 
 -- ---- any exchange, one step
-
--- the number that refuses a step at t which the state does not call for
-abbrev pub refusedBy : Exchange → Clock → ℕ
-refusedBy x t = cond (earlier (x .last .0) (t .0)) 40 41
 
 ended-waits : (s : State) → ended s ≡ true → waits s ≡ false
 ended-waits Waiting e = sym e
@@ -50,7 +44,7 @@ ended-refuses x e (heard line t) = uncalled x t (waits (x .state)) _ (ended-wait
 ended-refuses x e (tick t) = uncalled x t (waits (x .state)) _ (ended-waits (x .state) e)
 ended-refuses x e (sent t) = uncalled x t (asksResend (x .state) (x .sends)) _ (ended-asks (x .state) (x .sends) e)
 
--- A line that is heard while a resend is awaited is refused, and so it changes nothing.
+-- A line that is heard while a resend is awaited is refused.
 pub resend-refuses : (x : Exchange) (cause : Cause) → x .state ≡ Resend cause → (line : List ℕ) (t : Clock)
     → answer x (heard line t) ≡ refusal (refusedBy x t)
 resend-refuses x cause e line t = uncalled x t (waits (x .state)) _ (rw e)
@@ -128,3 +122,10 @@ module _ (request : Request) (start : Clock) (h : List Step) where
   -- Once ended, it stays as it is.
   pub ended-stays : ended (after request start h .state) ≡ true → (k : List Step) → after request start (h ++ k) ≡ after request start h
   ended-stays e k = run-join (begun request start) h k ∙ ended-run (after request start h) e k
+
+  -- A line that is heard while a resend is awaited changes nothing.
+  pub resend-stays : (cause : Cause) → after request start h .state ≡ Resend cause → (line : List ℕ) (t : Clock)
+      → after request start (h ++ (heard line t ∷ [])) ≡ after request start h
+  unfolding run
+  resend-stays cause e line t =
+      run-join (begun request start) h (heard line t ∷ []) ∙ rw (resend-refuses (after request start h) cause e line t)

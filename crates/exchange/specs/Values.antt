@@ -3,7 +3,6 @@ use Prim.Native.Nat.{ℕ}
 use mathlib.Core.List.{[], _∷_}
 use mathlib.Core.Path.{_≡_, refl}
 use lib.Count.{onesIn}
-use Rattle.clock.specs.declared.Clock.{Clock}
 use Rattle.format.specs.declared.Request.the-variants.{Enter}
 use Rattle.format.specs.Characters.{odd}
 use Rattle.format.specs.Lists.{any}

@@ -1,6 +1,7 @@
 // One exchange of document 01: a request, at most three sends of it, and how it ends.
 ghost use mathlib.Core.Path.{_≡_};
 ghost use Rattle.format.specs.Lines.{readLine};
+ghost use Rattle.format.specs.Telegrams.{blank};
 ghost use Rattle.exchange.specs.Steps.{heardIn, heardOf, moved, replyAt, replyIn, sending, sentIn, shownStep, startOf, step, tickIn};
 use clock::Clock;
 use format::Kind;
@@ -75,17 +76,23 @@ fn sending(request: Request, sends: u8, t: Clock) -> Exchange
     }
 }
 
-// The reply that goes with a state: the telegram where the exchange has ended well, else the blank one.
+// No reply.
+fn blank() -> Telegram
+    ensures { λ r. ⌜ r ≡ blank ⌝ }
+{
+    let ack = plain(Kind::Ack, 0, 0);
+    ack.telegram
+}
+
+// The telegram where the exchange has ended well, else no reply.
 fn reply_at(state: State, telegram: Telegram) -> Telegram
     ensures { λ r. ⌜ r ≡ replyAt state telegram ⌝ }
 {
-    let none = plain(Kind::Ack, 0, 0);
-    let blank = none.telegram;
     match state {
-        State::Waiting => blank,
-        State::Resend(_) => blank,
+        State::Waiting => blank(),
+        State::Resend(_) => blank(),
         State::Well => telegram,
-        State::Failed(_) => blank,
+        State::Failed(_) => blank(),
     }
 }
 
@@ -98,7 +105,7 @@ fn reply_in(stepped: Stepped, telegram: Telegram) -> Telegram
             let state = x.state;
             reply_at(state, telegram)
         }
-        Stepped::Refused(_) => reply_at(State::Waiting, telegram),
+        Stepped::Refused(_) => blank(),
     }
 }
 
@@ -160,7 +167,8 @@ impl Exchange {
         self.step(t, called, next)
     }
 
-    // A line heard at t, the start of its first character.
+    // A line heard at t, the start of its first character. That time becomes the last one, so a host must not tick past the
+    // window while a line that began inside it is still coming in.
     pub fn heard(self, line: &[u16], t: Clock) -> Heard
         ensures { λ r. ⌜ r ≡ heardOf self (readLine (now (line .entry))) t ⌝ }
     {

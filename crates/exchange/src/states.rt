@@ -69,7 +69,7 @@ pub fn waits(state: State) -> bool
     }
 }
 
-// Whether a send is called for.
+// Whether a send is called for. No history asks for one after three; there it is refused by 41 as elsewhere.
 pub fn asks_resend(state: State, sends: u8) -> bool
     ensures { λ r. ⌜ r ≡ asksResend state sends ⌝ }
 {

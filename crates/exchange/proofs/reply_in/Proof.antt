@@ -12,8 +12,8 @@ reply-at-requires c κs = search needs
 enum-told : tie.Need-enum-told
 enum-told c = search needs
 
-reply-at-requires-2 : tie.Need-reply-at-requires-2
-reply-at-requires-2 c κs = search needs
+blank-requires : tie.Need-blank-requires
+blank-requires c κs = search needs
 
 returns : tie.Need-returns
 returns c = rw (c .before .before .stepped .given .1) (c .reply-at .ensures)
@@ -24,4 +24,4 @@ returns-2 c = search needs
 pub reply-in-spec : {M : Type 1} → statement M
 reply-in-spec =
     tie.close
-    (tie.spec enum-known-stepped reply-at-requires enum-told reply-at-requires-2 returns returns-2)
+    (tie.spec enum-known-stepped reply-at-requires enum-told blank-requires returns returns-2)
