@@ -8,7 +8,7 @@ use mathlib.Core.Logic.{_⊎_, inl, inr, ⊎-elim}
 use mathlib.Core.Path.{_≡_, refl, ap, _∙_}
 use lib.Dec.{ltb}
 use Rattle.clock.specs.declared.Clock.{Clock}
-use Rattle.clock.specs.Times.{late, late-false}
+use Rattle.clock.specs.Times.{late-false}
 use Rattle.format.specs.declared.Request.{Request}
 use Rattle.format.specs.declared.Telegram.{Telegram}
 use Rattle.format.specs.declared.View.{View}
@@ -21,25 +21,25 @@ use Rattle.exchange.specs.declared.State.{State}
 use Rattle.exchange.specs.declared.State.the-variants.{Waiting, Resend, Well, Failed}
 use Rattle.exchange.specs.declared.Exchange.{Exchange}
 use Rattle.exchange.specs.Fits.{fits}
-use Rattle.exchange.specs.Steps.{failed, causeOf, afterLine, afterTick, waits, asksResend, sending, moved, step-cases}
+use Rattle.exchange.specs.Steps.{mostSends, failed, causeOf, afterLine, afterTick, waits, asksResend, sending, moved, past, step-cases}
 use Rattle.exchange.specs.Histories.{Step, heard, tick, sent, answer, stands, next, run, noted, sendsMade, EndedWell}
 use Rattle.exchange.specs.Kept.{Kept, kept-step}
 
 -- ---- which states come next
 
 failed-not-well : {X : Type 0} (sends : ℕ) (cause : Cause) → failed sends cause ≡ Well → X
-failed-not-well sends cause e = go (ltb sends 3) e
+failed-not-well sends cause e = go (ltb sends mostSends) e
   where
     go : {X : Type 0} (test : Bool) → _≡_ {A = State} (cond test (Resend cause) (Failed cause)) Well → X
     go true e = let z : _≡_ {A = ℕ} 0 1 = cc in absurd (omega arith)
     go false e = let z : _≡_ {A = ℕ} 0 1 = cc in absurd (omega arith)
 
-tick-not-well : {X : Type 0} (sends : ℕ) (past : Bool) → afterTick sends past ≡ Well → X
+tick-not-well : {X : Type 0} (sends : ℕ) (silent : Bool) → afterTick sends silent ≡ Well → X
 tick-not-well sends true e = failed-not-well sends Silent e
 tick-not-well sends false e = let z : _≡_ {A = ℕ} 0 1 = cc in absurd (omega arith)
 
-line-well : (request : Request) (sends : ℕ) (past : Bool) (view : View) → afterLine request sends past view ≡ Well
-    → (past ≡ false) × (fits request view ≡ true)
+line-well : (request : Request) (sends : ℕ) (silent : Bool) (view : View) → afterLine request sends silent view ≡ Well
+    → (silent ≡ false) × (fits request view ≡ true)
 line-well request sends true view e = failed-not-well sends Silent e
 line-well request sends false view e = go (fits request view) refl e
   where
@@ -69,10 +69,9 @@ module _ (x : Exchange) (ends : List Clock) (k : Kept x ends) where
   by-line : (line : List ℕ) (t : Clock) (h : List Step) → Told (heard line t) h (answer x (heard line t))
   unfolding run sendsMade
   by-line line t h =
-      let past = late (x .began .0) (t .0) in
       let view = viewed (readLine line) in
-      step-cases x t (Told (heard line t) h) (waits (x .state)) (moved x (afterLine (x .request) (x .sends) past view) t) (λ n w. inl w)
-      (λ l c w. let well = line-well (x .request) (x .sends) past view w in
+      step-cases x t (Told (heard line t) h) (waits (x .state)) (moved x (afterLine (x .request) (x .sends) (past x t) view) t) (λ n w. inl w)
+      (λ l c w. let well = line-well (x .request) (x .sends) (past x t) view w in
       let reading = fitting-reads (x .request) (readLine line) (well .1) in
       inr
       (record {
@@ -96,8 +95,7 @@ module _ (x : Exchange) (ends : List Clock) (k : Kept x ends) where
   by-step : (s : Step) (h : List Step) → Told s h (answer x s)
   by-step (heard line t) h = by-line line t h
   by-step (tick t) h =
-      let past = late (x .began .0) (t .0) in
-      step-cases x t (Told (tick t) h) (waits (x .state)) (moved x (afterTick (x .sends) past) t) (λ n w. inl w) (λ l c w. tick-not-well (x .sends) past w)
+      step-cases x t (Told (tick t) h) (waits (x .state)) (moved x (afterTick (x .sends) (past x t)) t) (λ n w. inl w) (λ l c w. tick-not-well (x .sends) (past x t) w)
   by-step (sent t) h =
       step-cases x t (Told (sent t) h) (asksResend (x .state) (x .sends)) (sending (x .request) (x .sends + 1) t) (λ n w. inl w)
       (λ l c w. let z : _≡_ {A = ℕ} 0 1 = cc in absurd (omega arith))

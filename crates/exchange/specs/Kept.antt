@@ -10,7 +10,6 @@ use lib.Dec.{ltb}
 use lib.ListN.{length}
 use borrow.Author.Tests.{ltb-true, ltb-false}
 use Rattle.clock.specs.declared.Clock.{Clock}
-use Rattle.clock.specs.Times.{late}
 use Rattle.format.specs.declared.Request.{Request}
 use Rattle.format.specs.declared.View.{View}
 use Rattle.format.specs.Answers.{Answer}
@@ -22,7 +21,7 @@ use Rattle.exchange.specs.declared.State.{State}
 use Rattle.exchange.specs.declared.State.the-variants.{Waiting, Resend, Well, Failed}
 use Rattle.exchange.specs.declared.Exchange.{Exchange}
 use Rattle.exchange.specs.Fits.{fits}
-use Rattle.exchange.specs.Steps.{failed, causeOf, afterLine, afterTick, waits, asksResend, sending, begun, moved, step, sentIn, asks-few, by-cond, step-cases}
+use Rattle.exchange.specs.Steps.{mostSends, failed, causeOf, afterLine, afterTick, waits, asksResend, sending, begun, moved, past, step, sentIn, asks-few, by-cond, step-cases}
 use Rattle.exchange.specs.Histories.{Step, heard, tick, sent, answer, stands, next, run, noted, sendsMade}
 
 -- ---- the state and the count
@@ -30,22 +29,22 @@ use Rattle.exchange.specs.Histories.{Step, heard, tick, sent, answer, st
 -- a resend is asked for after less than three sends, and the exchange fails after three
 abbrev pub Agrees : State → ℕ → Type 0
 Agrees Waiting sends = Unit
-Agrees (Resend cause) sends = sends < 3
+Agrees (Resend cause) sends = sends < mostSends
 Agrees Well sends = Unit
-Agrees (Failed cause) sends = sends ≡ 3
+Agrees (Failed cause) sends = sends ≡ mostSends
 
-module _ (sends : ℕ) (few : sends ≤ 3) where
+module _ (sends : ℕ) (few : sends ≤ mostSends) where
   failed-agrees : (cause : Cause) → Agrees (failed sends cause) sends
   failed-agrees cause =
-      by-cond (λ (s : State). Agrees s sends) (ltb sends 3) (Resend cause) (Failed cause) (ltb-true sends 3)
-      (λ e. let h = ltb-false sends 3 e in omega arith)
+      by-cond (λ (s : State). Agrees s sends) (ltb sends mostSends) (Resend cause) (Failed cause) (ltb-true sends mostSends)
+      (λ e. let h = ltb-false sends mostSends e in omega arith)
 
-  line-agrees : (request : Request) (past : Bool) (view : View) → Agrees (afterLine request sends past view) sends
+  line-agrees : (request : Request) (silent : Bool) (view : View) → Agrees (afterLine request sends silent view) sends
   line-agrees request true view = failed-agrees Silent
   line-agrees request false view =
       by-cond (λ (s : State). Agrees s sends) (fits request view) Well (failed sends (causeOf view)) (λ e. tt) (λ e. failed-agrees (causeOf view))
 
-  tick-agrees : (past : Bool) → Agrees (afterTick sends past) sends
+  tick-agrees : (silent : Bool) → Agrees (afterTick sends silent) sends
   tick-agrees true = failed-agrees Silent
   tick-agrees false = tt
 
@@ -53,7 +52,7 @@ module _ (sends : ℕ) (few : sends ≤ 3) where
 
 pub record Kept (x : Exchange) (ends : List Clock) : Type 0 where
   pub count : x .sends ≡ length ends
-  pub few : x .sends ≤ 3
+  pub few : x .sends ≤ mostSends
   pub others : List Clock
   pub last-send : ends ≡ x .began ∷ others
   pub in-order : x .began .0 ≤ x .last .0
@@ -93,8 +92,8 @@ module _ (x : Exchange) (ends : List Clock) (k : Kept x ends) where
 
   pub kept-step : (s : Step) → Kept (next x s) (noted s (answer x s) ends)
   kept-step (heard line t) =
-      kept-moved _ t (waits (x .state)) (line-agrees (x .sends) (k .few) (x .request) (late (x .began .0) (t .0)) (viewed (readLine line)))
-  kept-step (tick t) = kept-moved _ t (waits (x .state)) (tick-agrees (x .sends) (k .few) (late (x .began .0) (t .0)))
+      kept-moved _ t (waits (x .state)) (line-agrees (x .sends) (k .few) (x .request) (past x t) (viewed (readLine line)))
+  kept-step (tick t) = kept-moved _ t (waits (x .state)) (tick-agrees (x .sends) (k .few) (past x t))
   kept-step (sent t) = kept-sent t
 
 -- Every history keeps it.

@@ -5,7 +5,7 @@ use mathlib.Core.Path.{_≡_, refl, sym}
 use lib.Dec.{ltb}
 use borrow.Author.Tests.{ltb-true, ltb-false, le-ltb, not-false}
 use Rattle.clock.specs.declared.Clock.{Clock}
-use Rattle.clock.specs.Times.{late, earlier}
+use Rattle.clock.specs.Times.{replyTime, late, earlier, le-late}
 use Rattle.format.specs.declared.Request.{Request}
 use Rattle.format.specs.declared.Telegram.{Telegram}
 use Rattle.format.specs.declared.View.{View}
@@ -26,8 +26,11 @@ use Rattle.exchange.specs.Fits.{fits}
 -- ---- the state that comes next
 
 -- A failed send, if it was the first or second, asks for a resend; if it was the third, the exchange ends with that cause.
+abbrev pub mostSends : ℕ
+mostSends = 3
+
 abbrev pub failed : ℕ → Cause → State
-failed sends cause = cond (ltb sends 3) (Resend cause) (Failed cause)
+failed sends cause = cond (ltb sends mostSends) (Resend cause) (Failed cause)
 
 -- A line that does not fit fails its send as damaged (refused line) or wrong kind.
 abbrev pub causeOf : View → Cause
@@ -39,11 +42,11 @@ causeOf (views.Data answers) = WrongKind
 -- Line heard: more than 450 after the send counts as silence and the line is ignored; otherwise a fitting line ends the
 -- exchange well, and another fails this send.
 abbrev pub afterLine : Request → ℕ → Bool → View → State
-afterLine request sends past view = cond past (failed sends Silent) (cond (fits request view) Well (failed sends (causeOf view)))
+afterLine request sends silent view = cond silent (failed sends Silent) (cond (fits request view) Well (failed sends (causeOf view)))
 
 -- Tick: more than 450 after the send fails it as silent; 450 or less leaves the state.
 abbrev pub afterTick : ℕ → Bool → State
-afterTick sends past = cond past (failed sends Silent) Waiting
+afterTick sends silent = cond silent (failed sends Silent) Waiting
 
 -- ---- which step is called for
 
@@ -54,10 +57,10 @@ waits (Resend cause) = false
 waits Well = false
 waits (Failed cause) = false
 
--- Sent, only when a resend is asked for; after three sends none is.
+-- Sent, only when a resend is asked for; after the third send none is.
 abbrev pub asksResend : State → ℕ → Bool
 asksResend Waiting sends = false
-asksResend (Resend cause) sends = ltb sends 3
+asksResend (Resend cause) sends = ltb sends mostSends
 asksResend Well sends = false
 asksResend (Failed cause) sends = false
 
@@ -75,16 +78,19 @@ begun request t = sending request 1 t
 abbrev pub moved : Exchange → State → Clock → Exchange
 moved x state t = record { request = x .request; state = state; sends = x .sends; began = x .began; last = t }
 
+-- t is more than 450 after the send.
+abbrev pub past : Exchange → Clock → Bool
+past x t = late (x .began .0) (t .0)
+
 -- Refusals 40, time earlier than the last step's, and then 41, step not called for in this state.
 abbrev pub step : Exchange → Clock → Bool → Exchange → Answer Exchange
 step x t called next = refuse 40 (earlier (x .last .0) (t .0)) (refuse 41 (not called) (reads next))
 
 abbrev pub heardIn : Exchange → View → Clock → Answer Exchange
-heardIn x view t =
-    step x t (waits (x .state)) (moved x (afterLine (x .request) (x .sends) (late (x .began .0) (t .0)) view) t)
+heardIn x view t = step x t (waits (x .state)) (moved x (afterLine (x .request) (x .sends) (past x t) view) t)
 
 abbrev pub tickIn : Exchange → Clock → Answer Exchange
-tickIn x t = step x t (waits (x .state)) (moved x (afterTick (x .sends) (late (x .began .0) (t .0))) t)
+tickIn x t = step x t (waits (x .state)) (moved x (afterTick (x .sends) (past x t)) t)
 
 -- Sent at t: waiting again, one send more.
 abbrev pub sentIn : Exchange → Clock → Answer Exchange
@@ -134,10 +140,10 @@ shownStep-same (refusal m) (reads y) e = cc
 shownStep-same (reads x) (refusal n) e = cc
 shownStep-same (reads x) (reads y) e = cc
 
--- a resend is asked for after less than three sends
-pub asks-few : (state : State) (sends : ℕ) → asksResend state sends ≡ true → sends < 3
+-- a resend is asked for only before the third send
+pub asks-few : (state : State) (sends : ℕ) → asksResend state sends ≡ true → sends < mostSends
 asks-few Waiting sends e = absurd (true≢false (sym e))
-asks-few (Resend cause) sends e = ltb-true sends 3 e
+asks-few (Resend cause) sends e = ltb-true sends mostSends e
 asks-few Well sends e = absurd (true≢false (sym e))
 asks-few (Failed cause) sends e = absurd (true≢false (sym e))
 
@@ -168,3 +174,8 @@ module _ (x : Exchange) (t : Clock) where
 
   pub uncalled : (called : Bool) (next : Exchange) → called ≡ false → step x t called next ≡ refusal (refusedBy x t)
   uncalled called next c = rw c (one-of (earlier (x .last .0) (t .0)) 40 41)
+
+-- A fitting line that begins at most 450 after the send ends the exchange well.
+pub line-taken : (x : Exchange) (view : View) (t : Clock) → x .state ≡ Waiting → x .last .0 ≤ t .0 → t .0 ≤ x .began .0 + replyTime
+    → fits (x .request) view ≡ true → heardIn x view t ≡ reads (moved x Well t)
+line-taken x view t w l i f = rw (le-late (x .began .0) (t .0) i, f) (step-taken x t (waits (x .state)) (moved x Well t) l (rw w))

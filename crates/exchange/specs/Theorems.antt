@@ -7,7 +7,7 @@ use mathlib.Core.Logic.{⊎-elim}
 use mathlib.Core.Path.{_≡_, refl, sym, subst, _∙_}
 use lib.ListN.{length}
 use Rattle.clock.specs.declared.Clock.{Clock}
-use Rattle.clock.specs.Times.{replyTime, le-late, lt-late}
+use Rattle.clock.specs.Times.{replyTime, lt-late}
 use Rattle.format.specs.declared.Request.{Request}
 use Rattle.format.specs.declared.Telegram.{Telegram}
 use Rattle.format.specs.declared.View.{View}
@@ -19,7 +19,7 @@ use Rattle.exchange.specs.declared.State.{State}
 use Rattle.exchange.specs.declared.State.the-variants.{Waiting, Resend, Well, Failed}
 use Rattle.exchange.specs.declared.Exchange.{Exchange}
 use Rattle.exchange.specs.Fits.{fits}
-use Rattle.exchange.specs.Steps.{waits, asksResend, begun, moved, heardIn, heardOf, refusedBy, step-taken, uncalled}
+use Rattle.exchange.specs.Steps.{waits, asksResend, begun, moved, heardIn, heardOf, refusedBy, uncalled, line-taken}
 use Rattle.exchange.specs.Histories.{Step, heard, tick, sent, timeOf, answer, next, run, after, made, ended, EndedWell}
 use Rattle.exchange.specs.Kept.{Agrees, Kept, kept-begun, kept}
 use Rattle.exchange.specs.Endings.{request-stays, ended-well}
@@ -48,11 +48,6 @@ ended-refuses x e (sent t) = uncalled x t (asksResend (x .state) (x .sends)) _ (
 pub resend-refuses : (x : Exchange) (cause : Cause) → x .state ≡ Resend cause → (line : List ℕ) (t : Clock)
     → answer x (heard line t) ≡ refusal (refusedBy x t)
 resend-refuses x cause e line t = uncalled x t (waits (x .state)) _ (rw e)
-
--- A fitting line that begins at most 450 after the send ends the exchange well.
-pub line-taken : (x : Exchange) (view : View) (t : Clock) → x .state ≡ Waiting → x .last .0 ≤ t .0 → t .0 ≤ x .began .0 + replyTime
-    → fits (x .request) view ≡ true → heardIn x view t ≡ reads (moved x Well t)
-line-taken x view t w l i f = rw (le-late (x .began .0) (t .0) i, f) (step-taken x t (waits (x .state)) (moved x Well t) l (rw w))
 
 -- A line that begins more than 450 after the send is silence, whatever line it is.
 pub late-is-silence : (x : Exchange) (t : Clock) → x .began .0 + replyTime < t .0 → (line : List ℕ) → answer x (heard line t) ≡ answer x (tick t)

@@ -2,7 +2,7 @@
 ghost use mathlib.Core.Path.{_≡_};
 ghost use Rattle.format.specs.Lines.{readLine};
 ghost use Rattle.format.specs.Telegrams.{blank};
-ghost use Rattle.exchange.specs.Steps.{heardIn, heardOf, moved, replyAt, replyIn, sending, sentIn, shownStep, startOf, step, tickIn};
+ghost use Rattle.exchange.specs.Steps.{heardIn, heardOf, moved, past, replyAt, replyIn, sending, sentIn, shownStep, startOf, step, tickIn};
 use clock::Clock;
 use format::Kind;
 use format::Outcome;
@@ -138,6 +138,14 @@ impl Exchange {
         }
     }
 
+    // Whether t is past the window of the last send.
+    fn past(self, t: Clock) -> bool
+        ensures { λ r. ⌜ r ≡ past self t ⌝ }
+    {
+        let began = self.began;
+        began.late(t)
+    }
+
     // The step to the next exchange, if its time and the state allow it.
     fn step(self, t: Clock, called: bool, next: Exchange) -> Stepped
         ensures { λ r. ⌜ r ≡ shownStep (step self t called next) ⌝ }
@@ -159,10 +167,9 @@ impl Exchange {
     {
         let request = self.request;
         let stood = self.state;
-        let began = self.began;
-        let past = began.late(t);
         let called = waits(stood);
-        let state = after_line(request, self.sends, past, view);
+        let silent = self.past(t);
+        let state = after_line(request, self.sends, silent, view);
         let next = self.moved(state, t);
         self.step(t, called, next)
     }
@@ -185,10 +192,9 @@ impl Exchange {
         ensures { λ r. ⌜ r ≡ shownStep (tickIn self t) ⌝ }
     {
         let stood = self.state;
-        let began = self.began;
-        let past = began.late(t);
         let called = waits(stood);
-        let state = after_tick(self.sends, past);
+        let silent = self.past(t);
+        let state = after_tick(self.sends, silent);
         let next = self.moved(state, t);
         self.step(t, called, next)
     }

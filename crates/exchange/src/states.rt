@@ -34,10 +34,10 @@ fn failed(sends: u8, cause: Cause) -> State
 }
 
 // The state after a line heard while waiting.
-pub fn after_line(request: Request, sends: u8, past: bool, view: View) -> State
-    ensures { λ r. ⌜ r ≡ afterLine request sends past view ⌝ }
+pub fn after_line(request: Request, sends: u8, silent: bool, view: View) -> State
+    ensures { λ r. ⌜ r ≡ afterLine request sends silent view ⌝ }
 {
-    if past {
+    if silent {
         return failed(sends, Cause::Silent);
     }
     let fitting = fits(request, view);
@@ -48,10 +48,10 @@ pub fn after_line(request: Request, sends: u8, past: bool, view: View) -> State
 }
 
 // The state after a tick while waiting.
-pub fn after_tick(sends: u8, past: bool) -> State
-    ensures { λ r. ⌜ r ≡ afterTick sends past ⌝ }
+pub fn after_tick(sends: u8, silent: bool) -> State
+    ensures { λ r. ⌜ r ≡ afterTick sends silent ⌝ }
 {
-    if past {
+    if silent {
         return failed(sends, Cause::Silent);
     }
     State::Waiting

@@ -3,11 +3,11 @@ use borrow.Author.Needs.{needs}
 use Rattle.exchange.proofs.Exchange.seen.Statement.{statement}
 use Rattle.exchange.proofs.Exchange.seen.Tie as tie
 
-late-requires : tie.Need-late-requires
-late-requires c κs = search needs
-
 waits-requires : tie.Need-waits-requires
 waits-requires c κs = search needs
+
+past-requires : tie.Need-past-requires
+past-requires c κs = search needs
 
 after-line-requires : tie.Need-after-line-requires
 after-line-requires c κs = search needs
@@ -25,8 +25,8 @@ pub seen-spec : {M : Type 1} → statement M
 seen-spec =
     tie.close
     (tie.spec
-    late-requires
     waits-requires
+    past-requires
     after-line-requires
     moved-requires
     step-requires

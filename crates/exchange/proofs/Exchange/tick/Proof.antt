@@ -3,11 +3,11 @@ use borrow.Author.Needs.{needs}
 use Rattle.exchange.proofs.Exchange.tick.Statement.{statement}
 use Rattle.exchange.proofs.Exchange.tick.Tie as tie
 
-late-requires : tie.Need-late-requires
-late-requires c κs = search needs
-
 waits-requires : tie.Need-waits-requires
 waits-requires c κs = search needs
+
+past-requires : tie.Need-past-requires
+past-requires c κs = search needs
 
 after-tick-requires : tie.Need-after-tick-requires
 after-tick-requires c κs = search needs
@@ -25,8 +25,8 @@ pub tick-spec : {M : Type 1} → statement M
 tick-spec =
     tie.close
     (tie.spec
-    late-requires
     waits-requires
+    past-requires
     after-tick-requires
     moved-requires
     step-requires
