@@ -113,22 +113,23 @@ abbrev pub shownStep : Answer Exchange → Stepped
 shownStep (refusal n) = Refused n
 shownStep (reads x) = To x
 
--- The reply: the telegram of the line by which the exchange ended well; blank where it did not.
-abbrev pub replyAt : State → Telegram → Telegram
-replyAt Waiting telegram = blank
-replyAt (Resend cause) telegram = blank
-replyAt Well telegram = telegram
-replyAt (Failed cause) telegram = blank
+-- The step ended the exchange well.
+abbrev pub isWell : State → Bool
+isWell Waiting = false
+isWell (Resend cause) = false
+isWell Well = true
+isWell (Failed cause) = false
 
-abbrev pub replyIn : Stepped → Telegram → Telegram
-replyIn (Refused n) telegram = blank
-replyIn (To x) telegram = replyAt (x .state) telegram
+abbrev pub endsWell : Stepped → Bool
+endsWell (Refused n) = false
+endsWell (To x) = isWell (x .state)
 
--- The whole answer for a line heard, by what reading the line answers.
+-- The whole answer for a line heard, by what reading the line answers. The reply is the telegram of the line by which the
+-- exchange ended well; where it did not, it is blank.
 abbrev pub heardOf : Exchange → Answer Telegram → Clock → Heard
 heardOf x reading t = record {
   stepped = shownStep (heardIn x (viewed reading) t);
-  reply = replyIn (shownStep (heardIn x (viewed reading) t)) (shown reading .telegram);
+  reply = cond (endsWell (shownStep (heardIn x (viewed reading) t))) (shown reading .telegram) blank;
 }
 
 -- ---- laws
@@ -139,6 +140,12 @@ shownStep-same (refusal m) (refusal n) e = cc
 shownStep-same (refusal m) (reads y) e = cc
 shownStep-same (reads x) (refusal n) e = cc
 shownStep-same (reads x) (reads y) e = cc
+
+-- the whole answer for a line heard, from its parts
+pub heard-parts : (x : Exchange) (reading : Answer Telegram) (t : Clock) (s : Stepped) (well : Bool) (r : Telegram)
+    → s ≡ shownStep (heardIn x (viewed reading) t) → endsWell s ≡ well → r ≡ cond well (shown reading .telegram) blank
+    → _≡_ {A = Heard} (record { stepped = s; reply = r }) (heardOf x reading t)
+heard-parts x reading t s well r e w q = cc
 
 -- a resend is asked for only before the third send
 pub asks-few : (state : State) (sends : ℕ) → asksResend state sends ≡ true → sends < mostSends

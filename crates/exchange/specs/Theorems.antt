@@ -10,7 +10,6 @@ use Rattle.clock.specs.declared.Clock.{Clock}
 use Rattle.clock.specs.Times.{replyTime, lt-late}
 use Rattle.format.specs.declared.Request.{Request}
 use Rattle.format.specs.declared.Telegram.{Telegram}
-use Rattle.format.specs.declared.View.{View}
 use Rattle.format.specs.Answers.{reads, refusal}
 use Rattle.format.specs.Lines.{readLine}
 use Rattle.format.specs.Views.{viewed}

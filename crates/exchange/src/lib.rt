@@ -1,8 +1,7 @@
 // One exchange of document 01: a request, at most three sends of it, and how it ends.
 ghost use mathlib.Core.Path.{_≡_};
 ghost use Rattle.format.specs.Lines.{readLine};
-ghost use Rattle.format.specs.Telegrams.{blank};
-ghost use Rattle.exchange.specs.Steps.{heardIn, heardOf, moved, past, replyAt, replyIn, sending, sentIn, shownStep, startOf, step, tickIn};
+ghost use Rattle.exchange.specs.Steps.{endsWell, heardIn, heardOf, moved, sending, sentIn, shownStep, startOf, step, tickIn};
 use clock::Clock;
 use format::Kind;
 use format::Outcome;
@@ -76,36 +75,19 @@ fn sending(request: Request, sends: u8, t: Clock) -> Exchange
     }
 }
 
-// No reply.
-fn blank() -> Telegram
-    ensures { λ r. ⌜ r ≡ blank ⌝ }
+// Whether the step ended the exchange well.
+fn ends_well(stepped: Stepped) -> bool
+    ensures { λ r. ⌜ r ≡ endsWell stepped ⌝ }
 {
-    let ack = plain(Kind::Ack, 0, 0);
-    ack.telegram
-}
-
-// The telegram where the exchange has ended well, else no reply.
-fn reply_at(state: State, telegram: Telegram) -> Telegram
-    ensures { λ r. ⌜ r ≡ replyAt state telegram ⌝ }
-{
+    let Stepped::To(x) = stepped else {
+        return false;
+    };
+    let state = x.state;
     match state {
-        State::Waiting => blank(),
-        State::Resend(_) => blank(),
-        State::Well => telegram,
-        State::Failed(_) => blank(),
-    }
-}
-
-// The reply that goes with a step.
-fn reply_in(stepped: Stepped, telegram: Telegram) -> Telegram
-    ensures { λ r. ⌜ r ≡ replyIn stepped telegram ⌝ }
-{
-    match stepped {
-        Stepped::To(x) => {
-            let state = x.state;
-            reply_at(state, telegram)
-        }
-        Stepped::Refused(_) => blank(),
+        State::Waiting => false,
+        State::Resend(_) => false,
+        State::Well => true,
+        State::Failed(_) => false,
     }
 }
 
@@ -138,14 +120,6 @@ impl Exchange {
         }
     }
 
-    // Whether t is past the window of the last send.
-    fn past(self, t: Clock) -> bool
-        ensures { λ r. ⌜ r ≡ past self t ⌝ }
-    {
-        let began = self.began;
-        began.late(t)
-    }
-
     // The step to the next exchange, if its time and the state allow it.
     fn step(self, t: Clock, called: bool, next: Exchange) -> Stepped
         ensures { λ r. ⌜ r ≡ shownStep (step self t called next) ⌝ }
@@ -168,7 +142,8 @@ impl Exchange {
         let request = self.request;
         let stood = self.state;
         let called = waits(stood);
-        let silent = self.past(t);
+        let began = self.began;
+        let silent = began.late(t);
         let state = after_line(request, self.sends, silent, view);
         let next = self.moved(state, t);
         self.step(t, called, next)
@@ -182,8 +157,13 @@ impl Exchange {
         let reading = read_line(line);
         let view = view_of(reading);
         let stepped = self.seen(view, t);
-        let telegram = reading.telegram;
-        let reply = reply_in(stepped, telegram);
+        let well = ends_well(stepped);
+        if well {
+            let reply = reading.telegram;
+            return Heard { stepped, reply };
+        }
+        let none = plain(Kind::Ack, 0, 0);
+        let reply = none.telegram;
         Heard { stepped, reply }
     }
 
@@ -193,7 +173,8 @@ impl Exchange {
     {
         let stood = self.state;
         let called = waits(stood);
-        let silent = self.past(t);
+        let began = self.began;
+        let silent = began.late(t);
         let state = after_tick(self.sends, silent);
         let next = self.moved(state, t);
         self.step(t, called, next)

@@ -6,8 +6,8 @@ use Rattle.exchange.proofs.Exchange.seen.Tie as tie
 waits-requires : tie.Need-waits-requires
 waits-requires c κs = search needs
 
-past-requires : tie.Need-past-requires
-past-requires c κs = search needs
+late-requires : tie.Need-late-requires
+late-requires c κs = search needs
 
 after-line-requires : tie.Need-after-line-requires
 after-line-requires c κs = search needs
@@ -26,7 +26,7 @@ seen-spec =
     tie.close
     (tie.spec
     waits-requires
-    past-requires
+    late-requires
     after-line-requires
     moved-requires
     step-requires

@@ -6,8 +6,8 @@ use Rattle.exchange.proofs.Exchange.tick.Tie as tie
 waits-requires : tie.Need-waits-requires
 waits-requires c κs = search needs
 
-past-requires : tie.Need-past-requires
-past-requires c κs = search needs
+late-requires : tie.Need-late-requires
+late-requires c κs = search needs
 
 after-tick-requires : tie.Need-after-tick-requires
 after-tick-requires c κs = search needs
@@ -26,7 +26,7 @@ tick-spec =
     tie.close
     (tie.spec
     waits-requires
-    past-requires
+    late-requires
     after-tick-requires
     moved-requires
     step-requires
