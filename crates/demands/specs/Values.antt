@@ -1,5 +1,5 @@
 -- 01, "Values to hold against the rules": one list, one claim.
-use Prim.Native.Nat.{ℕ, _+_}
+use Prim.Native.Nat.{ℕ, _+_, _*_}
 use mathlib.Core.List.{List, [], _∷_, map}
 use mathlib.Core.Path.{_≡_, refl}
 use lib.Count.{onesIn}
@@ -21,6 +21,10 @@ use Rattle.format.specs.Writing.{lineOf}
 use Rattle.format.specs.Flips.{flipBit, flips}
 use Rattle.format.specs.FourFlips.{dataLine, four}
 use Rattle.indication.specs.Errors.{errorOf}
+use Rattle.exchange.specs.declared.Cause.the-variants.{Silent}
+use Rattle.exchange.specs.declared.State.the-variants.{Resend, Well}
+use Rattle.exchange.specs.Histories.{run}
+use Rattle.exchange.specs.Values.{heardAfter}
 
 -- every statement of a list holds
 abbrev pub Hold : List (Type 0) → Type 0
@@ -57,15 +61,17 @@ thirteen =
     ∷ (map byteOf (lineOf (leaveOf 0xFE)) ≡ 0x68 ∷ 0x04 ∷ 0x04 ∷ 0x68 ∷ 0x53 ∷ 0xFE ∷ 0x50 ∷ 0x00 ∷ 0xA1 ∷ 0x16 ∷ [])
     -- 10: 000's data example; energy counts Wh, volume 10^−5 m³, inlet and outlet 10^−2 °C
     ∷ ((readLine dataLine ≡ reads (dataOf 0 exampleHeader exampleEntries))
-      × (powerOf 0x03 ≡ pos 0) × (powerOf 0x11 ≡ negℤ (pos 5)) × (powerOf 0x59 ≡ negℤ (pos 2)) × (powerOf 0x5D ≡ negℤ (pos 2)))
+    × (powerOf 0x03 ≡ pos 0) × (powerOf 0x11 ≡ negℤ (pos 5)) × (powerOf 0x59 ≡ negℤ (pos 2)) × (powerOf 0x5D ≡ negℤ (pos 2)))
     -- 11: four flips, accepted
     ∷ Accepted (flips four dataLine)
     -- 12: rises 10005, 9995, 10004 and 0 against 10000
     ∷ ((errorOf 0 10005 0 10000 ≡ pos 1) × (errorOf 0 9995 0 10000 ≡ negℤ (pos 1)) × (errorOf 0 10004 0 10000 ≡ pos 0)
-      × (errorOf 0 0 0 10000 ≡ negℤ (pos 1000)))
+    × (errorOf 0 0 0 10000 ≡ negℤ (pos 1000)))
+    -- 13: a fitting line at 450 is taken; at 451 it is silence
+    ∷ ((heardAfter 450 ≡ Well) × (heardAfter 451 ≡ Resend Silent))
     ∷ []
 
 pub thirteen-hold : Hold thirteen
-unfolding readLine readBody readEntries any total odd carrier onesIn lineOf flips flipBit wrongHeader digitsOf wrongMoment quantityOf widthOf paired powerOf errorOf
+unfolding readLine readBody readEntries any total odd carrier onesIn lineOf flips flipBit wrongHeader digitsOf wrongMoment quantityOf widthOf paired powerOf errorOf run
 thirteen-hold =
-    (refl, (refl, (refl, (refl, (refl, (refl, (refl, (refl, (refl, ((refl, refl, refl, refl, refl), ((_, refl), ((refl, refl, refl, refl), tt))))))))))))
+    (refl, (refl, (refl, (refl, (refl, (refl, (refl, (refl, (refl, ((refl, refl, refl, refl, refl), ((_, refl), ((refl, refl, refl, refl), ((refl, refl), tt)))))))))))))
