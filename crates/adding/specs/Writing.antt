@@ -1,14 +1,14 @@
 -- What the steps of adding leave in the buffer, and the loops that do them.
-use Prim.Native.Nat.{ℕ, zero, suc, _+_, _*_, _-_, _≤_, _<_, zero-le}
+use Prim.Native.Nat.{ℕ, suc, _+_, _*_, _-_, _≤_, _<_, zero-le}
 use mathlib.Core.List.{List, [], _∷_, _++_, append-assoc, append-nil}
 use mathlib.Core.Path.{_≡_, refl, sym, ap, ap₂, _∙_, subst}
 use native.Mathlib.Numerals.{add-one}
 use native.Mathlib.Omega.{arith}
-use lib.ListN.{length, getD, take, drop, set, length-set, length-append, length-drop, take-append-drop, List·getD-append, drop-of-length-le}
+use lib.ListN.{length, getD, take, drop, set, length-set, length-append, take-append-drop, List·getD-append, drop-of-length-le}
 use lib.Seq.{paste, paste-zero, paste-suc, slice, slice-empty, slice-cons, take-suc, set-at, take-all, length-take-le, getD-take, append-snoc, take-at, drop-at, drop-drop, drop-cons, length-slice}
 use Rattle.bundle.specs.declared.Row.{Row}
 use Rattle.bundle.specs.Numbers.{bytesOf, length-bytes}
-use Rattle.bundle.specs.Rows.{mostRows, rowOf, rowsOf, firstOffset, nextOffset, blankRow, rowIn, length-rows, row-at, row-in}
+use Rattle.bundle.specs.Rows.{mostRows, rowOf, rowsOf, firstOffset, blankRow, rowIn, length-rows, row-at, row-in}
 use Rattle.bundle.specs.Records.{bytesOfRow, bytesOfRows}
 use Rattle.adding.specs.HeldLaws.{moved, placed, length-placed}
 use Rattle.adding.specs.RecordLaws.{length-row, length-rows-bytes}
