@@ -15,3 +15,8 @@ refuse n test next = cond test (refusal n) next
 abbrev pub within : {A B : Type 0} → (A → B) → Answer A → Answer B
 within f (refusal n) = refusal n
 within f (reads a) = reads (f a)
+
+-- After an answer, the next rule: a refusal stays what it is, and a value is handed on.
+abbrev pub follow : {A B : Type 0} → Answer A → (A → Answer B) → Answer B
+follow (refusal n) next = refusal n
+follow (reads a) next = next a

@@ -1,7 +1,7 @@
 -- Laws about `at`, `any` and `total`, as loops over a list use them.
 use Prim.Native.Nat.{ℕ, zero, suc, _+_, _%_, _≤_, _<_, zero-le}
 use mathlib.Core.Bool.{Bool, true, false, _||_, or-assoc, or-false}
-use mathlib.Core.List.{List, [], _∷_, map}
+use mathlib.Core.List.{List, [], _∷_, _++_, map}
 use mathlib.Core.Path.{_≡_, refl, sym, ap, _∙_}
 use native.Mathlib.Numerals.{add-one}
 use lib.ListN.{length, getD, take, drop, drop-of-length-le, List·getD-map, List·getD-eq-default}
@@ -80,3 +80,8 @@ at-bytes s i = List·getD-map byteOf s i 0
 
 pub at-bytes-end : (s : List ℕ) (i : ℕ) → length s ≤ i → at (map byteOf s) i ≡ 0
 at-bytes-end s i h = at-bytes s i ∙ ap byteOf (List·getD-eq-default s 0 h)
+
+pub any-snoc : {A : Type 0} (test : A → Bool) (s : List A) (x : A) → any test (s ++ (x ∷ [])) ≡ (any test s || test x)
+unfolding any
+any-snoc test [] x = or-false (test x)
+any-snoc test (y ∷ s) x = ap (λ (found : Bool). test y || found) (any-snoc test s x) ∙ sym (or-assoc (test y) (any test s) (test x))

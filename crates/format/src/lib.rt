@@ -66,3 +66,18 @@ pub struct Reading {
     pub outcome: Outcome,
     pub telegram: Telegram,
 }
+
+// What a bench sends: a read, an enter with its method, or a leave, each to an address.
+pub enum Request {
+    Read(u8),
+    Enter(u8, u8),
+    Leave(u8),
+}
+
+// A reading as the two ends of an exchange look at it: a refused line, an ack, a request, or data from an address.
+pub enum View {
+    Refused(u16),
+    Ack,
+    Asks(Request),
+    Data(u8),
+}

@@ -1,3 +1,2 @@
 -- What the loops of this crate hold on to.
 pub mod Counting
-pub mod Walking

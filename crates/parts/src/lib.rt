@@ -1,7 +1,6 @@
-// The parts of a line's body, read off its characters: bytes, digits, quantities, the point in time, the header, entries.
+// The parts of a line's body, read off its characters: bytes, digits, quantities, the point in time, the header.
 pub mod bytes;
 pub mod digits;
-pub mod entries;
 pub mod headers;
 pub mod moments;
 pub mod quantities;

@@ -1,0 +1,5 @@
+-- 01, "Search".
+pub mod Searching
+pub mod SearchLaws
+pub mod Walks
+pub mod Meaning

@@ -1,0 +1,2 @@
+-- What reading entries holds on to.
+pub mod Walking
