@@ -1,35 +1,32 @@
 -- 01, "Refusal numbers", 50 and 51: the gap between a wake-up's end and the command after it.
 use Prim.Native.Nat.{ℕ, _-_, _≤_, _<_}
 use mathlib.Core.Path.{_≡_, refl, sym}
-use mathlib.Core.Bool.{Bool, true, false, cond, _||_}
+use mathlib.Core.Bool.{Bool, true, false, _||_}
 use native.Mathlib.Omega.{arith}
 use lib.Dec.{ltb}
 use borrow.Author.Tests.{lt-ltb, le-ltb, ltb-true}
+use Rattle.format.specs.Answers.{Answer, reads, refusal, refuse}
 use Rattle.clock.specs.Times.{gapLeast, gapMost}
 use Rattle.clock.specs.declared.Gap.{Gap}
 use Rattle.clock.specs.declared.Gap.the-variants.{Fine, Refused}
 
--- the gap is fine, or refused by a number
-pub data GapAnswer : Type 0 where
-  fine : GapAnswer
-  refusal : ℕ → GapAnswer
-
 -- 50: the command begins less than 33 after the wake-up's end, or before it; 51: more than 330 after
-abbrev pub gapOf : ℕ → ℕ → GapAnswer
+abbrev pub gapOf : ℕ → ℕ → Answer (Unit {0})
 gapOf ended begins =
-    cond (ltb begins ended || ltb (begins - ended) gapLeast) (refusal 50)
-    (cond (ltb gapMost (begins - ended)) (refusal 51) fine)
+    refuse 50 (ltb begins ended || ltb (begins - ended) gapLeast)
+    (refuse 51 (ltb gapMost (begins - ended))
+    (reads tt))
 
 -- the case of the code's answer for each
-abbrev pub shownGap : GapAnswer → Gap
-shownGap fine = Fine
+abbrev pub shownGap : Answer (Unit {0}) → Gap
 shownGap (refusal n) = Refused n
+shownGap (reads u) = Fine
 
 -- Laws: no two answers have one case; what each gap is answered.
-pub shownGap-same : (a b : GapAnswer) → shownGap a ≡ shownGap b → a ≡ b
-shownGap-same fine fine e = refl
-shownGap-same fine (refusal n) e = cc
-shownGap-same (refusal m) fine e = cc
+pub shownGap-same : (a b : Answer (Unit {0})) → shownGap a ≡ shownGap b → a ≡ b
+shownGap-same (reads u) (reads v) e = refl
+shownGap-same (reads u) (refusal n) e = cc
+shownGap-same (refusal m) (reads v) e = cc
 shownGap-same (refusal m) (refusal n) e = cc
 
 module _ (ended begins : ℕ) where
@@ -47,5 +44,5 @@ module _ (ended begins : ℕ) where
   pub gap-long : gapMost < begins - ended → gapOf ended begins ≡ refusal 51
   gap-long h = rw (early, le-ltb (begins - ended) gapLeast (omega arith), lt-ltb gapMost (begins - ended) h)
 
-  pub gap-fine : gapLeast ≤ begins - ended → begins - ended ≤ gapMost → gapOf ended begins ≡ fine
+  pub gap-fine : gapLeast ≤ begins - ended → begins - ended ≤ gapMost → gapOf ended begins ≡ reads tt
   gap-fine h k = rw (early, le-ltb (begins - ended) gapLeast h, le-ltb gapMost (begins - ended) k)

@@ -1,11 +1,12 @@
 -- 01, "Refusal numbers", 52 and 21: writing a wake-up. Its bytes are 000's, section 5.2.
 use Prim.Native.Nat.{ℕ, _%_}
 use mathlib.Core.Path.{_≡_, refl}
-use mathlib.Core.Bool.{Bool, cond, _||_}
+use mathlib.Core.Bool.{Bool, _||_}
 use mathlib.Core.List.{List, _++_}
 use lib.Count.{onesIn}
 use lib.Dec.{ltb}
 use lib.ListN.{length, drop, replicate}
+use Rattle.format.specs.Answers.{Answer, reads, refusal, refuse}
 use Rattle.clock.specs.declared.Wake.{Wake}
 use Rattle.clock.specs.declared.Wake.the-variants.{Written, Refused}
 
@@ -24,23 +25,18 @@ wakeCharacter = 0x055
 abbrev pub outside : ℕ → Bool
 outside count = ltb count wakeLeast || ltb wakeMost count
 
--- so many characters are written, or it is refused by a number
-pub data WakeAnswer : Type 0 where
-  written : ℕ → WakeAnswer
-  refusal : ℕ → WakeAnswer
-
--- 52: the count is outside 459–502; then 21: there are fewer places than characters
-abbrev pub wakeOf : ℕ → List ℕ → WakeAnswer
-wakeOf count out = cond (outside count) (refusal 52) (cond (ltb (length out) count) (refusal 21) (written count))
+-- 52: the count is outside 459–502; then 21: there are fewer places than characters; else so many are written
+abbrev pub wakeOf : ℕ → List ℕ → Answer ℕ
+wakeOf count out = refuse 52 (outside count) (refuse 21 (ltb (length out) count) (reads count))
 
 -- the case of the code's answer for each
-abbrev pub shownWake : WakeAnswer → Wake
-shownWake (written n) = Written n
+abbrev pub shownWake : Answer ℕ → Wake
+shownWake (reads n) = Written n
 shownWake (refusal n) = Refused n
 
 -- what the places then hold: the line in the first places and nothing beyond; after a refusal, what they held
-abbrev pub held : WakeAnswer → List ℕ → List ℕ
-held (written n) out = replicate n wakeCharacter ++ drop n out
+abbrev pub held : Answer ℕ → List ℕ → List ℕ
+held (reads n) out = replicate n wakeCharacter ++ drop n out
 held (refusal n) out = out
 
 -- Laws: the nine bits of the wake-up's character have even parity; no two answers have one case.
@@ -48,8 +44,8 @@ wake-parity : onesIn 9 wakeCharacter % 2 ≡ 0
 unfolding onesIn
 wake-parity = refl
 
-pub shownWake-same : (a b : WakeAnswer) → shownWake a ≡ shownWake b → a ≡ b
-shownWake-same (written m) (written n) e = cc
-shownWake-same (written m) (refusal n) e = cc
-shownWake-same (refusal m) (written n) e = cc
+pub shownWake-same : (a b : Answer ℕ) → shownWake a ≡ shownWake b → a ≡ b
+shownWake-same (reads m) (reads n) e = cc
+shownWake-same (reads m) (refusal n) e = cc
+shownWake-same (refusal m) (reads n) e = cc
 shownWake-same (refusal m) (refusal n) e = cc

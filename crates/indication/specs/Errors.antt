@@ -1,12 +1,13 @@
 -- 01, "Error of indication": formulas A.1 and B.1 of 000. B.1 has one standard value: S1 = 0, S2 = Qa.
 use Prim.Native.Nat.{ℕ, _-_, _*_, _≤_, _<_}
 use mathlib.Core.Path.{_≡_, refl}
-use mathlib.Core.Bool.{Bool, false, cond, _||_}
+use mathlib.Core.Bool.{Bool, false, _||_}
 use mathlib.Mathlib.Data.Bool.Basic.{or-eq-false-eq-eq-false-and-eq-false as or-parts}
 use native.Mathlib.Omega.{arith}
 use lib.Dec.{ltb, leb}
 use borrow.Author.Tests.{ltb-false}
 use lib.IntN.{ℤ, pos, negℤ, _-ℤ_, _*ℤ_}
+use Rattle.format.specs.Answers.{Answer, reads, refusal, refuse}
 use Rattle.indication.specs.Integers.{difference, difference-neg, times-neg}
 use Rattle.indication.specs.Rounding.{nearest, rounded, Nearest, rounded-neg, rounded-nearest}
 use Rattle.indication.specs.declared.Indication.{Indication}
@@ -20,40 +21,37 @@ countMost = 1000000000000
 unfoldable pub errorOf : ℕ → ℕ → ℕ → ℕ → ℤ
 errorOf m1 m2 s1 s2 = rounded (pos 1000 *ℤ ((pos m2 -ℤ pos m1) -ℤ (pos s2 -ℤ pos s1))) (s2 - s1)
 
--- an error, or refused by a number
-pub data IndicationAnswer : Type 0 where
-  error : ℤ → IndicationAnswer
-  refusal : ℕ → IndicationAnswer
-
 -- a count is over 10^12
 abbrev pub over : ℕ → ℕ → ℕ → ℕ → Bool
 over m1 m2 s1 s2 = ltb countMost m1 || ltb countMost m2 || ltb countMost s1 || ltb countMost s2
 
 -- 60: a count over 10^12; 61: the meter count falls; 62: the standard's count does not rise
-abbrev pub indicationOf : ℕ → ℕ → ℕ → ℕ → IndicationAnswer
+abbrev pub indicationOf : ℕ → ℕ → ℕ → ℕ → Answer ℤ
 indicationOf m1 m2 s1 s2 =
-    cond (over m1 m2 s1 s2) (refusal 60)
-    (cond (ltb m2 m1) (refusal 61) (cond (leb s2 s1) (refusal 62) (error (errorOf m1 m2 s1 s2))))
+    refuse 60 (over m1 m2 s1 s2)
+    (refuse 61 (ltb m2 m1)
+    (refuse 62 (leb s2 s1)
+    (reads (errorOf m1 m2 s1 s2))))
 
 -- the case of the code's answer for each
-abbrev pub shownIndication : IndicationAnswer → Indication
-shownIndication (error e) = Error e
+abbrev pub shownIndication : Answer ℤ → Indication
+shownIndication (reads e) = Error e
 shownIndication (refusal n) = Refused n
 
 -- 01, value 12: rises 10005, 9995, 10004 and 0 against 10000
 pub value-12 :
-    (indicationOf 0 10005 0 10000 ≡ error (pos 1))
-    × (indicationOf 0 9995 0 10000 ≡ error (negℤ (pos 1)))
-    × (indicationOf 0 10004 0 10000 ≡ error (pos 0))
-    × (indicationOf 0 0 0 10000 ≡ error (negℤ (pos 1000)))
+    (indicationOf 0 10005 0 10000 ≡ reads (pos 1))
+    × (indicationOf 0 9995 0 10000 ≡ reads (negℤ (pos 1)))
+    × (indicationOf 0 10004 0 10000 ≡ reads (pos 0))
+    × (indicationOf 0 0 0 10000 ≡ reads (negℤ (pos 1000)))
 unfolding errorOf
 value-12 = (refl, refl, refl, refl)
 
 -- Laws: no two answers have one case; no integer is nearer than the error, and of two as near it is the one farther from zero.
-pub shownIndication-same : (a b : IndicationAnswer) → shownIndication a ≡ shownIndication b → a ≡ b
-shownIndication-same (error x) (error y) e = cc
-shownIndication-same (error x) (refusal n) e = cc
-shownIndication-same (refusal m) (error y) e = cc
+pub shownIndication-same : (a b : Answer ℤ) → shownIndication a ≡ shownIndication b → a ≡ b
+shownIndication-same (reads x) (reads y) e = cc
+shownIndication-same (reads x) (refusal n) e = cc
+shownIndication-same (refusal m) (reads y) e = cc
 shownIndication-same (refusal m) (refusal n) e = cc
 
 pub error-nearest : (m1 m2 s1 s2 : ℕ) → s1 < s2 → Nearest (pos 1000 *ℤ ((pos m2 -ℤ pos m1) -ℤ (pos s2 -ℤ pos s1))) (s2 - s1) (errorOf m1 m2 s1 s2)

@@ -1,0 +1,40 @@
+-- 01's example of 16 bytes, added to the empty bundle.
+use Prim.Native.Nat.{ℕ}
+use mathlib.Core.List.{List, [], _∷_, _++_}
+use mathlib.Core.Path.{_≡_, refl}
+use lib.ListN.{replicate}
+use Rattle.format.specs.Lists.{any}
+use Rattle.format.specs.Answers.{reads, refusal}
+use Rattle.bundle.specs.Numbers.{number, bytesOf}
+use Rattle.bundle.specs.Walks.{someWrong, endOf}
+use Rattle.bundle.specs.Rows.{rowsOf}
+use Rattle.bundle.specs.Bodies.{charactersOf}
+use Rattle.bundle.specs.Bundles.{checkOf}
+use Rattle.bundle.specs.Records.{recordsIn, rowsFor, bodiesFor, bytesOfRows}
+use Rattle.bundle.specs.Example.{sixteen}
+use Rattle.adding.specs.Adding.{recorded, addOf, held}
+
+-- an empty bundle in a buffer of 20 bytes, and a line of one character, heard at position 7
+abbrev buffer : List ℕ
+buffer = 0x00 ∷ 0x00 ∷ replicate 18 0xFF
+
+filled-16 : addOf buffer 2 (recorded 7 1 0 (0xE5 ∷ 0x01 ∷ [])) ≡ reads 16
+unfolding addOf checkOf number rowsOf someWrong endOf charactersOf any
+filled-16 = refl
+
+is-the-example : held (reads 16) buffer 2 (recorded 7 1 0 (0xE5 ∷ 0x01 ∷ [])) ≡ sixteen ++ replicate 4 0xFF
+unfolding number bytesOf rowsOf recordsIn rowsFor bodiesFor bytesOfRows
+is-the-example = refl
+
+-- position 0 is told before the character 512, and that before the lack of room
+position-first : addOf buffer 2 (recorded 0 1 0 (replicate 8 0x02)) ≡ refusal 34
+unfolding addOf checkOf number rowsOf someWrong endOf charactersOf any
+position-first = refl
+
+character-next : addOf buffer 2 (recorded 7 1 0 (replicate 8 0x02)) ≡ refusal 37
+unfolding addOf checkOf number rowsOf someWrong endOf charactersOf any
+character-next = refl
+
+room-last : addOf buffer 2 (recorded 7 1 0 (replicate 8 0x01)) ≡ refusal 38
+unfolding addOf checkOf number rowsOf someWrong endOf charactersOf any
+room-last = refl

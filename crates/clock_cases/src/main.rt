@@ -1,0 +1,84 @@
+// Answers the cases `wake` and `gap` of docs/CASES.md.
+use cases::Run;
+use clock::Clock;
+use clock::Gap;
+use clock::Wake;
+
+fn put_gap(out: &mut [u8; 4096], at: usize, gap: Gap) -> usize {
+    match gap {
+        Gap::Refused(n) => answers::put_refusal(out, at, n),
+        Gap::Fine => answers::put_text(out, at, b"fine"),
+    }
+}
+
+fn put_wake(out: &mut [u8; 4096], at: usize, wake: Wake) -> usize {
+    match wake {
+        Wake::Refused(n) => answers::put_refusal(out, at, n),
+        Wake::Written(n) => answers::put_length(out, at, n),
+    }
+}
+
+// Writes a wake-up into a buffer, and puts what became of both.
+fn answer_wake(out: &mut [u8; 4096], at: usize, count: usize, buffer: &mut [u16]) -> usize {
+    let wake = clock::write_wake(count, buffer);
+    let said = put_wake(out, at, wake);
+    answers::put_buffer(out, said, buffer)
+}
+
+fn answer(
+    names: &[bool; 4096],
+    values: &[u64; 4096],
+    count: usize,
+    out: &mut [u8; 4096],
+    at: usize,
+) -> usize {
+    let first = cases::number_at(names, values, count, 1, u64::MAX);
+    let second = cases::number_at(names, values, count, 2, u64::MAX);
+    let are_there = first.is_there & second.is_there & (count == 3);
+    if are_there & cases::has_name(names, values, count, 0, b"gap") {
+        return put_gap(out, at, Clock(first.value).gap(Clock(second.value)));
+    }
+    let places = second.value;
+    if are_there & (places <= 600) & cases::has_name(names, values, count, 0, b"wake") {
+        let mut buffer = [answers::MARKER; 600];
+        return answer_wake(
+            out,
+            at,
+            first.value as usize,
+            &mut buffer[0..(places % 601) as usize],
+        );
+    }
+    answers::put_bad(out, at)
+}
+
+// One case and its answer.
+fn turn(
+    run: Run,
+    input: &mut [u8; 4096],
+    names: &mut [bool; 4096],
+    values: &mut [u64; 4096],
+    out: &mut [u8; 4096],
+) -> Run {
+    let next = cases::next_case(run, input, names, values, out);
+    if next.is_over {
+        return next;
+    }
+    let said = answer(names, values, next.count, out, next.waiting);
+    let waiting = answers::end_line(out, said);
+    Run { waiting, ..next }
+}
+
+fn main() {
+    let mut input = [0u8; 4096];
+    let mut names = [false; 4096];
+    let mut values = [0u64; 4096];
+    let mut out = [0u8; 4096];
+    let mut run = cases::begin();
+    for _ in 0..u64::MAX {
+        run = turn(run, &mut input, &mut names, &mut values, &mut out);
+        if run.is_over {
+            break;
+        }
+    }
+    answers::write_out(&out, run.waiting);
+}

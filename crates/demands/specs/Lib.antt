@@ -1,0 +1,3 @@
+-- The three demands on Skarrowith, and 01's thirteen values.
+pub mod Demands
+pub mod Values

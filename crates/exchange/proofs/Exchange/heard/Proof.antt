@@ -1,0 +1,57 @@
+-- `Exchange::heard` meets its contract: reading, view, step and reply put together.
+use mathlib.Core.Path.{_≡_, sym, ap, _∙_}
+use borrow.Author.Needs.{needs}
+use denote.Ref.{now}
+use Rattle.format.specs.declared.Reading.{Reading}
+use Rattle.format.specs.Lines.{readLine}
+use Rattle.format.specs.Views.{viewed, view-shown}
+use Rattle.exchange.specs.Steps.{heardIn, shownStep, heard-parts}
+use Rattle.exchange.proofs.Exchange.heard.Statement.{statement}
+use Rattle.exchange.proofs.Exchange.heard.Tie as tie
+
+read-line-requires : tie.Need-read-line-requires
+read-line-requires c κs = search needs
+
+view-of-requires : tie.Need-view-of-requires
+view-of-requires c κs = search needs
+
+seen-requires : tie.Need-seen-requires
+seen-requires c κs = search needs
+
+ends-well-requires : tie.Need-ends-well-requires
+ends-well-requires c κs = search needs
+
+-- the step, from the view of the reading
+step-is : (c : tie.After-seen)
+    → c .seen .result
+    ≡ shownStep (heardIn (c .before .before .before .before .args .self) (viewed (readLine (now (c .before .before .before .before .args .line)))) (c .before .before .before .before .args .t))
+step-is c = cc (view-shown (readLine (now (c .before .before .before .before .args .line))))
+
+returns : tie.Need-returns
+returns c =
+    let a = c .before .before .before .before .before .before .before .args in
+    heard-parts (a .self) (readLine (now (a .line))) (a .t) _ _ _ (step-is (c .before .before .before))
+    (sym (c .before .before .ends-well .ensures) ∙ c .before .if1 .taken)
+    (ap (λ (r : Reading). r .telegram) (c .before .before .before .before .before .read-line .ensures))
+
+plain-requires : tie.Need-plain-requires
+plain-requires c κs = search needs
+
+returns-2 : tie.Need-returns-2
+returns-2 c =
+    let a = c .before .before .before .before .before .before .before .before .args in
+    heard-parts (a .self) (readLine (now (a .line))) (a .t) _ _ _ (step-is (c .before .before .before .before))
+    (sym (c .before .before .before .ends-well .ensures) ∙ c .before .before .if1 .left)
+    (ap (λ (r : Reading). r .telegram) (c .before .plain .ensures))
+
+pub heard-spec : {M : Type 1} → statement M
+heard-spec =
+    tie.close
+    (tie.spec
+    read-line-requires
+    view-of-requires
+    seen-requires
+    ends-well-requires
+    returns
+    plain-requires
+    returns-2)

@@ -1,0 +1,778 @@
+/*
+ * Random cases for docs/CASES.md: `generate NAME SEED COUNT` prints COUNT cases of the capability NAME.
+ * The same seed gives the same cases on every machine; so no expression asks for chance twice, where C leaves
+ * open which comes first.
+ */
+#include "line.h"
+
+#include <inttypes.h>
+#include <stdio.h>
+#include <stdlib.h>
+#include <string.h>
+
+/* ---- chance (splitmix64) */
+
+static uint64_t state;
+
+static uint64_t chance(void)
+{
+    uint64_t z = state += UINT64_C(0x9E3779B97F4A7C15);
+    z = (z ^ z >> 30) * UINT64_C(0xBF58476D1CE4E5B9);
+    z = (z ^ z >> 27) * UINT64_C(0x94D049BB133111EB);
+    return z ^ z >> 31;
+}
+
+static unsigned below(unsigned n)
+{
+    return (unsigned)(chance() % n);
+}
+
+static unsigned between(unsigned first, unsigned last)
+{
+    return first + below(last - first + 1);
+}
+
+static int once_in(unsigned n)
+{
+    return below(n) == 0;
+}
+
+/* A number of any width. */
+static uint64_t of_any_width(void)
+{
+    unsigned shift = below(64);
+    return chance() >> shift;
+}
+
+static unsigned one_bit(unsigned first, unsigned last)
+{
+    return 1u << between(first, last);
+}
+
+static unsigned one_of(const unsigned char *list, unsigned n)
+{
+    return list[below(n)];
+}
+
+static unsigned other_than(unsigned byte)
+{
+    return (byte + between(1, 255)) & 0xFF;
+}
+
+/* ---- lists of characters and of bytes */
+
+struct line {
+    uint16_t c[1024];
+    size_t n;
+};
+
+struct bytes {
+    unsigned char b[255];
+    size_t n;
+};
+
+static void add_character(struct line *l, unsigned c)
+{
+    if (l->n < sizeof l->c / sizeof l->c[0])
+        l->c[l->n++] = (uint16_t)c;
+}
+
+static void add_byte(struct line *l, unsigned byte)
+{
+    add_character(l, second_character(byte));
+}
+
+static void add_line(struct line *l, const struct line *more)
+{
+    for (size_t i = 0; i < more->n; i++)
+        add_character(l, more->c[i]);
+}
+
+static unsigned byte_of(const struct line *l, size_t i)
+{
+    return l->c[i] & 0xFFu;
+}
+
+static void set_byte(struct line *l, size_t i, unsigned byte)
+{
+    l->c[i] = second_character(byte);
+}
+
+static void push(struct bytes *s, unsigned byte)
+{
+    if (s->n < sizeof s->b)
+        s->b[s->n++] = (unsigned char)byte;
+}
+
+static void frame(struct line *l, const struct bytes *body)
+{
+    l->n = 0;
+    add_byte(l, 0x68);
+    add_byte(l, (unsigned)body->n);
+    add_byte(l, (unsigned)body->n);
+    add_byte(l, 0x68);
+    for (size_t i = 0; i < body->n; i++)
+        add_byte(l, body->b[i]);
+    add_byte(l, second_sum(body->b, body->n));
+    add_byte(l, 0x16);
+}
+
+static void unframe(const struct line *l, struct bytes *body)
+{
+    body->n = 0;
+    for (size_t i = 4; i + 2 < l->n; i++)
+        push(body, byte_of(l, i));
+}
+
+/* ---- telegrams that can be written */
+
+static const unsigned char structures[] = {0x0A, 0x0B, 0x0C, 0x0E};
+static const unsigned char types[] = {0x04, 0x0B, 0x0C, 0x0D};
+
+static unsigned digits_of(unsigned structure)
+{
+    return structure == 0x0A ? 4 : structure == 0x0B ? 6 : structure == 0x0C ? 8 : 12;
+}
+
+static uint64_t power_of_ten(unsigned n)
+{
+    uint64_t power = 1;
+    while (n-- > 0)
+        power *= 10;
+    return power;
+}
+
+static uint64_t count_for(unsigned structure)
+{
+    uint64_t end = power_of_ten(digits_of(structure));
+    switch (below(4)) {
+    case 0:
+        return below(100);
+    case 1:
+        return end - 1 - below(2);
+    default:
+        return chance() % end;
+    }
+}
+
+static void good_moment(unsigned m[6])
+{
+    static const unsigned char days[] = {31, 28, 31, 30, 31, 30, 31, 31, 30, 31, 30, 31};
+    m[0] = below(100);
+    m[1] = between(1, 12);
+    m[2] = once_in(3) ? days[m[1] - 1] : between(1, 28);
+    if (m[0] % 4 == 0 && m[1] == 2 && once_in(2))
+        m[2] = 29;
+    m[3] = once_in(4) ? 23 : below(24);
+    m[4] = once_in(4) ? 59 : below(60);
+    m[5] = once_in(4) ? 59 : below(60);
+}
+
+/* An entry of a quantity, 0 to 6 in 01's order. */
+static struct second_entry good_entry(unsigned quantity)
+{
+    static const unsigned char units[] = {0x00, 0x10, 0x28, 0x38, 0x58, 0x5C, 0x6D};
+    struct second_entry e = {0};
+    e.unit = units[quantity];
+    if (quantity == 6) {
+        e.structure = 0x06;
+        e.is_time = 1;
+        good_moment(e.moment);
+        return e;
+    }
+    e.unit += below(quantity < 4 ? 8 : 4);
+    e.structure = one_of(structures, 4);
+    e.count = count_for(e.structure);
+    return e;
+}
+
+static void swap_entries(struct second_telegram *t, unsigned i, unsigned j)
+{
+    struct second_entry e = t->entries[i];
+    t->entries[i] = t->entries[j];
+    t->entries[j] = e;
+}
+
+static unsigned some_maker(unsigned first, unsigned last)
+{
+    unsigned maker = between(first, last) << 10;
+    maker |= between(first, last) << 5;
+    return maker | between(first, last);
+}
+
+static void good_data(struct second_telegram *t)
+{
+    t->number = (uint32_t)(chance() % 100000000);
+    t->maker = some_maker(1, 26);
+    t->version = below(256);
+    t->type = one_of(types, 4);
+    t->access = below(256);
+    t->status = below(256);
+    for (unsigned q = 0; q < 7; q++)
+        if ((q != 2 && q != 3) || once_in(2))
+            t->entries[t->count++] = good_entry(q);
+    for (unsigned i = (unsigned)t->count - 1; i > 0; i--)
+        swap_entries(t, i, below(i + 1));
+}
+
+static struct second_telegram good_telegram(enum second_kind kind)
+{
+    struct second_telegram t;
+    memset(&t, 0, sizeof t);
+    t.kind = kind;
+    if (kind != SECOND_ACK)
+        t.address = once_in(3) ? 0xFE : below(256);
+    if (kind == SECOND_ENTER)
+        t.method = between(0x90, 0x92);
+    if (kind == SECOND_DATA)
+        good_data(&t);
+    return t;
+}
+
+static void write_good(struct line *l, enum second_kind kind)
+{
+    struct second_telegram t = good_telegram(kind);
+    l->n = 0;
+    if (second_write(&t, l->c, sizeof l->c / sizeof l->c[0], &l->n) != 0)
+        abort();
+}
+
+static enum second_kind some_kind(void)
+{
+    return once_in(2) ? SECOND_DATA : (enum second_kind)below(5);
+}
+
+/* ---- near misses: one rule broken, the rules before it kept */
+
+static void miss_count(struct line *l)
+{
+    size_t many = between(1, 3);
+    if (once_in(2) && l->n > many)
+        l->n -= many;
+    else if (once_in(2))
+        while (many-- > 0)
+            add_byte(l, below(256));
+    else if (l->n >= 6) {
+        set_byte(l, 1, byte_of(l, 1) + (once_in(2) ? 1 : 255));
+        set_byte(l, 2, byte_of(l, 1));
+    }
+}
+
+static void miss_sum(struct line *l)
+{
+    size_t cs = l->n - 2;
+    unsigned from_start = 0;
+    for (size_t i = 0; i < cs; i++)
+        from_start += byte_of(l, i);
+    set_byte(l, cs, once_in(2) ? other_than(byte_of(l, cs)) : from_start);
+}
+
+/* 4 to 8 */
+static void miss_frame(struct line *l, unsigned refusal)
+{
+    unsigned at;
+    switch (refusal) {
+    case 4:
+        set_byte(l, 0, below(256));
+        break;
+    case 5:
+        miss_count(l);
+        break;
+    case 6:
+        at = between(2, 3);
+        if (l->n >= 6)
+            set_byte(l, at, below(256));
+        break;
+    case 7:
+        set_byte(l, l->n - 1, below(256));
+        break;
+    default:
+        if (l->n >= 5)
+            miss_sum(l);
+    }
+}
+
+static void miss_form(struct line *l)
+{
+    struct bytes body = {{0}, 0};
+    size_t n = between(0, 20);
+    if (l->n == 5) {
+        set_byte(l, 1, other_than(0x5B));
+        set_byte(l, 3, byte_of(l, 1) + byte_of(l, 2));
+        return;
+    }
+    unframe(l, &body);
+    if (body.n < 4 || once_in(3))
+        for (body.n = 0; body.n < n;)
+            push(&body, body.n == 0 ? (once_in(2) ? 0x53 : 0x08) : body.n == 2 ? (once_in(2) ? 0x50 : 0x72) : below(256));
+    else {
+        unsigned at = once_in(3) ? 3 : once_in(2) ? 2 : 0;
+        body.b[at] = (unsigned char)below(256);
+    }
+    frame(l, &body);
+}
+
+static void miss_header(struct bytes *body)
+{
+    unsigned char *h = body->b + 3;
+    unsigned at, maker;
+    switch (below(4)) {
+    case 0:
+        at = below(4);
+        h[at] = (unsigned char)(once_in(2) ? (h[at] & 0x0F) | between(10, 15) << 4 : (h[at] & 0xF0) | between(10, 15));
+        break;
+    case 1:
+        maker = once_in(3) ? some_maker(1, 26) | 0x8000 : once_in(2) ? some_maker(0, 27) : some_maker(26, 31);
+        h[4] = (unsigned char)maker;
+        h[5] = (unsigned char)(maker >> 8);
+        break;
+    case 2:
+        h[7] = (unsigned char)below(once_in(2) ? 16 : 256);
+        break;
+    default:
+        at = between(10, 11);
+        h[at] = (unsigned char)one_bit(0, 7);
+    }
+}
+
+/* The place of an entry that is no time, or that is one. */
+static size_t entry_place(const struct bytes *body, int is_time)
+{
+    size_t places[8], n = 0, at = 15;
+    while (at + 1 < body->n && n < 8) {
+        int time = body->b[at] == 0x06;
+        if (time == is_time)
+            places[n++] = at;
+        at += 2 + (time ? 6 : digits_of(body->b[at]) / 2);
+    }
+    return n == 0 ? 15 : places[below((unsigned)n)];
+}
+
+static void miss_moment(unsigned char *v)
+{
+    static const unsigned char bit[] = {0x40, 0x80, 0x20, 0x80};
+    static const unsigned char byte_of_bit[] = {0, 1, 2, 2};
+    unsigned which = below(4), day = once_in(4) ? 0 : between(27, 31), month = below(16), year = below(104);
+    switch (below(6)) {
+    case 0:
+        v[which / 2] = (unsigned char)between(58, 64);
+        break;
+    case 1:
+        v[2] = (unsigned char)between(22, 33);
+        break;
+    case 2: /* near a month's end, or near the century's */
+        v[3] = (unsigned char)((year & 7) << 5 | day);
+        v[4] = (unsigned char)(year >> 3 << 4 | month);
+        break;
+    case 3: /* the date stays, the year may not */
+        year = between(96, 127);
+        v[3] = (unsigned char)((year & 7) << 5 | (v[3] & 31));
+        v[4] = (unsigned char)(year >> 3 << 4 | (v[4] & 15));
+        break;
+    case 4:
+        v[byte_of_bit[which]] |= bit[which];
+        break;
+    default:
+        v[5] = (unsigned char)one_bit(0, 7);
+    }
+}
+
+/* 11 */
+static void miss_entry(struct bytes *body)
+{
+    size_t at = entry_place(body, once_in(4)), zeros = below(8);
+    switch (below(5)) {
+    case 0:
+        push(body, below(16));
+        break;
+    case 1:
+        body->b[at] = (unsigned char)below(once_in(2) ? 16 : 256);
+        break;
+    case 2:
+        body->b[at + 1] = (unsigned char)below(128);
+        break;
+    case 3:
+        body->n -= between(1, 6);
+        break;
+    default:
+        push(body, once_in(2) ? 0x06 : 0x0A);
+        push(body, once_in(2) ? 0x6D : 0x00);
+        while (zeros-- > 0)
+            push(body, 0);
+    }
+}
+
+static void repeat_entry(struct bytes *body)
+{
+    size_t from = entry_place(body, once_in(4));
+    size_t n = 2 + (body->b[from] == 0x06 ? 6 : digits_of(body->b[from]) / 2);
+    for (size_t i = 0; i < n; i++)
+        push(body, body->b[from + i]);
+}
+
+static void drop_entry(struct bytes *body)
+{
+    size_t from = entry_place(body, once_in(4));
+    size_t n = 2 + (body->b[from] == 0x06 ? 6 : digits_of(body->b[from]) / 2);
+    memmove(body->b + from, body->b + from + n, body->n - from - n);
+    body->n -= n;
+}
+
+/* 10 to 16, on the body of a data line */
+static void miss_body(struct bytes *body, unsigned refusal)
+{
+    size_t at = entry_place(body, 0);
+    switch (refusal) {
+    case 10:
+        miss_header(body);
+        break;
+    case 11:
+        miss_entry(body);
+        break;
+    case 12:
+        at += 2 + below(digits_of(body->b[at]) / 2);
+        body->b[at] = (unsigned char)(once_in(2) ? between(0xA0, 0xFF) : body->b[at] | between(10, 15));
+        break;
+    case 13:
+        miss_moment(body->b + entry_place(body, 1) + 2);
+        break;
+    case 14:
+        if (once_in(2))
+            repeat_entry(body);
+        else
+            body->b[at + 1] = body->b[entry_place(body, 0) + 1];
+        break;
+    case 15:
+        repeat_entry(body);
+        break;
+    default:
+        drop_entry(body);
+    }
+}
+
+/* Flips a bit of some character. */
+static void flip_one(struct line *l, unsigned bit)
+{
+    l->c[below((unsigned)l->n)] ^= (uint16_t)bit;
+}
+
+static void near_miss(struct line *l)
+{
+    struct bytes body;
+    unsigned refusal = between(2, 17);
+    write_good(l, refusal > 9 ? SECOND_DATA : some_kind());
+    if (refusal == 2)
+        flip_one(l, one_bit(9, 15));
+    else if (refusal == 3)
+        flip_one(l, one_bit(0, 8));
+    else if (refusal < 9)
+        miss_frame(l, refusal);
+    else if (refusal == 9)
+        miss_form(l);
+    else {
+        unframe(l, &body);
+        if (refusal < 17)
+            miss_body(&body, refusal);
+        if (refusal == 17 || once_in(8)) { /* a second rule, or a change that no rule forbids */
+            unsigned at = below((unsigned)body.n);
+            body.b[at] = (unsigned char)below(256);
+        }
+        frame(l, &body);
+    }
+}
+
+static void flip(struct line *l, unsigned flips)
+{
+    while (flips-- > 0)
+        flip_one(l, one_bit(0, 8));
+}
+
+static void noise(struct line *l, unsigned most)
+{
+    static const unsigned char starts[] = {0xE5, 0x10, 0x68};
+    unsigned sort = below(4), n = below(most + 1), r;
+    struct bytes body = {{0}, 0};
+    for (l->n = 0; l->n < n;) {
+        r = below(512);
+        if (sort == 0)
+            add_character(l, r);
+        else
+            add_byte(l, (l->n == 0 && sort > 1) || once_in(8) ? starts[r % 3] : r);
+    }
+    if (sort != 3)
+        return;
+    while (body.n < n && body.n < sizeof body.b)
+        push(&body, below(256));
+    frame(l, &body);
+}
+
+/* ---- what is printed */
+
+static void print_characters(const struct line *l)
+{
+    for (size_t i = 0; i < l->n; i++)
+        printf(" %03" PRIX16, l->c[i]);
+}
+
+static void generate_read(void)
+{
+    struct line l = {{0}, 0};
+    unsigned sort = below(8);
+    if (sort < 4)
+        near_miss(&l);
+    else if (sort == 7)
+        noise(&l, once_in(3) ? 300 : 20);
+    else
+        write_good(&l, some_kind());
+    if (sort == 6)
+        flip(&l, between(1, 4));
+    printf("read");
+    print_characters(&l);
+}
+
+/* A line that is whole, cut, damaged or preceded by a beginning of its own, with noise around it. */
+static void capture_part(struct line *capture)
+{
+    struct line l = {{0}, 0}, other = {{0}, 0};
+    write_good(&l, some_kind());
+    switch (below(8)) {
+    case 0:
+        l.n = below((unsigned)l.n + 1);
+        break;
+    case 1:
+        flip(&l, between(1, 3));
+        break;
+    case 2:
+        near_miss(&l);
+        break;
+    case 3:
+        other = l;
+        other.n = below((unsigned)l.n + 1);
+        add_line(capture, &other);
+        break;
+    case 4:
+        noise(&l, 20);
+        break;
+    default:
+        break;
+    }
+    add_line(capture, &l);
+}
+
+static void generate_find(void)
+{
+    struct line capture = {{0}, 0};
+    for (unsigned parts = below(5); parts > 0; parts--)
+        capture_part(&capture);
+    if (once_in(4))
+        capture.n = below((unsigned)capture.n + 1);
+    printf("find");
+    print_characters(&capture);
+}
+
+static void print_entry(const struct second_entry *e)
+{
+    printf(" %02X %02X", e->structure, e->unit);
+    if (!e->is_time)
+        printf(" number +%" PRIu64, e->count);
+    else
+        printf(" time +%u +%u +%u +%u +%u +%u", e->moment[0], e->moment[1], e->moment[2], e->moment[3], e->moment[4],
+               e->moment[5]);
+}
+
+/* The whole telegram, with its first entries as many as told. */
+static void print_telegram(const struct second_telegram *t, size_t entries)
+{
+    static const char *const kinds[] = {"ack", "read", "enter", "leave", "data"};
+    printf(" %s %02X %02X +%" PRIu32 " %04X", kinds[t->kind], t->address, t->method, t->number, t->maker);
+    printf(" %02X %02X %02X %02X +%" PRIu64, t->version, t->type, t->access, t->status, t->count);
+    for (size_t i = 0; i < entries; i++)
+        print_entry(&t->entries[i]);
+}
+
+static void break_entry(struct second_entry *e)
+{
+    unsigned part = below(6);
+    switch (below(7)) {
+    case 0:
+        e->structure = below(16);
+        break;
+    case 1:
+        e->unit = below(128);
+        break;
+    case 2:
+        e->is_time = !e->is_time;
+        break;
+    case 3:
+        e->count = power_of_ten(digits_of(e->structure)) - (once_in(2) ? 1 : 0);
+        break;
+    case 4:
+        e->count = chance();
+        break;
+    case 5:
+        e->moment[part] = once_in(4) ? below(256) : between(23, 32);
+        break;
+    default:
+        e->moment[part] = once_in(2) ? 0 : between(59, 100);
+    }
+}
+
+static void break_header(struct second_telegram *t)
+{
+    switch (below(4)) {
+    case 0:
+        t->number = once_in(2) ? (uint32_t)chance() : 100000000 - below(2);
+        break;
+    case 1:
+        t->maker = once_in(2) ? some_maker(0, 27) : t->maker | 0x8000;
+        break;
+    case 2:
+        t->type = below(once_in(2) ? 16 : 256);
+        break;
+    default:
+        t->method = between(0x8F, 0x93);
+    }
+}
+
+/* Breaks one of the rules behind 20, or none by luck. */
+static void break_telegram(struct second_telegram *t)
+{
+    unsigned many = t->count == 0 ? 1 : (unsigned)t->count, at = below(many);
+    switch (below(8)) {
+    case 0:
+        break_header(t);
+        break;
+    case 1:
+        t->count = once_in(2) ? below(10) : once_in(2) ? UINT64_MAX : t->count - 1;
+        break;
+    case 2: /* a quantity twice, or another order */
+        t->entries[at] = t->entries[below(many)];
+        break;
+    case 3: /* a required one missing, if it was the last */
+        t->entries[many - 1].structure = t->entries[many - 1].unit = 0;
+        t->count -= once_in(2);
+        break;
+    case 4: /* a place past the count that is not blank */
+        break_entry(&t->entries[between(many - 1, 6)]);
+        break;
+    case 5:
+        t->kind = (enum second_kind)below(5);
+        break;
+    case 6:
+        t->address = below(256);
+        t->method = once_in(2) ? 0 : below(256);
+        break;
+    default:
+        break_entry(&t->entries[at]);
+    }
+}
+
+static void generate_write(void)
+{
+    uint16_t out[SECOND_LONGEST];
+    size_t length = 0, places, entries = SECOND_ENTRIES;
+    struct second_telegram t = good_telegram(some_kind());
+    if (once_in(2))
+        break_telegram(&t);
+    if (second_write(&t, out, SECOND_LONGEST, &length) != 0)
+        length = below(SECOND_LONGEST + 1);
+    places = once_in(3) ? length : once_in(2) ? length + between(1, 20) : length - (length > 0);
+    if (once_in(10))
+        places = below(100);
+    if (once_in(2) && t.count < SECOND_ENTRIES)
+        entries = (size_t)t.count;
+    printf("write +%zu", places);
+    print_telegram(&t, entries);
+}
+
+static void generate_wake(void)
+{
+    uint64_t count = once_in(4) ? of_any_width() : once_in(2) ? between(457, 461) : between(500, 504);
+    uint64_t places = once_in(4) ? below(601) : count > 590 ? 600 : count + between(0, 6) - (count > 2 ? 3 : 0);
+    printf("wake +%" PRIu64 " +%" PRIu64, count, places);
+}
+
+static void generate_gap(void)
+{
+    static const unsigned edges[] = {0, 1, 32, 33, 34, 329, 330, 331, 450};
+    uint64_t wake_end = once_in(3) ? UINT64_MAX - below(400) : of_any_width();
+    uint64_t begin = wake_end + (once_in(3) ? of_any_width() : edges[below(9)]);
+    if (once_in(6))
+        begin = wake_end - below(400);
+    printf("gap %" PRIX64 " %" PRIX64, wake_end, begin);
+}
+
+static uint64_t some_count(void)
+{
+    const uint64_t most = UINT64_C(1000000000000);
+    switch (below(16)) {
+    case 0:
+        return most - below(2);
+    case 1:
+        return most + below(2);
+    case 2:
+        return once_in(4) ? UINT64_MAX - below(2) : chance();
+    case 3:
+        return below(3);
+    default:
+        return of_any_width() % most;
+    }
+}
+
+static void generate_error(void)
+{
+    uint64_t c[4];
+    for (int i = 0; i < 4; i++)
+        c[i] = some_count();
+    if (!once_in(4)) { /* a rise near a half: the standard's is a multiple of 2000 */
+        uint64_t step = once_in(2) ? between(1, 5) : between(1, 100000000);
+        c[0] %= UINT64_C(500000000000);
+        c[1] = c[0] + step * between(1, 4000);
+        c[2] %= UINT64_C(500000000000);
+        c[3] = c[2] + step * 2000;
+        c[1] += below(3);
+        c[1] -= below(2);
+    }
+    printf("error +%" PRIu64 " +%" PRIu64 " +%" PRIu64 " +%" PRIu64, c[0], c[1], c[2], c[3]);
+}
+
+/* What is no case. */
+static void generate_bad(const char *name)
+{
+    static const char *const ends[] = {" ",  "  1E5", " 1e5", " +",    " +1A", " +18446744073709551616",
+                                       " x", " 1E5 ", " -1",  "\t1E5", "\r",   " 00000000000000000",
+                                       "a",  " 10000", " +5", ""};
+    printf("%s", once_in(8) ? " " : "");
+    printf("%s", once_in(8) ? "1E5" : name);
+    printf("%s", ends[below(16)]);
+    if (once_in(40))
+        for (int i = 0; i < 4096; i++)
+            printf(" 0");
+}
+
+int main(int argc, char **argv)
+{
+    static const struct {
+        const char *name;
+        void (*generate)(void);
+    } capabilities[] = {
+        {"read", generate_read}, {"write", generate_write}, {"find", generate_find},
+        {"wake", generate_wake}, {"gap", generate_gap},     {"error", generate_error},
+    };
+    if (argc != 4)
+        return fprintf(stderr, "usage: generate NAME SEED COUNT\n"), 2;
+    state = strtoull(argv[2], NULL, 10);
+    for (size_t i = 0; i < sizeof capabilities / sizeof capabilities[0]; i++) {
+        if (strcmp(argv[1], capabilities[i].name) != 0)
+            continue;
+        for (uint64_t left = strtoull(argv[3], NULL, 10); left > 0; left--) {
+            if (once_in(50))
+                generate_bad(argv[1]);
+            else
+                capabilities[i].generate();
+            putchar('\n');
+        }
+        return 0;
+    }
+    return fprintf(stderr, "generate: no capability %s\n", argv[1]), 2;
+}

@@ -1,0 +1,39 @@
+/* Lines and telegrams of document 01, for the second program. */
+#ifndef SECOND_LINE_H
+#define SECOND_LINE_H
+
+#include <stddef.h>
+#include <stdint.h>
+
+enum second_kind { SECOND_ACK, SECOND_READ, SECOND_ENTER, SECOND_LEAVE, SECOND_DATA };
+
+enum { SECOND_ENTRIES = 7, SECOND_LONGEST = 77 };
+
+struct second_entry {
+    unsigned structure, unit;
+    int is_time;
+    uint64_t count;     /* where it is no time */
+    unsigned moment[6]; /* year, month, day, hour, minute, second, where it is one */
+};
+
+struct second_telegram {
+    enum second_kind kind;
+    unsigned address, method;
+    uint32_t number;
+    unsigned maker, version, type, access, status;
+    uint64_t count;
+    struct second_entry entries[SECOND_ENTRIES];
+};
+
+/* A character that carries a byte: the byte, and in bit 8 what makes the parity even. */
+uint16_t second_character(unsigned byte);
+
+/* The byte of a long form's CS: the sum of some bytes, modulo 256. */
+unsigned second_sum(const unsigned char *bytes, size_t n);
+
+/* Each answers 0, or the number of a refusal; what it hands out counts only after 0. */
+int second_read(const uint16_t *line, size_t n, struct second_telegram *t);
+int second_write(const struct second_telegram *t, uint16_t *out, size_t places, size_t *length);
+int second_find(const uint16_t *capture, size_t n, size_t *place, size_t *length);
+
+#endif
