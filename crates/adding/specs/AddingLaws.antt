@@ -1,11 +1,11 @@
 -- What adding leaves is a bundle that the check accepts: it holds what the old one held and what was added, last.
-use Prim.Native.Nat.{ℕ, zero, suc, _+_, _*_, _-_, _%_, _^_, _≤_, _<_}
-use mathlib.Core.Bool.{Bool, true, false, not, _||_, or-false}
+use Prim.Native.Nat.{ℕ, zero, suc, _+_, _%_, _≤_, _<_}
+use mathlib.Core.Bool.{Bool, true, false, not, _||_}
 use mathlib.Core.List.{List, [], _∷_, _++_, map}
 use mathlib.Core.Path.{_≡_, refl, sym, ap, ap₂, _∙_}
 use native.Mathlib.Omega.{arith}
 use borrow.Author.Tests.{ltb-false, eqb-false, eqb-true, not-false}
-use lib.Dec.{ltb, leb, eqb}
+use lib.Dec.{ltb, eqb}
 use lib.ListN.{length, getD, take, drop, length-append, List·getD-append}
 use lib.Seq.{take-at, drop-drop, length-take-le, getD-at}
 use Rattle.format.specs.Lists.{any}
@@ -16,14 +16,14 @@ use Rattle.bundle.specs.Numbers.{number}
 use Rattle.bundle.specs.Walks.{someWrong, endOf, both-false}
 use Rattle.bundle.specs.Rows.{mostRows, rowsOf, wrongField, wrongRow, wrongRows, timeOf, firstOffset, nextOffset, wrongPlace, wrongPlaces, blankRow, length-rows}
 use Rattle.bundle.specs.Bodies.{charactersOf}
-use Rattle.bundle.specs.Bundles.{mostBytes, countOf, contentsOf, bodiesOf, checkOf, andThen, rowAt, bodyAt, placeOf}
+use Rattle.bundle.specs.Bundles.{mostBytes, countOf, contentsOf, bodiesOf, checkOf, andThen, bodyAt, placeOf}
 use Rattle.bundle.specs.Records.{Recorded, recordsIn, recordsOf, rowFor, rowsFor, bodiesFor, bundleOf}
 use Rattle.bundle.specs.Accepted.{Sound, accepted-sound, sound-accepted, no-refusal, row-reads}
 use Rattle.bundle.specs.Stretches.{bytesAt}
 use Rattle.adding.specs.Adding.{lastTime, grown, noRoom, addOf, held, room-left}
-use Rattle.adding.specs.Lists.{Every, every-append, any-append, some-append}
+use Rattle.adding.specs.Lists.{Every, IsByte, every-append, every-take, any-append, some-append}
 use Rattle.adding.specs.RecordLaws.{wrongRecord, recordTime, Timely, Good, contents-back, count-back, held-back, length-bundle, good-sound}
-use Rattle.adding.specs.HeldLaws.{moved, placed, placed-raised, sound-end, length-bodies, length-held, bodies-held, good-held}
+use Rattle.adding.specs.HeldLaws.{moved, placed-raised, sound-end, length-bodies, length-held, good-held, timely-held}
 use Rattle.adding.specs.Grown.{one-more, rows-grown, bodies-grown}
 
 -- ---- an accepted bundle's bodies are whole characters
@@ -218,6 +218,10 @@ module _ (buffer : List ℕ) (filled : ℕ) (k : Recorded) (n : ℕ) (e : addOf 
       body-held new (accepted-sound new (countOf old + 1) add-accepted .0) (countOf old) (omega (arith, accepted-sound new (countOf old + 1) add-accepted .1))
       ∙ ap (λ (l : List Recorded). getD l (countOf old) blank .body) add-records
       ∙ ap (λ (q : Recorded). q .body) (getD-at (recordsOf old) k [] blank (countOf old) (length-held old sound))
+
+-- in lent bytes every time fits
+pub bytes-timely : (buffer : List ℕ) (filled m : ℕ) → Every IsByte buffer → checkOf (take filled buffer) ≡ reads m → Every Timely (recordsOf (take filled buffer))
+bytes-timely buffer filled m p e = timely-held (take filled buffer) (accepted-sound (take filled buffer) m e .0) (every-take IsByte filled buffer p)
 
 -- ---- a bundle that is built by adding alone
 

@@ -1,20 +1,20 @@
 -- What a bundle that the check accepts holds, and that a bundle can hold it.
-use Prim.Native.Nat.{ℕ, zero, suc, _+_, _*_, _-_, _^_, _≤_, _<_}
+use Prim.Native.Nat.{ℕ, zero, suc, _+_, _^_, _≤_, _<_}
 use mathlib.Core.Bool.{Bool, false, not, _||_}
-use mathlib.Core.List.{List, [], _∷_, _++_, map}
-use mathlib.Core.Path.{_≡_, refl, sym, ap, ap₂, _∙_}
-use native.Mathlib.Nat.{le-refl, pow-suc, add-zero}
+use mathlib.Core.List.{List, [], _∷_, map}
+use mathlib.Core.Path.{_≡_, refl, sym, ap, _∙_}
+use native.Mathlib.Nat.{le-refl, pow-suc}
 use native.Mathlib.Omega.{arith}
 use borrow.Author.Tests.{ltb-false, eqb-true, not-false}
 use lib.Dec.{ltb, eqb, lit<}
 use lib.ListN.{length, take, drop, length-drop, take-append-drop}
-use lib.Seq.{length-take-le, take-all}
+use lib.Seq.{length-take-le}
 use Rattle.bundle.specs.declared.Row.{Row}
 use Rattle.bundle.specs.Numbers.{number}
 use Rattle.bundle.specs.Walks.{someWrong, endOf, both-false}
-use Rattle.bundle.specs.Rows.{rowOf, rowsOf, wrongRow, wrongRows, firstOffset, nextOffset, wrongPlace, wrongPlaces, bodiesEnd, length-rows}
+use Rattle.bundle.specs.Rows.{rowsOf, wrongRow, wrongRows, firstOffset, nextOffset, wrongPlace, wrongPlaces, bodiesEnd, length-rows}
 use Rattle.bundle.specs.Bundles.{countOf, contentsOf, bodiesOf}
-use Rattle.bundle.specs.Records.{Recorded, recordsIn, recordsOf, rowsFor, bodiesFor}
+use Rattle.bundle.specs.Records.{recordsIn, recordsOf, rowsFor, bodiesFor}
 use Rattle.bundle.specs.Accepted.{Sound}
 use Rattle.adding.specs.Lists.{Every, IsByte, every-drop}
 use Rattle.adding.specs.RecordLaws.{wrongRecord, recordTime, Timely, Good}

@@ -1,9 +1,9 @@
 -- Laws on lists that the bundle's laws ask for.
-use Prim.Native.Nat.{ℕ, zero, suc, _+_, _-_, _≤_, _<_}
+use Prim.Native.Nat.{ℕ, zero, suc, _<_}
 use mathlib.Core.Bool.{Bool, _||_, or-assoc}
 use mathlib.Core.List.{List, [], _∷_, _++_}
-use mathlib.Core.Path.{_≡_, refl, sym, ap, _∙_}
-use lib.ListN.{length, take, drop}
+use mathlib.Core.Path.{_≡_, refl, sym}
+use lib.ListN.{take, drop}
 use Rattle.format.specs.Lists.{any}
 use Rattle.bundle.specs.Walks.{someWrong, endOf}
 

@@ -1,20 +1,19 @@
 -- A bundle and what it holds: each is read back from the other.
-use Prim.Native.Nat.{ℕ, zero, suc, _+_, _*_, _-_, _^_, _≤_, _<_}
-use mathlib.Core.Bool.{Bool, true, false, not, _||_}
-use mathlib.Core.List.{List, [], _∷_, _++_, append-assoc, append-nil}
+use Prim.Native.Nat.{ℕ, suc, _+_, _*_, _^_, _≤_, _<_}
+use mathlib.Core.Bool.{Bool, false, _||_}
+use mathlib.Core.List.{List, [], _∷_, _++_, append-assoc}
 use mathlib.Core.Path.{_≡_, refl, sym, ap, ap₂, _∙_}
-use native.Mathlib.Nat.{add-assoc, add-zero, zero-add}
+use native.Mathlib.Nat.{add-assoc, add-zero}
 use native.Mathlib.Omega.{arith}
-use borrow.Author.Tests.{ltb-false, le-ltb, eq-eqb}
-use lib.Dec.{ltb, eqb}
-use lib.ListN.{length, getD, take, drop, length-append, length-take, length-drop}
-use lib.Seq.{take-at, drop-at, take-all, drop-drop, length-take-le, take-append-seam, drop-append-seam}
+use borrow.Author.Tests.{le-ltb, eq-eqb}
+use lib.ListN.{length, drop, length-append}
+use lib.Seq.{take-at, drop-at, drop-drop, take-append-seam, drop-append-seam}
 use Rattle.format.specs.Lists.{any}
 use Rattle.format.specs.Characters.{over}
 use Rattle.bundle.specs.declared.Row.{Row}
 use Rattle.bundle.specs.Numbers.{number, bytesOf, length-bytes, number-bytes}
-use Rattle.bundle.specs.Walks.{someWrong, endOf, both-false}
-use Rattle.bundle.specs.Rows.{mostRows, rowOf, rowsOf, wrongField, wrongRow, wrongRows, timeOf, firstOffset, nextOffset, wrongPlace, wrongPlaces, bodiesEnd}
+use Rattle.bundle.specs.Walks.{someWrong, endOf}
+use Rattle.bundle.specs.Rows.{mostRows, rowOf, rowsOf, wrongRow, wrongRows, firstOffset, wrongPlaces, bodiesEnd}
 use Rattle.bundle.specs.Bodies.{charactersOf}
 use Rattle.bundle.specs.Bundles.{mostBytes, countOf, contentsOf, bodiesOf}
 use Rattle.bundle.specs.Records.{Recorded, recordsIn, recordsOf, rowFor, rowsFor, bodiesFor, bytesOfRow, bytesOfRows, bundleOf}

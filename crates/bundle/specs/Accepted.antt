@@ -1,19 +1,19 @@
 -- What is known of a bundle that the check accepts, and what the readings of rows and bodies answer.
-use Prim.Native.Nat.{ℕ, _+_, _*_, _-_, _≤_, _<_}
-use mathlib.Core.Bool.{Bool, true, false, not, cond}
+use Prim.Native.Nat.{ℕ, _+_, _*_, _≤_, _<_}
+use mathlib.Core.Bool.{Bool, true, false, not}
 use mathlib.Core.List.{List}
 use mathlib.Core.Path.{_≡_, refl, sym, ap, _∙_}
 use native.Mathlib.Omega.{arith}
 use borrow.Author.Tests.{ltb-false, le-ltb, lt-leb, le-leb, leb-false, not-false, eqb-true}
 use lib.Dec.{ltb, leb, eqb}
-use lib.ListN.{length, getD, take, drop, length-drop}
-use lib.Seq.{take-all, drop-drop}
+use lib.ListN.{length, getD, take, drop}
+use lib.Seq.{drop-drop}
 use Rattle.format.specs.Lists.{any}
 use Rattle.format.specs.Characters.{over}
 use Rattle.format.specs.Answers.{Answer, reads, refusal, refuse, within}
 use Rattle.bundle.specs.declared.Row.{Row}
 use Rattle.bundle.specs.Walks.{both-false, none-wrong, endOf}
-use Rattle.bundle.specs.Rows.{mostRows, rowOf, rowsOf, wrongRows, firstOffset, nextOffset, wrongPlace, wrongPlaces, bodiesEnd, blankRow, rowIn, length-rows, row-at, row-in}
+use Rattle.bundle.specs.Rows.{mostRows, rowOf, wrongRows, firstOffset, nextOffset, wrongPlace, wrongPlaces, bodiesEnd, blankRow, rowIn, length-rows, row-at, row-in}
 use Rattle.bundle.specs.Bodies.{charactersOf}
 use Rattle.bundle.specs.Bundles.{mostBytes, countOf, contentsOf, bodiesOf, checkOf, andThen, rowAt, bodyAt, placeOf, Place}
 
