@@ -1,0 +1,64 @@
+-- `bundle::reading::row` meets its contract: each way out by the law of that answer. Assumes nothing.
+use borrow.Author.Needs.{needs}
+use Prim.Native.Nat.{_+_, _*_, _≤_}
+use mathlib.Core.Path.{_≡_, sym, ap, _∙_}
+use native.Mathlib.Omega.{arith}
+use denote.Ref.{now}
+use lib.ListN.{length}
+use Rattle.format.specs.Answers.{reads, refusal}
+use Rattle.bundle.specs.Bundles.{checkOf}
+use Rattle.bundle.specs.Accepted.{row-refused, row-none, row-found, row-inside}
+use Rattle.bundle.specs.Shown.{shownRow, shownChecked-same}
+use Rattle.bundle.proofs.reading.row.Statement.{statement}
+use Rattle.bundle.proofs.reading.row.Tie as tie
+
+-- the count as the check gave it
+counted : (c : tie.After-known-told) → checkOf (now (c .before .before .before .before .before .args .bundle)) ≡ reads (c .before .count .given .0 .0)
+counted c = shownChecked-same (checkOf (now (c .before .before .before .before .before .args .bundle))) (reads (c .before .count .given .0 .0)) (sym (c .before .before .before .check .ensures) ∙ c .before .count .given .1)
+
+inside : (c : tie.Else1) → 2 + 12 * c .before .before .before .before .before .before .args .i + 12 ≤ length (now (c .before .before .before .before .before .before .args .bundle))
+inside c = row-inside (now (c .before .before .before .before .before .before .args .bundle)) (c .before .before .before .before .before .before .args .i) (c .before .before .count .given .0 .0) (counted (c .before)) (c .if1 .left)
+
+check-requires : tie.Need-check-requires
+check-requires c κs = search needs
+
+enum-known-count : tie.Need-enum-known-count
+enum-known-count c = search needs
+
+mul-row-of : tie.Need-mul-row-of
+mul-row-of c = omega (arith, inside c)
+
+add-row-of : tie.Need-add-row-of
+add-row-of c = omega (arith, inside c)
+
+row-of-requires : tie.Need-row-of-requires
+row-of-requires c κs = inside c
+
+enum-known-number : tie.Need-enum-known-number
+enum-known-number c = search needs
+
+returns : tie.Need-returns
+returns c = ap shownRow (sym (row-none (now (c .before .before .before .before .before .before .args .bundle)) (c .before .before .before .before .before .before .args .i) (c .before .before .count .given .0 .0) (counted (c .before)) (c .if1 .taken)))
+
+returns-2 : tie.Need-returns-2
+returns-2 c = rw (c .row-of .ensures) (ap shownRow (sym (row-found (now (c .before .before .before .before .before .before .before .args .bundle)) (c .before .before .before .before .before .before .before .args .i) (c .before .before .before .count .given .0 .0) (counted (c .before .before)) (c .before .if1 .left))))
+
+returns-3 : tie.Need-returns-3
+returns-3 c =
+    let b = now (c .before .before .before .before .before .args .bundle) in
+    let k = c .before .number .given .0 .0 in
+    ap shownRow (sym (row-refused b (c .before .before .before .before .before .args .i) k (shownChecked-same (checkOf b) (refusal k) (sym (c .before .before .before .check .ensures) ∙ c .before .number .given .1))))
+
+pub row-spec : {M : Type 1} → statement M
+row-spec =
+    tie.close
+    (tie.spec
+    check-requires
+    enum-known-count
+    mul-row-of
+    add-row-of
+    row-of-requires
+    enum-known-number
+    returns
+    returns-2
+    returns-3)

@@ -1,0 +1,149 @@
+-- What is known of a bundle that the check accepts, and what the readings of rows and bodies answer.
+use Prim.Native.Nat.{ℕ, _+_, _*_, _-_, _≤_, _<_}
+use mathlib.Core.Bool.{Bool, true, false, not, cond}
+use mathlib.Core.List.{List}
+use mathlib.Core.Path.{_≡_, refl, sym, ap, _∙_}
+use native.Mathlib.Omega.{arith}
+use borrow.Author.Tests.{ltb-false, le-ltb, lt-leb, le-leb, leb-false, not-false, eqb-true}
+use lib.Dec.{ltb, leb, eqb}
+use lib.ListN.{length, getD, take, drop, length-drop}
+use lib.Seq.{take-all, drop-drop}
+use Rattle.format.specs.Lists.{any}
+use Rattle.format.specs.Characters.{over}
+use Rattle.format.specs.Answers.{Answer, reads, refusal, refuse, within}
+use Rattle.bundle.specs.declared.Row.{Row}
+use Rattle.bundle.specs.Walks.{both-false, none-wrong, endOf}
+use Rattle.bundle.specs.Rows.{mostRows, rowOf, rowsOf, wrongRows, firstOffset, nextOffset, wrongPlace, wrongPlaces, bodiesEnd, blankRow, rowIn, length-rows, row-at, row-in}
+use Rattle.bundle.specs.Bodies.{charactersOf}
+use Rattle.bundle.specs.Bundles.{mostBytes, countOf, contentsOf, bodiesOf, checkOf, andThen, rowAt, bodyAt, placeOf, Place}
+
+-- none of the refusals applies
+pub record Sound (b : List ℕ) : Type 0 where
+  pub fits : length b ≤ mostBytes
+  pub counted : 2 ≤ length b
+  pub few : countOf b ≤ mostRows
+  pub whole : firstOffset (countOf b) ≤ length b
+  pub fields : wrongRows 0 (contentsOf b) ≡ false
+  pub places : wrongPlaces (length b) (firstOffset (countOf b)) (contentsOf b) ≡ false
+  pub full : length b ≤ bodiesEnd (firstOffset (countOf b)) (contentsOf b)
+  pub range : any over (charactersOf (bodiesOf b)) ≡ false
+
+-- a chain that answers a value is past all its tests
+pub no-refusal : {A : Type 0} {k : ℕ} {a : A} → refusal k ≡ reads a → ⊥
+no-refusal e = let z : _≡_ {A = ℕ} 0 1 = cc in omega arith
+
+unrefused : (t30 t31 t32 t33 t34 t35 t36 t37 : Bool) (n m : ℕ)
+    → refuse 30 t30 (refuse 31 t31 (refuse 32 t32 (refuse 33 t33 (refuse 34 t34 (refuse 35 t35 (refuse 36 t36 (refuse 37 t37 (reads n)))))))) ≡ reads m
+    → (t30 ≡ false) × (t31 ≡ false) × (t32 ≡ false) × (t33 ≡ false) × (t34 ≡ false) × (t35 ≡ false) × (t36 ≡ false) × (t37 ≡ false) × (m ≡ n)
+unrefused true t31 t32 t33 t34 t35 t36 t37 n m e = absurd (no-refusal e)
+unrefused false true t32 t33 t34 t35 t36 t37 n m e = absurd (no-refusal e)
+unrefused false false true t33 t34 t35 t36 t37 n m e = absurd (no-refusal e)
+unrefused false false false true t34 t35 t36 t37 n m e = absurd (no-refusal e)
+unrefused false false false false true t35 t36 t37 n m e = absurd (no-refusal e)
+unrefused false false false false false true t36 t37 n m e = absurd (no-refusal e)
+unrefused false false false false false false true t37 n m e = absurd (no-refusal e)
+unrefused false false false false false false false true n m e = absurd (no-refusal e)
+unrefused false false false false false false false false n m e = (refl, refl, refl, refl, refl, refl, refl, refl, cc)
+
+-- The check accepts exactly the sound bundles, and gives their count.
+pub accepted-sound : (b : List ℕ) (n : ℕ) → checkOf b ≡ reads n → Sound b × (n ≡ countOf b)
+unfolding checkOf
+accepted-sound b n e =
+    let first = firstOffset (countOf b) in
+    let p = unrefused (ltb mostBytes (length b)) (ltb (length b) 2) (ltb mostRows (countOf b)) (ltb (length b) first) (wrongRows 0 (contentsOf b))
+    (wrongPlaces (length b) first (contentsOf b)) (ltb (bodiesEnd first (contentsOf b)) (length b)) (any over (charactersOf (bodiesOf b))) (countOf b) n e in (
+      record {
+        fits = ltb-false _ _ (p .0);
+        counted = ltb-false _ _ (p .1);
+        few = ltb-false _ _ (p .2);
+        whole = ltb-false _ _ (p .3);
+        fields = p .4;
+        places = p .5;
+        full = ltb-false _ _ (p .6);
+        range = p .7;
+      },
+      p .8,
+    )
+
+pub sound-accepted : (b : List ℕ) → Sound b → checkOf b ≡ reads (countOf b)
+unfolding checkOf
+sound-accepted b s =
+    rw (
+      le-ltb mostBytes (length b) (s .fits),
+      le-ltb (length b) 2 (s .counted),
+      le-ltb mostRows (countOf b) (s .few),
+      le-ltb (length b) (firstOffset (countOf b)) (s .whole),
+      s .fields,
+      s .places,
+      le-ltb (bodiesEnd (firstOffset (countOf b)) (contentsOf b)) (length b) (s .full),
+      s .range,
+    )
+
+-- Every body lies inside its bundle.
+pub body-inside : (b : List ℕ) (i : ℕ) → Sound b → i < countOf b
+    → getD (contentsOf b) i blankRow .offset + getD (contentsOf b) i blankRow .length ≤ length b
+body-inside b i s h =
+    let r : Row = getD (contentsOf b) i blankRow in
+    let place : ℕ = endOf nextOffset (firstOffset (countOf b)) (take i (contentsOf b)) in
+    let p = both-false (not (eqb (r .offset) place)) (ltb (length b) (place + r .length))
+    (none-wrong (wrongPlace (length b)) nextOffset (firstOffset (countOf b)) (contentsOf b) i blankRow (s .places)
+    (omega (arith, length-rows (countOf b) (drop 2 b)))) in
+    let o : r .offset ≡ place = eqb-true _ _ (not-false _ (p .0)) in
+    let m : place + r .length ≤ length b = ltb-false _ _ (p .1) in
+    omega arith
+
+-- What is answered of a row: the check's refusal, 39, or the row.
+module _ (b : List ℕ) (i : ℕ) where
+  pub row-refused : (k : ℕ) → checkOf b ≡ refusal k → rowAt b i ≡ refusal k
+  unfolding rowAt
+  row-refused k e = rw e
+
+  pub row-none : (n : ℕ) → checkOf b ≡ reads n → n ≤ i → rowAt b i ≡ refusal 39
+  unfolding rowAt
+  row-none n e h = rw (e, le-leb n i h)
+
+  pub row-reads : (n : ℕ) → checkOf b ≡ reads n → i < n → rowAt b i ≡ reads (getD (contentsOf b) i blankRow)
+  unfolding rowAt
+  row-reads n e h = rw (e, lt-leb n i h)
+
+  pub row-found : (n : ℕ) → checkOf b ≡ reads n → i < n → rowAt b i ≡ reads (rowOf (drop (2 + 12 * i) b))
+  row-found n e h =
+      row-reads n e h ∙ ap reads (row-at (countOf b) i (drop 2 b) (omega (arith, accepted-sound b n e .1)) ∙ ap rowOf (drop-drop (12 * i) 2 b))
+
+  -- the row that is read without the check
+  pub row-there : (n : ℕ) → checkOf b ≡ reads n → i < n → rowIn b i ≡ getD (contentsOf b) i blankRow
+  row-there n e h =
+      let s = accepted-sound b n e in
+      row-in b i (omega (arith, s .0 .few, s .1)) (omega (arith, s .0 .whole, s .1))
+      ∙ sym (row-at (countOf b) i (drop 2 b) (omega (arith, s .1)) ∙ ap rowOf (drop-drop (12 * i) 2 b))
+
+  pub row-unchecked : (n : ℕ) → checkOf b ≡ reads n → i < n → rowAt b i ≡ reads (rowIn b i)
+  row-unchecked n e h = row-reads n e h ∙ ap reads (sym (row-there n e h))
+
+  -- a row that is found lies whole in the bundle, and so does its body
+  pub row-inside : (n : ℕ) → checkOf b ≡ reads n → i < n → 2 + 12 * i + 12 ≤ length b
+  row-inside n e h = let s = accepted-sound b n e in omega (arith, s .0 .whole, s .1)
+
+  pub found-inside : (r : Row) → rowAt b i ≡ reads r → r .offset + r .length ≤ length b
+  unfolding rowAt
+  found-inside r e = go (checkOf b) refl e
+    where
+      pick : (n : ℕ) (t : Bool) → checkOf b ≡ reads n → leb n i ≡ t → refuse 39 t (reads (getD (contentsOf b) i blankRow)) ≡ reads r → r .offset + r .length ≤ length b
+      pick n true f h g = absurd (no-refusal g)
+      pick n false f h g =
+          let s = accepted-sound b n f in
+          let same : r ≡ getD (contentsOf b) i blankRow = cc in
+          rw same (body-inside b i (s .0) (omega (arith, leb-false n i h, s .1)))
+
+      go : (a : Answer ℕ) → checkOf b ≡ a → andThen a (λ n. refuse 39 (leb n i) (reads (getD (contentsOf b) i blankRow))) ≡ reads r → r .offset + r .length ≤ length b
+      go (refusal k) f g = absurd (no-refusal g)
+      go (reads n) f g = pick n (leb n i) f refl g
+
+  pub place-inside : (p : Place) → bodyAt b i ≡ reads p → p .offset + p .size ≤ length b
+  place-inside p e = go (rowAt b i) refl e
+    where
+      go : (a : Answer Row) → rowAt b i ≡ a → within placeOf a ≡ reads p → p .offset + p .size ≤ length b
+      go (refusal k) f g = absurd (no-refusal g)
+      go (reads r) f g =
+          let same : placeOf r ≡ p = cc in
+          rw (← same) (found-inside r f)

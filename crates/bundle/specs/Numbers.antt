@@ -1,0 +1,49 @@
+-- 01, "The run bundle": all numbers low byte first.
+use Prim.Native.Nat.{ℕ, zero, suc, _+_, _*_, _/_, _%_, _^_, _≤_, _<_}
+use mathlib.Core.List.{List, [], _∷_, _++_}
+use mathlib.Core.Path.{_≡_, refl, sym, ap, _∙_}
+use native.Mathlib.Nat.{pow-suc, pow-zero, add-zero, zero-add, mul-comm, mul-assoc, mul-add, add-assoc, one-mul}
+use native.Mathlib.Numerals.{add-one, add-two}
+use native.Mathlib.Omega.{arith}
+use lib.Arith.{lt-one}
+use lib.ListN.{length, getD, take, drop, length-take, length-drop}
+use lib.Seq.{drop-cons, take-add, drop-drop, length-take-le}
+
+-- the number that the bytes are
+unfoldable pub number : List ℕ → ℕ
+number [] = 0
+number (b ∷ s) = b + 256 * number s
+
+-- a number as so many bytes
+unfoldable pub bytesOf : ℕ → ℕ → List ℕ
+bytesOf zero n = []
+bytesOf (suc k) n = n % 256 ∷ bytesOf k (n / 256)
+
+-- Laws: the number of one list behind another; of two and of four bytes at a place, as the code reads them.
+pub number-append : (s t : List ℕ) → number (s ++ t) ≡ number s + 256 ^ length s * number t
+unfolding number
+number-append [] t = rw (zero-add, pow-zero, one-mul)
+number-append (b ∷ s) t =
+    rw (number-append s t, mul-add, pow-suc, mul-comm (256 ^ length s) 256, mul-assoc, add-assoc)
+
+pub number-two : (s : List ℕ) (i : ℕ) → i + 2 ≤ length s → getD s i 0 + 256 * getD s (i + 1) 0 ≡ number (take 2 (drop i s))
+unfolding number
+number-two s i h = rw (add-one, drop-cons s i 0 (omega arith), drop-cons s (suc i) 0 (omega arith), add-zero)
+
+pub number-four : (s : List ℕ) (i : ℕ) → i + 4 ≤ length s
+    → number (take 2 (drop i s)) + 65536 * number (take 2 (drop (i + 2) s)) ≡ number (take 4 (drop i s))
+number-four s i h =
+    rw (take-add 2 2 (drop i s), number-append, drop-drop, length-take-le 2 (drop i s) (omega (arith, length-drop i s)))
+
+-- a number that fits is read back from its bytes
+pub length-bytes : (k n : ℕ) → length (bytesOf k n) ≡ k
+unfolding bytesOf
+length-bytes zero n = refl
+length-bytes (suc k) n = ap suc (length-bytes k (n / 256))
+
+pub number-bytes : (k n : ℕ) → n < 256 ^ k → number (bytesOf k n) ≡ n
+unfolding number bytesOf
+number-bytes zero n h = sym (lt-one h)
+number-bytes (suc k) n h =
+    let p : n < 256 ^ k * 256 = rw pow-suc at h in
+    rw (number-bytes k (n / 256) (omega arith)) (omega arith)

@@ -1,0 +1,64 @@
+-- Walks along a list that carry a state: each element is looked at with the state in which the ones before it left the walk.
+use Prim.Native.Nat.{ℕ, zero, suc, _+_, _≤_, _<_, zero-le}
+use mathlib.Core.Bool.{Bool, true, false, _||_, or-assoc, or-false}
+use mathlib.Core.List.{List, [], _∷_}
+use mathlib.Core.Path.{_≡_, refl, sym, ap, _∙_}
+use native.Mathlib.Nat.{not-suc-le-zero}
+use native.Mathlib.Numerals.{add-one}
+use native.Mathlib.Omega.{arith}
+use lib.ListN.{length, getD, take, drop, drop-of-length-le}
+use lib.Seq.{drop-cons}
+
+-- some element fails its test
+unfoldable pub someWrong : {S A : Type 0} → (S → A → Bool) → (S → A → S) → S → List A → Bool
+someWrong wrong next s [] = false
+someWrong wrong next s (x ∷ l) = wrong s x || someWrong wrong next (next s x) l
+
+-- the state behind the last element
+unfoldable pub endOf : {S A : Type 0} → (S → A → S) → S → List A → S
+endOf next s [] = s
+endOf next s (x ∷ l) = endOf next (next s x) l
+
+-- Laws: where no element fails, each passes in the state that the ones before it left.
+pub both-false : (a b : Bool) → (a || b) ≡ false → (a ≡ false) × (b ≡ false)
+both-false true b e = (e, cc)
+both-false false b e = (refl, e)
+
+pub none-wrong : {S A : Type 0} (wrong : S → A → Bool) (next : S → A → S) (s : S) (l : List A) (i : ℕ) (d : A)
+    → someWrong wrong next s l ≡ false → i < length l → wrong (endOf next s (take i l)) (getD l i d) ≡ false
+unfolding someWrong endOf
+none-wrong wrong next s [] i d e h = absurd (not-suc-le-zero h)
+none-wrong wrong next s (x ∷ l) zero d e h = both-false (wrong s x) (someWrong wrong next (next s x) l) e .0
+none-wrong wrong next s (x ∷ l) (suc i) d e h =
+    none-wrong wrong next (next s x) l i d (both-false (wrong s x) (someWrong wrong next (next s x) l) e .1) (omega arith)
+
+-- A loop that walks: what was found so far, or is still to be found, is what there is, and the walk still ends where it does.
+pub record Walked {S A : Type 0} (wrong : S → A → Bool) (next : S → A → S) (l : List A) (s₀ : S) (i : ℕ) (s : S) (found : Bool) : Type 0 where
+  pub inside : i ≤ length l
+  pub so : (found || someWrong wrong next s (drop i l)) ≡ someWrong wrong next s₀ l
+  pub ends : endOf next s (drop i l) ≡ endOf next s₀ l
+
+module _ {S A : Type 0} {wrong : S → A → Bool} {next : S → A → S} {l : List A} {s₀ : S} where
+  pub walked-none : Walked wrong next l s₀ 0 s₀ false
+  walked-none = record { inside = zero-le; so = refl; ends = refl }
+
+  pub walked-next : {i : ℕ} {s : S} {found : Bool} (d : A)
+      → Walked wrong next l s₀ i s found → i < length l
+      → Walked wrong next l s₀ (i + 1) (next s (getD l i d)) (found || wrong s (getD l i d))
+  unfolding someWrong endOf
+  walked-next {i} {s} {found} d g h = record {
+    inside = omega arith;
+    so =
+        or-assoc found (wrong s (getD l i d)) (someWrong wrong next (next s (getD l i d)) (drop (i + 1) l))
+        ∙ ap (λ (b : Bool). found || b) (rw add-one (ap (someWrong wrong next s) (sym (drop-cons l i d h)))) ∙ g .so;
+    ends = rw add-one (ap (endOf next s) (sym (drop-cons l i d h))) ∙ g .ends;
+  }
+
+  pub walked-found : {i : ℕ} {s : S} {found : Bool} → Walked wrong next l s₀ i s found → length l ≤ i → found ≡ someWrong wrong next s₀ l
+  unfolding someWrong
+  walked-found {i} {s} {found} g h =
+      sym (or-false found) ∙ ap (λ (r : List A). found || someWrong wrong next s r) (sym (drop-of-length-le l h)) ∙ g .so
+
+  pub walked-end : {i : ℕ} {s : S} {found : Bool} → Walked wrong next l s₀ i s found → length l ≤ i → s ≡ endOf next s₀ l
+  unfolding endOf
+  walked-end {i} {s} {found} g h = ap (endOf next s) (sym (drop-of-length-le l h)) ∙ g .ends
