@@ -4,3 +4,4 @@ pub mod Listings
 pub mod Writing
 pub mod LineLaws
 pub mod Shown
+pub mod Longest
