@@ -1,3 +1,4 @@
--- The three demands on Skarrowith, and 01's thirteen values.
+-- The three demands on Skarrowith, 01's thirteen values, and the answers that are shown as enums.
 pub mod Demands
 pub mod Values
+pub mod OneToOne
