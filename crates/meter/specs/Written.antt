@@ -11,7 +11,7 @@ use Rattle.format.specs.declared.Request.the-variants.{Read, Enter, Leave}
 use Rattle.format.specs.declared.Telegram.{Telegram}
 use Rattle.format.specs.declared.View.{View}
 use Rattle.format.specs.declared.View.the-variants as views
-use Rattle.format.specs.Answers.{Answer, reads, refusal, refuse}
+use Rattle.format.specs.Answers.{reads}
 use Rattle.format.specs.AnswerLaws.{reads-same}
 use Rattle.format.specs.Lists.{any}
 use Rattle.format.specs.Lines.{readLine}
