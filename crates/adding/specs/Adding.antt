@@ -10,12 +10,13 @@ use lib.Dec.{ltb, leb}
 use lib.ListN.{length, getD, take, drop}
 use Rattle.format.specs.Lists.{any}
 use Rattle.format.specs.Characters.{over}
-use Rattle.format.specs.Answers.{Answer, reads, refusal, refuse}
+use Rattle.format.specs.Answers.{Answer, reads, refusal, refuse, follow}
+use Rattle.format.specs.TestLaws.{none}
 use Rattle.bundle.specs.declared.Row.{Row}
-use Rattle.bundle.specs.Walks.{endOf, both-false}
+use Rattle.bundle.specs.Walks.{endOf}
 use Rattle.bundle.specs.Rows.{mostRows, rowsOf, wrongRow, timeOf, blankRow, rowIn, length-rows}
 use Rattle.bundle.specs.Bodies.{charactersOf}
-use Rattle.bundle.specs.Bundles.{mostBytes, countOf, contentsOf, checkOf, andThen}
+use Rattle.bundle.specs.Bundles.{mostBytes, countOf, contentsOf, checkOf}
 use Rattle.bundle.specs.Accepted.{accepted-sound, row-there}
 use Rattle.bundle.specs.Records.{Recorded, recordsOf, rowFor, bundleOf}
 
@@ -40,7 +41,7 @@ noRoom buffer rows bytes = leb mostRows rows || ltb (length buffer) bytes || ltb
 unfoldable pub addOf : List ℕ → ℕ → Recorded → Answer ℕ
 addOf buffer filled k =
     refuse 30 (ltb (length buffer) filled)
-    (andThen (checkOf (take filled buffer)) (λ n.
+    (follow (checkOf (take filled buffer)) (λ n.
     refuse 34 (wrongRow (lastTime (contentsOf (take filled buffer))) (rowFor (filled + 12) k))
     (refuse 37 (any over (charactersOf (k .body)))
     (refuse 38 (noRoom buffer n (grown filled k))
@@ -107,6 +108,5 @@ module _ (buffer : List ℕ) (filled : ℕ) (k : Recorded) where
 -- what is left where there is room
 pub room-left : (buffer : List ℕ) (n m : ℕ) → noRoom buffer n m ≡ false → (n < mostRows) × (m ≤ length buffer) × (m ≤ mostBytes)
 room-left buffer n m e =
-    let p = both-false (leb mostRows n || ltb (length buffer) m) (ltb mostBytes m) e in
-    let q = both-false (leb mostRows n) (ltb (length buffer) m) (p .0) in
-    (leb-false mostRows n (q .0), ltb-false (length buffer) m (q .1), ltb-false mostBytes m (p .1))
+    let p = none (leb mostRows n) (ltb (length buffer) m ∷ (ltb mostBytes m ∷ [])) e in
+    (leb-false mostRows n (p .0), ltb-false (length buffer) m (p .1 .0), ltb-false mostBytes m (p .1 .1 .0))

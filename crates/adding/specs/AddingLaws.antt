@@ -1,29 +1,32 @@
 -- What adding leaves is a bundle that the check accepts: it holds what the old one held and what was added, last.
-use Prim.Native.Nat.{ℕ, zero, suc, _+_, _*_, _-_, _%_, _^_, _≤_, _<_}
-use mathlib.Core.Bool.{Bool, true, false, not, _||_, or-false}
+use Prim.Native.Nat.{ℕ, zero, suc, _+_, _%_, _≤_, _<_}
+use mathlib.Core.Bool.{Bool, true, false}
 use mathlib.Core.List.{List, [], _∷_, _++_, map}
 use mathlib.Core.Path.{_≡_, refl, sym, ap, ap₂, _∙_}
 use native.Mathlib.Omega.{arith}
-use borrow.Author.Tests.{ltb-false, eqb-false, eqb-true, not-false}
-use lib.Dec.{ltb, leb, eqb}
+use borrow.Author.Tests.{ltb-false, eqb-false}
+use lib.Dec.{ltb, eqb}
 use lib.ListN.{length, getD, take, drop, length-append, List·getD-append}
 use lib.Seq.{take-at, drop-drop, length-take-le, getD-at}
 use Rattle.format.specs.Lists.{any}
 use Rattle.format.specs.Characters.{over}
-use Rattle.format.specs.Answers.{Answer, reads, refusal, refuse, within}
+use Rattle.format.specs.Answers.{Answer, reads, refusal, refuse, within, follow}
+use Rattle.format.specs.AnswerLaws.{reads-same}
+use Rattle.format.specs.Tests.{neither}
+use Rattle.format.specs.TestLaws.{none, not-refused, all-passed}
 use Rattle.bundle.specs.declared.Row.{Row}
 use Rattle.bundle.specs.Numbers.{number}
-use Rattle.bundle.specs.Walks.{someWrong, endOf, both-false}
-use Rattle.bundle.specs.Rows.{mostRows, rowsOf, wrongField, wrongRow, wrongRows, timeOf, firstOffset, nextOffset, wrongPlace, wrongPlaces, blankRow, length-rows}
+use Rattle.bundle.specs.Walks.{someWrong, endOf}
+use Rattle.bundle.specs.Rows.{mostRows, rowsOf, wrongField, wrongRow, wrongRows, timeOf, firstOffset, nextOffset, wrongPlaces, blankRow, length-rows, places-right}
 use Rattle.bundle.specs.Bodies.{charactersOf}
-use Rattle.bundle.specs.Bundles.{mostBytes, countOf, contentsOf, bodiesOf, checkOf, andThen, rowAt, bodyAt, placeOf}
+use Rattle.bundle.specs.Bundles.{mostBytes, countOf, contentsOf, bodiesOf, checkOf, bodyAt, placeOf}
 use Rattle.bundle.specs.Records.{Recorded, recordsIn, recordsOf, rowFor, rowsFor, bodiesFor, bundleOf}
-use Rattle.bundle.specs.Accepted.{Sound, accepted-sound, sound-accepted, no-refusal, row-reads}
+use Rattle.bundle.specs.Accepted.{Sound, accepted-sound, sound-accepted, row-reads}
 use Rattle.bundle.specs.Stretches.{bytesAt}
 use Rattle.adding.specs.Adding.{lastTime, grown, noRoom, addOf, held, room-left}
-use Rattle.adding.specs.Lists.{Every, every-append, any-append, some-append}
+use Rattle.adding.specs.Lists.{Each, IsByte, each-append, each-take, any-append, some-append}
 use Rattle.adding.specs.RecordLaws.{wrongRecord, recordTime, Timely, Good, contents-back, count-back, held-back, length-bundle, good-sound}
-use Rattle.adding.specs.HeldLaws.{moved, placed, placed-raised, sound-end, length-bodies, length-held, bodies-held, good-held}
+use Rattle.adding.specs.HeldLaws.{moved, placed-raised, sound-end, length-bodies, length-held, good-held, timely-held}
 use Rattle.adding.specs.Grown.{one-more, rows-grown, bodies-grown}
 
 -- ---- an accepted bundle's bodies are whole characters
@@ -32,16 +35,14 @@ even-end : (before o : ℕ) (rows : List Row) → wrongRows before rows ≡ fals
 unfolding someWrong endOf
 even-end before o [] w = refl
 even-end before o (r ∷ rows) w =
-    let p = both-false (wrongRow before r) (someWrong wrongRow timeOf (r .time) rows) w in
-    let q = both-false (wrongField (r .position) (r .direction) (r .length)) (ltb (r .time) before) (p .0) in
+    let p = neither (wrongRow before r) (someWrong wrongRow timeOf (r .time) rows) w in
+    let q = neither (wrongField (r .position) (r .direction) (r .length)) (ltb (r .time) before) (p .0) in
     even-end (r .time) (nextOffset o r) rows (p .1) ∙ even-next o (r .length) (even-field (r .position) (r .direction) (r .length) (q .0))
   where
     even-field : (a c n : ℕ) → wrongField a c n ≡ false → n % 2 ≡ 0
     even-field a c n e =
-        let p = both-false (ltb a 1 || ltb 48 a || ltb 1 c || eqb (n % 2) 1 || ltb n 2) (ltb 1004 n) e in
-        let q = both-false (ltb a 1 || ltb 48 a || ltb 1 c || eqb (n % 2) 1) (ltb n 2) (p .0) in
-        let r = both-false (ltb a 1 || ltb 48 a || ltb 1 c) (eqb (n % 2) 1) (q .0) in
-        omega (arith, eqb-false (n % 2) 1 (r .1))
+        let p = none (ltb a 1) (ltb 48 a ∷ (ltb 1 c ∷ (eqb (n % 2) 1 ∷ (ltb n 2 ∷ (ltb 1004 n ∷ []))))) e in
+        omega (arith, eqb-false (n % 2) 1 (p .1 .1 .1 .0))
 
     even-next : (o n : ℕ) → n % 2 ≡ 0 → (o + n) % 2 ≡ o % 2
     even-next o n h = omega arith
@@ -68,15 +69,11 @@ blank = record { position = 0; direction = 0; time = 0; body = [] }
 
 body-in : (e o i : ℕ) (rows : List Row) (b : List ℕ) → wrongPlaces e o rows ≡ false → i < length rows
     → take (getD rows i blankRow .length) (drop (getD rows i blankRow .offset) b) ≡ getD (recordsIn rows (drop o b)) i blank .body
-unfolding someWrong recordsIn
+unfolding recordsIn
 body-in e o i [] b w h = let never : ⊥ = omega arith in absurd never
-body-in e o zero (r ∷ rows) b w h =
-    let p = both-false (wrongPlace e o r) (someWrong (wrongPlace e) nextOffset (nextOffset o r) rows) w in
-    let q = both-false (not (eqb (r .offset) o)) (ltb e (nextOffset o r)) (p .0) in
-    rw (eqb-true (r .offset) o (not-false (eqb (r .offset) o) (q .0)))
+body-in e o zero (r ∷ rows) b w h = rw (places-right e o r rows w .0)
 body-in e o (suc i) (r ∷ rows) b w h =
-    let p = both-false (wrongPlace e o r) (someWrong (wrongPlace e) nextOffset (nextOffset o r) rows) w in
-    body-in e (nextOffset o r) i rows b (p .1) (omega arith)
+    body-in e (nextOffset o r) i rows b (places-right e o r rows w .2) (omega arith)
     ∙ ap (λ (l : List ℕ). getD (recordsIn rows l) i blank .body) (sym (drop-drop (r .length) o b))
 
 pub body-held : (b : List ℕ) → Sound b → (i : ℕ) → i < countOf b → bytesAt (bodyAt b i) b ≡ getD (recordsOf b) i blank .body
@@ -94,13 +91,6 @@ pub record Taken (buffer : List ℕ) (filled : ℕ) (k : Recorded) (n : ℕ) : T
   pub room : noRoom buffer rows (grown filled k) ≡ false
   pub size : n ≡ grown filled k
 
-unrefused : (t34 t37 t38 : Bool) (m n : ℕ) → refuse 34 t34 (refuse 37 t37 (refuse 38 t38 (reads m))) ≡ reads n
-    → (t34 ≡ false) × (t37 ≡ false) × (t38 ≡ false) × (n ≡ m)
-unrefused true t37 t38 m n e = absurd (no-refusal e)
-unrefused false true t38 m n e = absurd (no-refusal e)
-unrefused false false true m n e = absurd (no-refusal e)
-unrefused false false false m n e = (refl, refl, refl, cc)
-
 pub taken : (buffer : List ℕ) (filled : ℕ) (k : Recorded) (n : ℕ) → addOf buffer filled k ≡ reads n → Taken buffer filled k n
 unfolding addOf
 taken buffer filled k n e = past (ltb (length buffer) filled) refl e
@@ -110,22 +100,24 @@ taken buffer filled k n e = past (ltb (length buffer) filled) refl e
         refuse 34 (wrongRow (lastTime (contentsOf (take filled buffer))) (rowFor (filled + 12) k))
         (refuse 37 (any over (charactersOf (k .body))) (refuse 38 (noRoom buffer m (grown filled k)) (reads (grown filled k))))
 
-    checked : (a : Answer ℕ) → ltb (length buffer) filled ≡ false → checkOf (take filled buffer) ≡ a → andThen a tests ≡ reads n → Taken buffer filled k n
-    checked (refusal m) h o g = absurd (no-refusal g)
+    checked : (a : Answer ℕ) → ltb (length buffer) filled ≡ false → checkOf (take filled buffer) ≡ a → follow a tests ≡ reads n → Taken buffer filled k n
+    checked (refusal m) h o g = absurd (not-refused g)
     checked (reads m) h o g =
-        let p = unrefused (wrongRow (lastTime (contentsOf (take filled buffer))) (rowFor (filled + 12) k)) (any over (charactersOf (k .body))) (noRoom buffer m (grown filled k)) (grown filled k) n g in
+        let p =
+        all-passed ((34, wrongRow (lastTime (contentsOf (take filled buffer))) (rowFor (filled + 12) k)) ∷ ((37, any over (charactersOf (k .body))) ∷ ((38, noRoom buffer m (grown filled k)) ∷ [])))
+        (reads (grown filled k)) g in
         record {
           rows = m;
           inside = ltb-false (length buffer) filled h;
           old = o;
-          right = p .0;
-          range = p .1;
-          room = p .2;
-          size = p .3;
+          right = p .0 .0;
+          range = p .0 .1 .0;
+          room = p .0 .1 .1 .0;
+          size = sym (reads-same (p .1));
         }
 
-    past : (t : Bool) → ltb (length buffer) filled ≡ t → refuse 30 t (andThen (checkOf (take filled buffer)) tests) ≡ reads n → Taken buffer filled k n
-    past true h g = absurd (no-refusal g)
+    past : (t : Bool) → ltb (length buffer) filled ≡ t → refuse 30 t (follow (checkOf (take filled buffer)) tests) ≡ reads n → Taken buffer filled k n
+    past true h g = absurd (not-refused g)
     past false h g = checked (checkOf (take filled buffer)) h refl g
 
 -- ---- what is left
@@ -135,7 +127,7 @@ abbrev pub left : List ℕ → ℕ → Recorded → ℕ → List ℕ
 left buffer filled k n = take n (held (reads n) buffer filled k)
 
 module _ (buffer : List ℕ) (filled : ℕ) (k : Recorded) (n : ℕ) (e : addOf buffer filled k ≡ reads n)
-    (times : Every Timely (recordsOf (take filled buffer))) (time : Timely k) where
+    (times : Each Timely (recordsOf (take filled buffer))) (time : Timely k) where
   abbrev old : List ℕ
   old = take filled buffer
 
@@ -184,7 +176,7 @@ module _ (buffer : List ℕ) (filled : ℕ) (k : Recorded) (n : ℕ) (e : addOf 
     few = omega (arith, one-more old sound k, accepted-sound old (t .rows) (t .old) .1, room .0);
     fits = omega (arith, size-all, t .size, room .2);
     fields = fields-all;
-    timely = every-append Timely (recordsOf old) (k ∷ []) times (time, tt);
+    timely = each-append Timely (recordsOf old) (k ∷ []) times (time, tt);
     range = range-all;
   }
 
@@ -219,6 +211,10 @@ module _ (buffer : List ℕ) (filled : ℕ) (k : Recorded) (n : ℕ) (e : addOf 
       ∙ ap (λ (l : List Recorded). getD l (countOf old) blank .body) add-records
       ∙ ap (λ (q : Recorded). q .body) (getD-at (recordsOf old) k [] blank (countOf old) (length-held old sound))
 
+-- in lent bytes every time fits
+pub bytes-timely : (buffer : List ℕ) (filled m : ℕ) → Each IsByte buffer → checkOf (take filled buffer) ≡ reads m → Each Timely (recordsOf (take filled buffer))
+bytes-timely buffer filled m p e = timely-held (take filled buffer) (accepted-sound (take filled buffer) m e .0) (each-take IsByte filled buffer p)
+
 -- ---- a bundle that is built by adding alone
 
 pub data Built : List ℕ → Type 0 where
@@ -230,14 +226,14 @@ empty-accepted : checkOf (0 ∷ (0 ∷ [])) ≡ reads 0
 unfolding checkOf number rowsOf someWrong endOf charactersOf any
 empty-accepted = refl
 
-built-sound : (b : List ℕ) → Built b → Sound b × Every Timely (recordsOf b)
+built-sound : (b : List ℕ) → Built b → Sound b × Each Timely (recordsOf b)
 unfolding number rowsOf recordsIn
 built-sound b empty = (accepted-sound (0 ∷ (0 ∷ [])) 0 empty-accepted .0, tt)
 built-sound b (more d f k n o time e) =
     let p = built-sound (take f d) o in
     let a = add-accepted d f k n e (p .1) time in (
       accepted-sound (left d f k n) (countOf (take f d) + 1) a .0,
-      rw (add-records d f k n e (p .1) time) (every-append Timely (recordsOf (take f d)) (k ∷ []) (p .1) (time, tt)),
+      rw (add-records d f k n e (p .1) time) (each-append Timely (recordsOf (take f d)) (k ∷ []) (p .1) (time, tt)),
     )
 
 pub built-accepted : (b : List ℕ) → Built b → checkOf b ≡ reads (countOf b)

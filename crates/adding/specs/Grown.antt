@@ -1,14 +1,14 @@
 -- The bundle with a row more, byte by byte, and that the steps of adding leave it.
-use Prim.Native.Nat.{ℕ, zero, suc, _+_, _*_, _-_, _≤_, _<_}
+use Prim.Native.Nat.{ℕ, zero, suc, _+_, _*_, _-_, _≤_}
 use mathlib.Core.List.{List, [], _∷_, _++_, append-assoc, append-nil}
-use mathlib.Core.Path.{_≡_, refl, sym, ap, ap₂, _∙_}
+use mathlib.Core.Path.{_≡_, refl, sym, ap, _∙_}
 use native.Mathlib.Nat.{add-zero, add-assoc, sub-zero, suc-sub-suc, zero-sub}
 use native.Mathlib.Omega.{arith}
-use lib.ListN.{length, getD, take, drop, length-append, length-drop}
-use lib.Seq.{take-append-le, take-take, take-nil, take-at, drop-at, getD-take, length-take-le, slice}
+use lib.ListN.{length, take, drop, length-append}
+use lib.Seq.{take-append-le, take-take, take-nil, drop-at, getD-take, length-take-le, slice}
 use Rattle.format.specs.Answers.{reads}
 use Rattle.bundle.specs.declared.Row.{Row}
-use Rattle.bundle.specs.Numbers.{number, bytesOf}
+use Rattle.bundle.specs.Numbers.{bytesOf}
 use Rattle.bundle.specs.Rows.{mostRows, rowOf, rowsOf, firstOffset}
 use Rattle.bundle.specs.Bundles.{mostBytes, countOf, contentsOf, bodiesOf, checkOf}
 use Rattle.bundle.specs.Records.{Recorded, recordsOf, rowFor, rowsFor, bodiesFor, bytesOfRow, bytesOfRows, bundleOf}

@@ -1,22 +1,21 @@
 -- What a bundle that the check accepts holds, and that a bundle can hold it.
-use Prim.Native.Nat.{ℕ, zero, suc, _+_, _*_, _-_, _^_, _≤_, _<_}
-use mathlib.Core.Bool.{Bool, false, not, _||_}
-use mathlib.Core.List.{List, [], _∷_, _++_, map}
-use mathlib.Core.Path.{_≡_, refl, sym, ap, ap₂, _∙_}
-use native.Mathlib.Nat.{le-refl, pow-suc, add-zero}
+use Prim.Native.Nat.{ℕ, zero, suc, _+_, _^_, _≤_, _<_}
+use mathlib.Core.Bool.{Bool, false, _||_}
+use mathlib.Core.List.{List, [], _∷_, map}
+use mathlib.Core.Path.{_≡_, refl, sym, ap, _∙_}
+use native.Mathlib.Nat.{le-refl, pow-suc}
 use native.Mathlib.Omega.{arith}
-use borrow.Author.Tests.{ltb-false, eqb-true, not-false}
-use lib.Dec.{ltb, eqb, lit<}
+use lib.Dec.{lit<}
 use lib.ListN.{length, take, drop, length-drop, take-append-drop}
-use lib.Seq.{length-take-le, take-all}
+use lib.Seq.{length-take-le}
 use Rattle.bundle.specs.declared.Row.{Row}
 use Rattle.bundle.specs.Numbers.{number}
-use Rattle.bundle.specs.Walks.{someWrong, endOf, both-false}
-use Rattle.bundle.specs.Rows.{rowOf, rowsOf, wrongRow, wrongRows, firstOffset, nextOffset, wrongPlace, wrongPlaces, bodiesEnd, length-rows}
+use Rattle.bundle.specs.Walks.{someWrong, endOf}
+use Rattle.bundle.specs.Rows.{rowsOf, wrongRow, wrongRows, firstOffset, nextOffset, wrongPlaces, bodiesEnd, length-rows, places-right}
 use Rattle.bundle.specs.Bundles.{countOf, contentsOf, bodiesOf}
-use Rattle.bundle.specs.Records.{Recorded, recordsIn, recordsOf, rowsFor, bodiesFor}
+use Rattle.bundle.specs.Records.{recordsIn, recordsOf, rowsFor, bodiesFor}
 use Rattle.bundle.specs.Accepted.{Sound}
-use Rattle.adding.specs.Lists.{Every, IsByte, every-drop}
+use Rattle.adding.specs.Lists.{Each, IsByte, each-drop}
 use Rattle.adding.specs.RecordLaws.{wrongRecord, recordTime, Timely, Good}
 
 -- the row with its body at another offset
@@ -41,23 +40,20 @@ end-least o [] = le-refl o
 end-least o (r ∷ rows) = omega (arith, end-least (nextOffset o r) rows)
 
 pub end-inside : (e o : ℕ) (rows : List Row) → wrongPlaces e o rows ≡ false → o ≤ e → bodiesEnd o rows ≤ e
-unfolding someWrong endOf
+unfolding endOf
 end-inside e o [] w h = h
 end-inside e o (r ∷ rows) w h =
-    let p = both-false (wrongPlace e o r) (someWrong (wrongPlace e) nextOffset (nextOffset o r) rows) w in
-    let q = both-false (not (eqb (r .offset) o)) (ltb e (nextOffset o r)) (p .0) in
-    end-inside e (nextOffset o r) rows (p .1) (ltb-false e (nextOffset o r) (q .1))
+    let p = places-right e o r rows w in
+    end-inside e (nextOffset o r) rows (p .2) (p .1)
 
 -- every row of a walk that finds no wrong place stands at its place
 pub placed-raised : (e o d : ℕ) (rows : List Row) → wrongPlaces e o rows ≡ false → placed (o + d) rows ≡ map (λ (r : Row). moved (r .offset + d) r) rows
-unfolding someWrong placed
+unfolding placed
 placed-raised e o d [] w = refl
 placed-raised e o d (r ∷ rows) w =
-    let p = both-false (wrongPlace e o r) (someWrong (wrongPlace e) nextOffset (nextOffset o r) rows) w in
-    let q = both-false (not (eqb (r .offset) o)) (ltb e (nextOffset o r)) (p .0) in
-    let same : r .offset ≡ o = eqb-true (r .offset) o (not-false (eqb (r .offset) o) (q .0)) in
+    let p = places-right e o r rows w in
     let next : nextOffset (o + d) r ≡ nextOffset o r + d = omega arith in
-    rw (same, next) (ap (λ (l : List Row). moved (o + d) r ∷ l) (placed-raised e (nextOffset o r) d rows (p .1)))
+    rw (p .0, next) (ap (λ (l : List Row). moved (o + d) r ∷ l) (placed-raised e (nextOffset o r) d rows (p .2)))
 
 -- ---- what stands behind the rows is long enough for the bodies
 
@@ -99,18 +95,18 @@ bodies-in o (r ∷ rows) s h =
 
 -- ---- the times of lent bytes
 
-pub number-take : (k : ℕ) (s : List ℕ) → Every IsByte s → number (take k s) < 256 ^ k
+pub number-take : (k : ℕ) (s : List ℕ) → Each IsByte s → number (take k s) < 256 ^ k
 unfolding number
 number-take zero s p = lit< tt
 number-take (suc k) [] p = rw pow-suc (omega (arith, number-take k [] tt))
 number-take (suc k) (x ∷ s) p = rw pow-suc (omega (arith, p .0, number-take k s (p .1)))
 
-pub times-of : (n : ℕ) (s : List ℕ) → Every IsByte s → Every (λ (r : Row). r .time < 256 ^ 4) (rowsOf n s)
+pub times-of : (n : ℕ) (s : List ℕ) → Each IsByte s → Each (λ (r : Row). r .time < 256 ^ 4) (rowsOf n s)
 unfolding rowsOf
 times-of zero s p = tt
-times-of (suc n) s p = (number-take 4 (drop 2 s) (every-drop IsByte 2 s p), times-of n (drop 12 s) (every-drop IsByte 12 s p))
+times-of (suc n) s p = (number-take 4 (drop 2 s) (each-drop IsByte 2 s p), times-of n (drop 12 s) (each-drop IsByte 12 s p))
 
-pub timely-in : (rows : List Row) (s : List ℕ) → Every (λ (r : Row). r .time < 256 ^ 4) rows → Every Timely (recordsIn rows s)
+pub timely-in : (rows : List Row) (s : List ℕ) → Each (λ (r : Row). r .time < 256 ^ 4) rows → Each Timely (recordsIn rows s)
 unfolding recordsIn
 timely-in [] s p = tt
 timely-in (r ∷ rows) s p = (p .0, timely-in rows (drop (r .length) s) (p .1))
@@ -133,7 +129,7 @@ module _ (b : List ℕ) (s : Sound b) where
   pub rows-held : (at : ℕ) → rowsFor at (recordsOf b) ≡ placed at (contentsOf b)
   rows-held at = rows-in at (firstOffset (countOf b)) (contentsOf b) (bodiesOf b) (omega (arith, sound-end, length-bodies))
 
-  pub good-held : Every Timely (recordsOf b) → Good (recordsOf b)
+  pub good-held : Each Timely (recordsOf b) → Good (recordsOf b)
   good-held t = record {
     few = rw length-held (s .few);
     fits = rw (length-held, bodies-held) (omega (arith, length-bodies, s .fits));
@@ -142,5 +138,5 @@ module _ (b : List ℕ) (s : Sound b) where
     range = rw bodies-held (s .range);
   }
 
-  pub timely-held : Every IsByte b → Every Timely (recordsOf b)
-  timely-held p = timely-in (contentsOf b) (bodiesOf b) (times-of (countOf b) (drop 2 b) (every-drop IsByte 2 b p))
+  pub timely-held : Each IsByte b → Each Timely (recordsOf b)
+  timely-held p = timely-in (contentsOf b) (bodiesOf b) (times-of (countOf b) (drop 2 b) (each-drop IsByte 2 b p))

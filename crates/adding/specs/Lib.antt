@@ -7,4 +7,5 @@ pub mod HeldLaws
 pub mod Writing
 pub mod Grown
 pub mod AddingLaws
+pub mod Whole
 pub mod Example

@@ -1,21 +1,21 @@
 -- Laws on lists that the bundle's laws ask for.
-use Prim.Native.Nat.{ℕ, zero, suc, _+_, _-_, _≤_, _<_}
+use Prim.Native.Nat.{ℕ, zero, suc, _<_}
 use mathlib.Core.Bool.{Bool, _||_, or-assoc}
 use mathlib.Core.List.{List, [], _∷_, _++_}
-use mathlib.Core.Path.{_≡_, refl, sym, ap, _∙_}
-use lib.ListN.{length, take, drop}
+use mathlib.Core.Path.{_≡_, refl, sym}
+use lib.ListN.{take, drop}
 use Rattle.format.specs.Lists.{any}
 use Rattle.bundle.specs.Walks.{someWrong, endOf}
 
 -- each element has the property
-abbrev pub Every : {A : Type 0} → (A → Type 0) → List A → Type 0
-Every P [] = Unit {0}
-Every P (x ∷ l) = P x × Every P l
+abbrev pub Each : {A : Type 0} → (A → Type 0) → List A → Type 0
+Each P [] = Unit {0}
+Each P (x ∷ l) = P x × Each P l
 
 module _ {A : Type 0} where
-  pub every-append : (P : A → Type 0) (l m : List A) → Every P l → Every P m → Every P (l ++ m)
-  every-append P [] m p q = q
-  every-append P (x ∷ l) m p q = (p .0, every-append P l m (p .1) q)
+  pub each-append : (P : A → Type 0) (l m : List A) → Each P l → Each P m → Each P (l ++ m)
+  each-append P [] m p q = q
+  each-append P (x ∷ l) m p q = (p .0, each-append P l m (p .1) q)
 
   pub any-append : (test : A → Bool) (l m : List A) → any test (l ++ m) ≡ (any test l || any test m)
   unfolding any
@@ -34,12 +34,12 @@ abbrev pub IsByte : ℕ → Type 0
 IsByte x = x < 256
 
 module _ {A : Type 0} (P : A → Type 0) where
-  pub every-take : (n : ℕ) (l : List A) → Every P l → Every P (take n l)
-  every-take zero l p = tt
-  every-take (suc n) [] p = tt
-  every-take (suc n) (x ∷ l) p = (p .0, every-take n l (p .1))
+  pub each-take : (n : ℕ) (l : List A) → Each P l → Each P (take n l)
+  each-take zero l p = tt
+  each-take (suc n) [] p = tt
+  each-take (suc n) (x ∷ l) p = (p .0, each-take n l (p .1))
 
-  pub every-drop : (n : ℕ) (l : List A) → Every P l → Every P (drop n l)
-  every-drop zero l p = p
-  every-drop (suc n) [] p = tt
-  every-drop (suc n) (x ∷ l) p = every-drop n l (p .1)
+  pub each-drop : (n : ℕ) (l : List A) → Each P l → Each P (drop n l)
+  each-drop zero l p = p
+  each-drop (suc n) [] p = tt
+  each-drop (suc n) (x ∷ l) p = each-drop n l (p .1)

@@ -1,25 +1,24 @@
 -- A bundle and what it holds: each is read back from the other.
-use Prim.Native.Nat.{ℕ, zero, suc, _+_, _*_, _-_, _^_, _≤_, _<_}
-use mathlib.Core.Bool.{Bool, true, false, not, _||_}
-use mathlib.Core.List.{List, [], _∷_, _++_, append-assoc, append-nil}
+use Prim.Native.Nat.{ℕ, suc, _+_, _*_, _^_, _≤_, _<_}
+use mathlib.Core.Bool.{Bool, false, _||_}
+use mathlib.Core.List.{List, [], _∷_, _++_, append-assoc}
 use mathlib.Core.Path.{_≡_, refl, sym, ap, ap₂, _∙_}
-use native.Mathlib.Nat.{add-assoc, add-zero, zero-add}
+use native.Mathlib.Nat.{add-assoc, add-zero}
 use native.Mathlib.Omega.{arith}
-use borrow.Author.Tests.{ltb-false, le-ltb, eq-eqb}
-use lib.Dec.{ltb, eqb}
-use lib.ListN.{length, getD, take, drop, length-append, length-take, length-drop}
-use lib.Seq.{take-at, drop-at, take-all, drop-drop, length-take-le, take-append-seam, drop-append-seam}
+use borrow.Author.Tests.{le-ltb, eq-eqb}
+use lib.ListN.{length, drop, length-append}
+use lib.Seq.{take-at, drop-at, drop-drop, take-append-seam, drop-append-seam}
 use Rattle.format.specs.Lists.{any}
 use Rattle.format.specs.Characters.{over}
 use Rattle.bundle.specs.declared.Row.{Row}
 use Rattle.bundle.specs.Numbers.{number, bytesOf, length-bytes, number-bytes}
-use Rattle.bundle.specs.Walks.{someWrong, endOf, both-false}
-use Rattle.bundle.specs.Rows.{mostRows, rowOf, rowsOf, wrongField, wrongRow, wrongRows, timeOf, firstOffset, nextOffset, wrongPlace, wrongPlaces, bodiesEnd}
+use Rattle.bundle.specs.Walks.{someWrong, endOf}
+use Rattle.bundle.specs.Rows.{mostRows, rowOf, rowsOf, wrongRow, wrongRows, firstOffset, wrongPlaces, bodiesEnd}
 use Rattle.bundle.specs.Bodies.{charactersOf}
 use Rattle.bundle.specs.Bundles.{mostBytes, countOf, contentsOf, bodiesOf}
 use Rattle.bundle.specs.Records.{Recorded, recordsIn, recordsOf, rowFor, rowsFor, bodiesFor, bytesOfRow, bytesOfRows, bundleOf}
 use Rattle.bundle.specs.Accepted.{Sound}
-use Rattle.adding.specs.Lists.{Every}
+use Rattle.adding.specs.Lists.{Each}
 
 -- ---- rows read back from their bytes
 
@@ -41,7 +40,7 @@ pub length-row : (r : Row) → length (bytesOfRow r) ≡ 12
 unfolding bytesOf
 length-row r = refl
 
-pub rows-back : (rows : List Row) (s : List ℕ) → Every Fitting rows → rowsOf (length rows) (bytesOfRows rows ++ s) ≡ rows
+pub rows-back : (rows : List Row) (s : List ℕ) → Each Fitting rows → rowsOf (length rows) (bytesOfRows rows ++ s) ≡ rows
 unfolding rowsOf bytesOfRows
 rows-back [] s f = refl
 rows-back (r ∷ rows) s f =
@@ -91,7 +90,7 @@ places-for e o (k ∷ ks) h =
     let all : length (k .body ++ bodiesFor ks) ≡ length (k .body) + length (bodiesFor ks) = length-append (k .body) (bodiesFor ks) in
     rw (eq-eqb o o refl, le-ltb e (o + length (k .body)) (omega arith)) (places-for e (o + length (k .body)) ks (omega arith))
 
-pub fitting-for : (o : ℕ) (ks : List Recorded) → 2 ≤ o → o + length (bodiesFor ks) ≤ mostBytes → Every Timely ks → Every Fitting (rowsFor o ks)
+pub fitting-for : (o : ℕ) (ks : List Recorded) → 2 ≤ o → o + length (bodiesFor ks) ≤ mostBytes → Each Timely ks → Each Fitting (rowsFor o ks)
 unfolding rowsFor bodiesFor
 fitting-for o [] l h t = tt
 fitting-for o (k ∷ ks) l h t =
@@ -111,7 +110,7 @@ pub record Good (ks : List Recorded) : Type 0 where
   pub few : length ks ≤ mostRows
   pub fits : firstOffset (length ks) + length (bodiesFor ks) ≤ mostBytes
   pub fields : someWrong wrongRecord recordTime 0 ks ≡ false
-  pub timely : Every Timely ks
+  pub timely : Each Timely ks
   pub range : any over (charactersOf (bodiesFor ks)) ≡ false
 
 module _ (ks : List Recorded) (g : Good ks) where
@@ -128,7 +127,7 @@ module _ (ks : List Recorded) (g : Good ks) where
 
   pub contents-back : contentsOf (bundleOf ks) ≡ rows
   contents-back =
-      let all : Every Fitting rows = fitting-for (firstOffset (length ks)) ks (omega arith) (g .fits) (g .timely) in
+      let all : Each Fitting rows = fitting-for (firstOffset (length ks)) ks (omega arith) (g .fits) (g .timely) in
       ap₂ rowsOf (count-back ∙ sym (length-rows-for (firstOffset (length ks)) ks)) behind-count ∙ rows-back rows (bodiesFor ks) all
 
   size-rows : length (bytesOfRows rows) ≡ 12 * length ks

@@ -1,7 +1,7 @@
 -- 01's number and values for each case of the answer that is an enum.
 use Prim.Native.Nat.{ℕ}
 use mathlib.Core.List.{List}
-use mathlib.Core.Path.{_≡_, refl}
+use mathlib.Core.Path.{_≡_}
 use Rattle.format.specs.Answers.{Answer, reads, refusal}
 use Rattle.bundle.specs.Records.{Recorded}
 use Rattle.adding.specs.declared.Added.{Added}

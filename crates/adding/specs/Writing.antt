@@ -1,14 +1,15 @@
 -- What the steps of adding leave in the buffer, and the loops that do them.
-use Prim.Native.Nat.{ℕ, zero, suc, _+_, _*_, _-_, _≤_, _<_, zero-le}
+use Prim.Native.Nat.{ℕ, suc, _+_, _*_, _-_, _≤_, _<_, zero-le}
 use mathlib.Core.List.{List, [], _∷_, _++_, append-assoc, append-nil}
 use mathlib.Core.Path.{_≡_, refl, sym, ap, ap₂, _∙_, subst}
 use native.Mathlib.Numerals.{add-one}
 use native.Mathlib.Omega.{arith}
-use lib.ListN.{length, getD, take, drop, set, length-set, length-append, length-drop, take-append-drop, List·getD-append, drop-of-length-le}
+use lib.ListN.{length, getD, take, drop, set, length-set, length-append, take-append-drop, List·getD-append, drop-of-length-le}
 use lib.Seq.{paste, paste-zero, paste-suc, slice, slice-empty, slice-cons, take-suc, set-at, take-all, length-take-le, getD-take, append-snoc, take-at, drop-at, drop-drop, drop-cons, length-slice}
 use Rattle.bundle.specs.declared.Row.{Row}
 use Rattle.bundle.specs.Numbers.{bytesOf, length-bytes}
-use Rattle.bundle.specs.Rows.{mostRows, rowOf, rowsOf, firstOffset, nextOffset, blankRow, rowIn, length-rows, row-at, row-in}
+use Rattle.bundle.specs.Rows.{mostRows, rowOf, rowsOf, firstOffset, blankRow, rowIn, length-rows, row-at, row-in}
+use Rattle.bundle.specs.Bundles.{mostBytes}
 use Rattle.bundle.specs.Records.{bytesOfRow, bytesOfRows}
 use Rattle.adding.specs.HeldLaws.{moved, placed, length-placed}
 use Rattle.adding.specs.RecordLaws.{length-row, length-rows-bytes}
@@ -138,7 +139,7 @@ pub record Placing (d : List ℕ) (n first i at : ℕ) (e : List ℕ) : Type 0 w
   pub inside : i ≤ n
   pub few : n ≤ mostRows
   pub room : firstOffset n ≤ length d
-  pub near : at ≤ 65536 + 65535 * i
+  pub near : at ≤ mostBytes + 65535 * i
   pub same : length e ≡ length d
   pub written : List ℕ
   pub size : length written ≡ 12 * i
@@ -146,7 +147,7 @@ pub record Placing (d : List ℕ) (n first i at : ℕ) (e : List ℕ) : Type 0 w
   pub whole : written ++ bytesOfRows (placed at (drop i (rowsOf n (drop 2 d)))) ≡ bytesOfRows (placed first (rowsOf n (drop 2 d)))
 
 module _ {d : List ℕ} {n first : ℕ} where
-  pub placing-none : n ≤ mostRows → firstOffset n ≤ length d → first ≤ 65536 → Placing d n first 0 first d
+  pub placing-none : n ≤ mostRows → firstOffset n ≤ length d → first ≤ mostBytes → Placing d n first 0 first d
   placing-none f h l = record {
     inside = zero-le;
     few = f;

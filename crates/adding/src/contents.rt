@@ -3,6 +3,7 @@ ghost use mathlib.Core.Path.{_≡_};
 ghost use Prim.Native.Nat.{_+_, _≤_};
 ghost use lib.ListN.{length};
 ghost use Rattle.bundle.specs.Rows.{mostRows, firstOffset};
+ghost use Rattle.bundle.specs.Bundles.{mostBytes};
 ghost use Rattle.adding.specs.Writing.{rowsPlaced, contentsGrown};
 use crate::writing::put;
 use crate::writing::row_bytes;
@@ -11,7 +12,7 @@ use bundle::reading::unchecked_row;
 
 // Each row gets the offset that its body has, the first body at a place and each next one behind it.
 fn place_rows(buffer: &mut [u8], count: usize, first: usize)
-    requires { ⌜ (count ≤ mostRows) × (firstOffset count ≤ length (now buffer)) × (first ≤ 65536) ⌝ }
+    requires { ⌜ (count ≤ mostRows) × (firstOffset count ≤ length (now buffer)) × (first ≤ mostBytes) ⌝ }
     ensures { λ _. ⌜ now (buffer .exit) ≡ rowsPlaced count first (now (buffer .entry)) ⌝ }
 {
     let mut at = first;

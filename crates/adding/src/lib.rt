@@ -4,7 +4,7 @@ ghost use Prim.Native.Nat.{_+_, _≤_};
 ghost use lib.ListN.{length, take};
 ghost use Rattle.format.specs.Answers.{reads};
 ghost use Rattle.bundle.specs.Bundles.{mostBytes, contentsOf, checkOf};
-ghost use Rattle.adding.specs.Adding.{recorded, lastTime, grown, held};
+ghost use Rattle.adding.specs.Adding.{recorded, lastTime, held};
 ghost use Rattle.adding.specs.Shown.{Adds};
 use crate::bodies::move_bodies;
 use crate::contents::grow_contents;

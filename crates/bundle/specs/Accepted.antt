@@ -1,21 +1,23 @@
 -- What is known of a bundle that the check accepts, and what the readings of rows and bodies answer.
-use Prim.Native.Nat.{ℕ, _+_, _*_, _-_, _≤_, _<_}
-use mathlib.Core.Bool.{Bool, true, false, not, cond}
-use mathlib.Core.List.{List}
+use Prim.Native.Nat.{ℕ, _+_, _*_, _≤_, _<_}
+use mathlib.Core.Bool.{Bool, true, false}
+use mathlib.Core.List.{List, [], _∷_}
 use mathlib.Core.Path.{_≡_, refl, sym, ap, _∙_}
 use native.Mathlib.Omega.{arith}
-use borrow.Author.Tests.{ltb-false, le-ltb, lt-leb, le-leb, leb-false, not-false, eqb-true}
-use lib.Dec.{ltb, leb, eqb}
-use lib.ListN.{length, getD, take, drop, length-drop}
-use lib.Seq.{take-all, drop-drop}
+use borrow.Author.Tests.{ltb-false, le-ltb, lt-leb, le-leb, leb-false}
+use lib.Dec.{ltb, leb}
+use lib.ListN.{length, getD, take, drop}
+use lib.Seq.{drop-drop}
 use Rattle.format.specs.Lists.{any}
 use Rattle.format.specs.Characters.{over}
-use Rattle.format.specs.Answers.{Answer, reads, refusal, refuse, within}
+use Rattle.format.specs.Answers.{Answer, reads, refusal, refuse, within, follow}
+use Rattle.format.specs.AnswerLaws.{reads-same}
+use Rattle.format.specs.TestLaws.{not-refused, all-passed, all-passing}
 use Rattle.bundle.specs.declared.Row.{Row}
-use Rattle.bundle.specs.Walks.{both-false, none-wrong, endOf}
-use Rattle.bundle.specs.Rows.{mostRows, rowOf, rowsOf, wrongRows, firstOffset, nextOffset, wrongPlace, wrongPlaces, bodiesEnd, blankRow, rowIn, length-rows, row-at, row-in}
+use Rattle.bundle.specs.Walks.{none-wrong, endOf}
+use Rattle.bundle.specs.Rows.{mostRows, rowOf, wrongRows, firstOffset, nextOffset, wrongPlace, wrongPlaces, bodiesEnd, blankRow, rowIn, length-rows, row-at, row-in, place-right}
 use Rattle.bundle.specs.Bodies.{charactersOf}
-use Rattle.bundle.specs.Bundles.{mostBytes, countOf, contentsOf, bodiesOf, checkOf, andThen, rowAt, bodyAt, placeOf, Place}
+use Rattle.bundle.specs.Bundles.{mostBytes, countOf, contentsOf, bodiesOf, checkOf, rowAt, bodyAt, placeOf, Place}
 
 -- none of the refusals applies
 pub record Sound (b : List ℕ) : Type 0 where
@@ -28,69 +30,64 @@ pub record Sound (b : List ℕ) : Type 0 where
   pub full : length b ≤ bodiesEnd (firstOffset (countOf b)) (contentsOf b)
   pub range : any over (charactersOf (bodiesOf b)) ≡ false
 
--- a chain that answers a value is past all its tests
-pub no-refusal : {A : Type 0} {k : ℕ} {a : A} → refusal k ≡ reads a → ⊥
-no-refusal e = let z : _≡_ {A = ℕ} 0 1 = cc in omega arith
-
-unrefused : (t30 t31 t32 t33 t34 t35 t36 t37 : Bool) (n m : ℕ)
-    → refuse 30 t30 (refuse 31 t31 (refuse 32 t32 (refuse 33 t33 (refuse 34 t34 (refuse 35 t35 (refuse 36 t36 (refuse 37 t37 (reads n)))))))) ≡ reads m
-    → (t30 ≡ false) × (t31 ≡ false) × (t32 ≡ false) × (t33 ≡ false) × (t34 ≡ false) × (t35 ≡ false) × (t36 ≡ false) × (t37 ≡ false) × (m ≡ n)
-unrefused true t31 t32 t33 t34 t35 t36 t37 n m e = absurd (no-refusal e)
-unrefused false true t32 t33 t34 t35 t36 t37 n m e = absurd (no-refusal e)
-unrefused false false true t33 t34 t35 t36 t37 n m e = absurd (no-refusal e)
-unrefused false false false true t34 t35 t36 t37 n m e = absurd (no-refusal e)
-unrefused false false false false true t35 t36 t37 n m e = absurd (no-refusal e)
-unrefused false false false false false true t36 t37 n m e = absurd (no-refusal e)
-unrefused false false false false false false true t37 n m e = absurd (no-refusal e)
-unrefused false false false false false false false true n m e = absurd (no-refusal e)
-unrefused false false false false false false false false n m e = (refl, refl, refl, refl, refl, refl, refl, refl, cc)
+-- the refusals of the check, each with its test
+abbrev tests : List ℕ → List (ℕ × Bool)
+tests b =
+    let first = firstOffset (countOf b) in
+    (30, ltb mostBytes (length b))
+    ∷ ((31, ltb (length b) 2)
+    ∷ ((32, ltb mostRows (countOf b))
+    ∷ ((33, ltb (length b) first)
+    ∷ ((34, wrongRows 0 (contentsOf b))
+    ∷ ((35, wrongPlaces (length b) first (contentsOf b))
+    ∷ ((36, ltb (bodiesEnd first (contentsOf b)) (length b)) ∷ ((37, any over (charactersOf (bodiesOf b))) ∷ [])))))))
 
 -- The check accepts exactly the sound bundles, and gives their count.
 pub accepted-sound : (b : List ℕ) (n : ℕ) → checkOf b ≡ reads n → Sound b × (n ≡ countOf b)
 unfolding checkOf
 accepted-sound b n e =
-    let first = firstOffset (countOf b) in
-    let p = unrefused (ltb mostBytes (length b)) (ltb (length b) 2) (ltb mostRows (countOf b)) (ltb (length b) first) (wrongRows 0 (contentsOf b))
-    (wrongPlaces (length b) first (contentsOf b)) (ltb (bodiesEnd first (contentsOf b)) (length b)) (any over (charactersOf (bodiesOf b))) (countOf b) n e in (
+    let q = all-passed (tests b) (reads (countOf b)) e in
+    let p = q .0 in (
       record {
         fits = ltb-false _ _ (p .0);
-        counted = ltb-false _ _ (p .1);
-        few = ltb-false _ _ (p .2);
-        whole = ltb-false _ _ (p .3);
-        fields = p .4;
-        places = p .5;
-        full = ltb-false _ _ (p .6);
-        range = p .7;
+        counted = ltb-false _ _ (p .1 .0);
+        few = ltb-false _ _ (p .1 .1 .0);
+        whole = ltb-false _ _ (p .1 .1 .1 .0);
+        fields = p .1 .1 .1 .1 .0;
+        places = p .1 .1 .1 .1 .1 .0;
+        full = ltb-false _ _ (p .1 .1 .1 .1 .1 .1 .0);
+        range = p .1 .1 .1 .1 .1 .1 .1 .0;
       },
-      p .8,
+      sym (reads-same (q .1)),
     )
 
 pub sound-accepted : (b : List ℕ) → Sound b → checkOf b ≡ reads (countOf b)
 unfolding checkOf
 sound-accepted b s =
-    rw (
+    let first = firstOffset (countOf b) in
+    all-passing (tests b) (reads (countOf b)) (
       le-ltb mostBytes (length b) (s .fits),
-      le-ltb (length b) 2 (s .counted),
-      le-ltb mostRows (countOf b) (s .few),
-      le-ltb (length b) (firstOffset (countOf b)) (s .whole),
-      s .fields,
-      s .places,
-      le-ltb (bodiesEnd (firstOffset (countOf b)) (contentsOf b)) (length b) (s .full),
-      s .range,
+      (
+        le-ltb (length b) 2 (s .counted),
+        (
+          le-ltb mostRows (countOf b) (s .few),
+          (
+            le-ltb (length b) first (s .whole),
+            (s .fields, (s .places, (le-ltb (bodiesEnd first (contentsOf b)) (length b) (s .full), (s .range, tt)))),
+          ),
+        ),
+      ),
     )
 
 -- Every body lies inside its bundle.
 pub body-inside : (b : List ℕ) (i : ℕ) → Sound b → i < countOf b
     → getD (contentsOf b) i blankRow .offset + getD (contentsOf b) i blankRow .length ≤ length b
 body-inside b i s h =
-    let r : Row = getD (contentsOf b) i blankRow in
     let place : ℕ = endOf nextOffset (firstOffset (countOf b)) (take i (contentsOf b)) in
-    let p = both-false (not (eqb (r .offset) place)) (ltb (length b) (place + r .length))
+    let p = place-right (length b) place (getD (contentsOf b) i blankRow)
     (none-wrong (wrongPlace (length b)) nextOffset (firstOffset (countOf b)) (contentsOf b) i blankRow (s .places)
     (omega (arith, length-rows (countOf b) (drop 2 b)))) in
-    let o : r .offset ≡ place = eqb-true _ _ (not-false _ (p .0)) in
-    let m : place + r .length ≤ length b = ltb-false _ _ (p .1) in
-    omega arith
+    omega (arith, p)
 
 -- What is answered of a row: the check's refusal, 39, or the row.
 module _ (b : List ℕ) (i : ℕ) where
@@ -129,21 +126,21 @@ module _ (b : List ℕ) (i : ℕ) where
   found-inside r e = go (checkOf b) refl e
     where
       pick : (n : ℕ) (t : Bool) → checkOf b ≡ reads n → leb n i ≡ t → refuse 39 t (reads (getD (contentsOf b) i blankRow)) ≡ reads r → r .offset + r .length ≤ length b
-      pick n true f h g = absurd (no-refusal g)
+      pick n true f h g = absurd (not-refused g)
       pick n false f h g =
           let s = accepted-sound b n f in
           let same : r ≡ getD (contentsOf b) i blankRow = cc in
           rw same (body-inside b i (s .0) (omega (arith, leb-false n i h, s .1)))
 
-      go : (a : Answer ℕ) → checkOf b ≡ a → andThen a (λ n. refuse 39 (leb n i) (reads (getD (contentsOf b) i blankRow))) ≡ reads r → r .offset + r .length ≤ length b
-      go (refusal k) f g = absurd (no-refusal g)
+      go : (a : Answer ℕ) → checkOf b ≡ a → follow a (λ n. refuse 39 (leb n i) (reads (getD (contentsOf b) i blankRow))) ≡ reads r → r .offset + r .length ≤ length b
+      go (refusal k) f g = absurd (not-refused g)
       go (reads n) f g = pick n (leb n i) f refl g
 
   pub place-inside : (p : Place) → bodyAt b i ≡ reads p → p .offset + p .size ≤ length b
   place-inside p e = go (rowAt b i) refl e
     where
       go : (a : Answer Row) → rowAt b i ≡ a → within placeOf a ≡ reads p → p .offset + p .size ≤ length b
-      go (refusal k) f g = absurd (no-refusal g)
+      go (refusal k) f g = absurd (not-refused g)
       go (reads r) f g =
           let same : placeOf r ≡ p = cc in
           rw (← same) (found-inside r f)

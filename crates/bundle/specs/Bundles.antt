@@ -5,7 +5,7 @@ use lib.Dec.{ltb, leb}
 use lib.ListN.{length, getD, take, drop}
 use Rattle.format.specs.Lists.{any}
 use Rattle.format.specs.Characters.{over}
-use Rattle.format.specs.Answers.{Answer, reads, refusal, refuse, within}
+use Rattle.format.specs.Answers.{Answer, reads, refuse, within, follow}
 use Rattle.bundle.specs.declared.Row.{Row}
 use Rattle.bundle.specs.Numbers.{number}
 use Rattle.bundle.specs.Rows.{mostRows, rowsOf, wrongRows, firstOffset, wrongPlaces, bodiesEnd, blankRow}
@@ -42,14 +42,9 @@ checkOf b =
     (refuse 37 (any over (charactersOf (bodiesOf b)))
     (reads (countOf b)))))))))
 
--- A refusal stays what it is; a value is tried further.
-abbrev pub andThen : {A B : Type 0} → Answer A → (A → Answer B) → Answer B
-andThen (refusal n) next = refusal n
-andThen (reads a) next = next a
-
 -- One row's five fields; 39 no such row. Rows count from 0.
 unfoldable pub rowAt : List ℕ → ℕ → Answer Row
-rowAt b i = andThen (checkOf b) (λ n. refuse 39 (leb n i) (reads (getD (contentsOf b) i blankRow)))
+rowAt b i = follow (checkOf b) (λ n. refuse 39 (leb n i) (reads (getD (contentsOf b) i blankRow)))
 
 -- Where a row's body lies.
 pub record Place : Type 0 where

@@ -1,6 +1,5 @@
 -- 01, "The run bundle": what a bundle holds, and the bundle that holds it.
 use Prim.Native.Nat.{ℕ, _+_}
-use mathlib.Core.Bool.{Bool}
 use mathlib.Core.List.{List, [], _∷_, _++_}
 use lib.ListN.{length, take, drop}
 use Rattle.bundle.specs.declared.Row.{Row}

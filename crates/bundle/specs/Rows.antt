@@ -5,11 +5,12 @@ use mathlib.Core.List.{List, [], _∷_}
 use mathlib.Core.Path.{_≡_, refl, sym, ap, _∙_}
 use native.Mathlib.Nat.{not-suc-le-zero, add-zero}
 use native.Mathlib.Omega.{arith}
-use borrow.Author.Tests.{le-ltb, lt-leb}
+use borrow.Author.Tests.{le-ltb, lt-leb, ltb-false}
 use lib.Dec.{ltb, leb, eqb}
 use lib.ListN.{length, getD, take, drop}
 use lib.Seq.{drop-drop, getD-drop}
 use Rattle.format.specs.Lists.{at}
+use Rattle.format.specs.Tests.{neither, not-different}
 use Rattle.bundle.specs.declared.Row.{Row}
 use Rattle.bundle.specs.Numbers.{number}
 use Rattle.bundle.specs.Walks.{someWrong, endOf, Walked, walked-none, walked-next, walked-found, walked-end}
@@ -97,6 +98,20 @@ pub row-read : (s : List ℕ) (i : ℕ) → record {
   length = number (take 2 (drop (i + 10) s));
 } ≡ rowOf (drop i s)
 row-read s i = rw (getD-drop i s 0 0, getD-drop i s 1 0, add-zero, drop-drop 2 i s, drop-drop 6 i s, drop-drop 10 i s)
+
+-- a place that is not wrong
+pub place-right : (end place : ℕ) (r : Row) → wrongPlace end place r ≡ false → (r .offset ≡ place) × (nextOffset place r ≤ end)
+place-right end place r w =
+    let p = neither (not (eqb (r .offset) place)) (ltb end (nextOffset place r)) w in
+    (not-different (r .offset) place (p .0), ltb-false end (nextOffset place r) (p .1))
+
+pub places-right : (end place : ℕ) (r : Row) (rows : List Row) → wrongPlaces end place (r ∷ rows) ≡ false
+    → (r .offset ≡ place) × (nextOffset place r ≤ end) × (wrongPlaces end (nextOffset place r) rows ≡ false)
+unfolding someWrong
+places-right end place r rows w =
+    let p = neither (wrongPlace end place r) (wrongPlaces end (nextOffset place r) rows) w in
+    let q = place-right end place r (p .0) in
+    (q .0, q .1, p .1)
 
 -- the row that is read with nothing else asked for
 pub row-in : (b : List ℕ) (i : ℕ) → i < mostRows → firstOffset (i + 1) ≤ length b → rowIn b i ≡ rowOf (drop (firstOffset i) b)

@@ -1,6 +1,6 @@
 -- Walks along a list that carry a state: each element is looked at with the state in which the ones before it left the walk.
 use Prim.Native.Nat.{ℕ, zero, suc, _+_, _≤_, _<_, zero-le}
-use mathlib.Core.Bool.{Bool, true, false, _||_, or-assoc, or-false}
+use mathlib.Core.Bool.{Bool, false, _||_, or-assoc, or-false}
 use mathlib.Core.List.{List, [], _∷_}
 use mathlib.Core.Path.{_≡_, refl, sym, ap, _∙_}
 use native.Mathlib.Nat.{not-suc-le-zero}
@@ -8,6 +8,7 @@ use native.Mathlib.Numerals.{add-one}
 use native.Mathlib.Omega.{arith}
 use lib.ListN.{length, getD, take, drop, drop-of-length-le}
 use lib.Seq.{drop-cons}
+use Rattle.format.specs.Tests.{neither}
 
 -- some element fails its test
 unfoldable pub someWrong : {S A : Type 0} → (S → A → Bool) → (S → A → S) → S → List A → Bool
@@ -20,17 +21,13 @@ endOf next s [] = s
 endOf next s (x ∷ l) = endOf next (next s x) l
 
 -- Laws: where no element fails, each passes in the state that the ones before it left.
-pub both-false : (a b : Bool) → (a || b) ≡ false → (a ≡ false) × (b ≡ false)
-both-false true b e = (e, cc)
-both-false false b e = (refl, e)
-
 pub none-wrong : {S A : Type 0} (wrong : S → A → Bool) (next : S → A → S) (s : S) (l : List A) (i : ℕ) (d : A)
     → someWrong wrong next s l ≡ false → i < length l → wrong (endOf next s (take i l)) (getD l i d) ≡ false
 unfolding someWrong endOf
 none-wrong wrong next s [] i d e h = absurd (not-suc-le-zero h)
-none-wrong wrong next s (x ∷ l) zero d e h = both-false (wrong s x) (someWrong wrong next (next s x) l) e .0
+none-wrong wrong next s (x ∷ l) zero d e h = neither (wrong s x) (someWrong wrong next (next s x) l) e .0
 none-wrong wrong next s (x ∷ l) (suc i) d e h =
-    none-wrong wrong next (next s x) l i d (both-false (wrong s x) (someWrong wrong next (next s x) l) e .1) (omega arith)
+    none-wrong wrong next (next s x) l i d (neither (wrong s x) (someWrong wrong next (next s x) l) e .1) (omega arith)
 
 -- A loop that walks: what was found so far, or is still to be found, is what there is, and the walk still ends where it does.
 pub record Walked {S A : Type 0} (wrong : S → A → Bool) (next : S → A → S) (l : List A) (s₀ : S) (i : ℕ) (s : S) (found : Bool) : Type 0 where

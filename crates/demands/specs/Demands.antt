@@ -22,6 +22,11 @@ use Rattle.exchange.specs.declared.State.the-variants.{Resend, Well}
 use Rattle.exchange.specs.Steps.{begun}
 use Rattle.exchange.specs.Histories.{Step, heard, after, made, ended, EndedWell}
 use Rattle.exchange.specs.Theorems
+use Rattle.meter.specs.Meters.{zeros}
+use Rattle.meter.specs.declared.Meter.{Meter}
+use Rattle.meter.specs.Histories.{Event, run, sometime, entersFromUse}
+use Rattle.meter.specs.HistoryLaws
+use Rattle.meter.specs.HistoryLaws.{Rises}
 
 -- ---- Demand 1: any input gets a result. Every public function answers by an equation `r ≡ definition` over total definitions
 -- (docs/PROMISES.md), so that two answers to one input are the same; that the work ends is part of what a proved crate says.
@@ -73,3 +78,14 @@ module _ (request : Request) (start : Clock) (h : List Step) where
   pub resend-stays : (cause : Cause) → after request start h .state ≡ Resend cause → (line : List ℕ) (t : Clock)
       → after request start (h ++ (heard line t ∷ [])) ≡ after request start h
   resend-stays = Theorems.resend-stays request start h
+
+-- ---- Demand 2, the simulated meter: what holds over every history of steps, refused ones included.
+
+-- The verification totals become zero only by an enter that finds the meter in use.
+pub cleared-by-enter : (es : List Event) (m : Meter) → (m .core .verified ≡ zeros → ⊥) → run m es .core .verified ≡ zeros
+    → sometime entersFromUse m es ≡ true
+cleared-by-enter = HistoryLaws.zero-by-enter
+
+-- As long as there is no such enter they never fall.
+pub totals-never-fall : (es : List Event) (m : Meter) → sometime entersFromUse m es ≡ false → Rises (m .core .verified) (run m es .core .verified)
+totals-never-fall = HistoryLaws.never-falls

@@ -2,16 +2,18 @@
 use Prim.Native.Nat.{ℕ, _+_, _≤_, _<_}
 use mathlib.Core.Bool.{Bool, true, false, cond, not, true≢false}
 use mathlib.Core.Path.{_≡_, refl, sym}
+use native.Mathlib.Omega.{arith}
 use lib.Dec.{ltb}
 use borrow.Author.Tests.{ltb-true, ltb-false, le-ltb, not-false}
 use Rattle.clock.specs.declared.Clock.{Clock}
-use Rattle.clock.specs.Times.{replyTime, late, earlier, le-late}
+use Rattle.clock.specs.Times.{replyTime, late, earlier, late-true, late-false}
 use Rattle.format.specs.declared.Request.{Request}
 use Rattle.format.specs.declared.Telegram.{Telegram}
 use Rattle.format.specs.declared.View.{View}
 use Rattle.format.specs.declared.View.the-variants as views
 use Rattle.format.specs.Answers.{Answer, reads, refusal, refuse}
 use Rattle.format.specs.Telegrams.{blank, shown}
+use Rattle.format.specs.Tests.{by-test}
 use Rattle.format.specs.Views.{viewOf, viewed}
 use Rattle.exchange.specs.declared.Cause.{Cause}
 use Rattle.exchange.specs.declared.Cause.the-variants.{Silent, Damaged, WrongKind}
@@ -182,7 +184,14 @@ module _ (x : Exchange) (t : Clock) where
   pub uncalled : (called : Bool) (next : Exchange) → called ≡ false → step x t called next ≡ refusal (refusedBy x t)
   uncalled called next c = rw c (one-of (earlier (x .last .0) (t .0)) 40 41)
 
+-- up to 450 after the send the window is open, and then it is past
+pub open-window : (x : Exchange) (t : Clock) → t .0 ≤ x .began .0 + replyTime → past x t ≡ false
+open-window x t h = by-test (past x t) (λ e. absurd (omega (arith, late-true))) (λ e. e)
+
+pub past-window : (x : Exchange) (t : Clock) → x .began .0 + replyTime < t .0 → past x t ≡ true
+past-window x t h = by-test (past x t) (λ e. e) (λ e. absurd (omega (arith, late-false)))
+
 -- A fitting line that begins at most 450 after the send ends the exchange well.
 pub line-taken : (x : Exchange) (view : View) (t : Clock) → x .state ≡ Waiting → x .last .0 ≤ t .0 → t .0 ≤ x .began .0 + replyTime
     → fits (x .request) view ≡ true → heardIn x view t ≡ reads (moved x Well t)
-line-taken x view t w l i f = rw (le-late (x .began .0) (t .0) i, f) (step-taken x t (waits (x .state)) (moved x Well t) l (rw w))
+line-taken x view t w l i f = rw (open-window x t i, f) (step-taken x t (waits (x .state)) (moved x Well t) l (rw w))

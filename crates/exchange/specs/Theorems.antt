@@ -7,7 +7,7 @@ use mathlib.Core.Logic.{⊎-elim}
 use mathlib.Core.Path.{_≡_, refl, sym, subst, _∙_}
 use lib.ListN.{length}
 use Rattle.clock.specs.declared.Clock.{Clock}
-use Rattle.clock.specs.Times.{replyTime, lt-late}
+use Rattle.clock.specs.Times.{replyTime}
 use Rattle.format.specs.declared.Request.{Request}
 use Rattle.format.specs.declared.Telegram.{Telegram}
 use Rattle.format.specs.Answers.{reads, refusal}
@@ -18,7 +18,7 @@ use Rattle.exchange.specs.declared.State.{State}
 use Rattle.exchange.specs.declared.State.the-variants.{Waiting, Resend, Well, Failed}
 use Rattle.exchange.specs.declared.Exchange.{Exchange}
 use Rattle.exchange.specs.Fits.{fits}
-use Rattle.exchange.specs.Steps.{waits, asksResend, begun, moved, heardIn, heardOf, refusedBy, uncalled, line-taken}
+use Rattle.exchange.specs.Steps.{waits, asksResend, begun, moved, heardIn, heardOf, refusedBy, uncalled, past-window, line-taken}
 use Rattle.exchange.specs.Histories.{Step, heard, tick, sent, timeOf, answer, next, run, after, made, ended, EndedWell}
 use Rattle.exchange.specs.Kept.{Agrees, Kept, kept-begun, kept}
 use Rattle.exchange.specs.Endings.{request-stays, ended-well}
@@ -50,7 +50,7 @@ resend-refuses x cause e line t = uncalled x t (waits (x .state)) _ (rw e)
 
 -- A line that begins more than 450 after the send is silence, whatever line it is.
 pub late-is-silence : (x : Exchange) (t : Clock) → x .began .0 + replyTime < t .0 → (line : List ℕ) → answer x (heard line t) ≡ answer x (tick t)
-late-is-silence x t h line = rw (lt-late (x .began .0) (t .0) h)
+late-is-silence x t h line = rw (past-window x t h)
 
 -- The reply is the telegram of the line that ended the exchange well.
 pub reply-is : (x y : Exchange) (telegram : Telegram) (t : Clock) → heardIn x (viewed (reads telegram)) t ≡ reads y → y .state ≡ Well

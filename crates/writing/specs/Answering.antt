@@ -33,29 +33,28 @@ pub record WritesLine (t : Telegram) (before after : List ℕ) (r : Written) : T
 
 -- ---- the ways out of the writer
 
-module _ (t : Telegram) (before : List ℕ) where
-  pub refused-20 : unwritable t ≡ true → WritesLine t before before (Refused 20)
-  refused-20 w = record { answer = rw w; places = rw w }
+pub refused-20 : {t : Telegram} {before : List ℕ} → unwritable t ≡ true → WritesLine t before before (Refused 20)
+refused-20 w = record { answer = rw w; places = rw w }
 
-  module _ (w : unwritable t ≡ false) {bytes : List ℕ} {count : ℕ} (b : BytesLaid (bytesOfKind (t .kind) t) bytes count) where
-    length-line : count ≡ length (lineOf t)
-    unfolding lineOf
-    length-line = b .so ∙ sym (length-map (bytesOfKind (t .kind) t) carrier)
+module _ (t : Telegram) {bytes : List ℕ} {count : ℕ} (w : unwritable t ≡ false) (b : BytesLaid (bytesOfKind (t .kind) t) bytes count) where
+  length-line : count ≡ length (lineOf t)
+  unfolding lineOf
+  length-line = b .so ∙ sym (length-map (bytesOfKind (t .kind) t) carrier)
 
-    pub at-most : count ≤ 77
-    at-most = rw length-line (longest-line t w)
+  pub at-most : count ≤ 77
+  at-most = rw length-line (longest-line t w)
 
-    pub refused-21 : length before < count → WritesLine t before before (Refused 21)
-    refused-21 h =
-        let short : ltb (length before) (length (lineOf t)) ≡ true = lt-ltb (length before) (length (lineOf t)) (rw length-line at h) in
-        record { answer = rw (w, short); places = rw (w, short) }
+  pub refused-21 : {before : List ℕ} → length before < count → WritesLine t before before (Refused 21)
+  refused-21 {before} h =
+      let short : ltb (length before) (length (lineOf t)) ≡ true = lt-ltb (length before) (length (lineOf t)) (rw length-line at h) in
+      record { answer = rw (w, short); places = rw (w, short) }
 
-    pub written : {after : List ℕ} → count ≤ length before → after ≡ map carrier (take count bytes) ++ drop (length (take count bytes)) before → WritesLine t before after (Length count)
-    unfolding lineOf
-    written {after} h e =
-        let room : ltb (length before) (length (lineOf t)) ≡ false = le-ltb (length before) (length (lineOf t)) (rw length-line at h) in
-        let size : length (bytesOfKind (t .kind) t) ≡ length (lineOf t) = sym (b .so) ∙ length-line in
-        record {
-          answer = rw (w, room) (ap Length length-line);
-          places = rw (w, room) (e ∙ ap (λ (q : List ℕ). map carrier q ++ drop (length q) before) (b .bytes) ∙ ap (λ (k : ℕ). lineOf t ++ drop k before) size);
-        }
+  pub written : {before after : List ℕ} → count ≤ length before → after ≡ map carrier (take count bytes) ++ drop (length (take count bytes)) before → WritesLine t before after (Length count)
+  unfolding lineOf
+  written {before} {after} h e =
+      let room : ltb (length before) (length (lineOf t)) ≡ false = le-ltb (length before) (length (lineOf t)) (rw length-line at h) in
+      let size : length (bytesOfKind (t .kind) t) ≡ length (lineOf t) = sym (b .so) ∙ length-line in
+      record {
+        answer = rw (w, room) (ap Length length-line);
+        places = rw (w, room) (e ∙ ap (λ (q : List ℕ). map carrier q ++ drop (length q) before) (b .bytes) ∙ ap (λ (k : ℕ). lineOf t ++ drop k before) size);
+      }

@@ -40,9 +40,9 @@ abbrev pub sixBytes : Value → List ℕ
 sixBytes (Number d) = packed 6 (d .count)
 sixBytes (Time m) = momentBytes m
 
-abbrev pub told : Value → Bool
-told (Number d) = true
-told (Time m) = dateExists m && timeExists m
+abbrev pub exists : Value → Bool
+exists (Number d) = true
+exists (Time m) = dateExists m && timeExists m
 
 -- ---- a loop that copies, and one that sums
 
@@ -154,7 +154,7 @@ packed-cut k zero n h = refl
 packed-cut zero (suc w) n h = absurd (not-suc-le-zero h)
 packed-cut (suc k) (suc w) n h = ap (λ (l : List ℕ). (16 * (n / 10 % 10) + n % 10) ∷ l) (packed-cut k w (n / 100) (omega arith))
 
-value-cut : (w u : ℕ) (v : Value) → w ≤ 6 → (isTime u ≡ true → w ≡ 6) → wrongValue w u v ≡ false → (take w (sixBytes v) ≡ bytesOfValue w v) × (told v ≡ true)
+value-cut : (w u : ℕ) (v : Value) → w ≤ 6 → (isTime u ≡ true → w ≡ 6) → wrongValue w u v ≡ false → (take w (sixBytes v) ≡ bytesOfValue w v) × (exists v ≡ true)
 value-cut w u (Number d) h six e = (packed-cut 6 w (d .count) h, refl)
 value-cut w u (Time m) h six e =
     let k = none (not (isTime u)) (not (dateExists m) ∷ not (timeExists m) ∷ []) e in
@@ -163,7 +163,7 @@ value-cut w u (Time m) h six e =
 
 pub record EntryCut (e : Entry) : Type 0 where
   pub cut : take (2 + widthOf (e .structure)) (e .structure ∷ e .unit ∷ sixBytes (e .value)) ≡ bytesOfEntry e
-  pub told : told (e .value) ≡ true
+  pub there : exists (e .value) ≡ true
   pub width : length (bytesOfEntry e) ≡ 2 + widthOf (e .structure)
   pub most : widthOf (e .structure) ≤ 6
 
@@ -176,7 +176,7 @@ entry-cut e h =
     let v = value-cut w (e .unit) (e .value) most (six-wide st (e .unit) (not-false (paired st (e .unit)) (k .0))) (k .1 .0) in
     record {
       cut = take-add 2 w (st ∷ e .unit ∷ sixBytes (e .value)) ∙ ap (λ (l : List ℕ). st ∷ e .unit ∷ l) (v .0);
-      told = v .1;
+      there = v .1;
       width = entry-written e [] h .width;
       most = most;
     }

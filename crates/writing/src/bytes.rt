@@ -4,12 +4,12 @@ ghost use mathlib.Core.Bool.{true, false};
 ghost use mathlib.Core.List.{[], _∷_, _++_, map};
 ghost use Prim.Native.Nat.{_+_, _*_, _/_, _%_, _≤_};
 ghost use lib.ListN.{length, take, drop};
-ghost use Rattle.format.specs.Lists.{any, total};
+ghost use Rattle.format.specs.Lists.{total};
 ghost use Rattle.format.specs.Characters.{carrier};
 ghost use Rattle.format.specs.Digits.{packed};
 ghost use Rattle.format.specs.Moments.{dateExists, timeExists};
 ghost use Rattle.format.specs.Writing.{momentBytes, bytesOfHeader, shortFrame, longFrame, bytesOfKind, unwritable};
-ghost use Rattle.writing.specs.Laying.{laid, sixBytes, told, EntryFits, EntryLaid, EntriesFit, EntriesLaid, FrameClosed, BytesLaid, DataFits};
+ghost use Rattle.writing.specs.Laying.{laid, sixBytes, exists, EntryFits, EntryLaid, EntriesFit, EntriesLaid, FrameClosed, BytesLaid, DataFits};
 use format::Entry;
 use format::Header;
 use format::Kind;
@@ -49,7 +49,7 @@ fn moment_bytes(m: Moment) -> [u8; 6]
 
 // The value in six bytes, of which the width says how many count.
 fn value_bytes(value: Value) -> [u8; 6]
-    requires { ⌜ told value ≡ true ⌝ }
+    requires { ⌜ exists value ≡ true ⌝ }
     ensures { λ r. ⌜ r ≡ sixBytes value ⌝ }
 {
     match value {
@@ -59,7 +59,7 @@ fn value_bytes(value: Value) -> [u8; 6]
 }
 
 fn entry_bytes(e: Entry) -> [u8; 8]
-    requires { ⌜ told (e .value) ≡ true ⌝ }
+    requires { ⌜ exists (e .value) ≡ true ⌝ }
     ensures { λ r. ⌜ r ≡ e .structure ∷ e .unit ∷ sixBytes (e .value) ⌝ }
 {
     let value = e.value;

@@ -1,10 +1,12 @@
 -- `writing::write_line` meets its contract: each way out is one case of the definition. Assumes nothing.
 use borrow.Author.Needs.{needs}
 use Prim.Native.Nat.{_≤_}
+use mathlib.Core.Bool.{false}
 use mathlib.Core.Path.{_≡_, refl, sym, _∙_}
 use native.Mathlib.Omega.{arith}
 use lib.ListN.{length}
 use lib.Seq.{length-take-le}
+use Rattle.format.specs.Writing.{unwritable}
 use Rattle.writing.specs.Answering.{refused-20, at-most, refused-21, written}
 use Rattle.writing.proofs.write_line.Statement.{statement}
 use Rattle.writing.proofs.write_line.Tie as tie
@@ -13,23 +15,29 @@ is-unwritable-requires : tie.Need-is-unwritable-requires
 is-unwritable-requires c κs = search needs
 
 returns : tie.Need-returns
-returns c = refused-20 (c .before .before .before .args .telegram) (c .before .before .before .args .out .now) (sym (c .before .is-unwritable .ensures) ∙ c .if1 .taken)
+returns c = refused-20 (sym (c .before .is-unwritable .ensures) ∙ c .if1 .taken)
+
+-- past the first test the telegram can be written
+can : (c : tie.Else1) → unwritable (c .before .before .before .args .telegram) ≡ false
+can c = sym (c .before .is-unwritable .ensures) ∙ c .if1 .left
 
 slice-aggregate-put-bytes : tie.Need-slice-aggregate-put-bytes
 slice-aggregate-put-bytes c = search needs
 
 put-bytes-requires : tie.Need-put-bytes-requires
-put-bytes-requires c κs = ((sym (c .before .before .is-unwritable .ensures) ∙ c .before .if1 .left), refl)
+put-bytes-requires c κs = (can (c .before), refl)
 
 returns-2 : tie.Need-returns-2
-returns-2 c = refused-21 (c .before .before .before .before .before .before .before .args .telegram) (c .before .before .before .before .before .before .before .args .out .now) (sym (c .before .before .before .before .before .is-unwritable .ensures) ∙ c .before .before .before .before .if1 .left) (c .before .before .put-bytes .ensures) (c .if2 .taken)
+returns-2 c =
+    let i = c .before .before .before .before in
+    refused-21 (i .before .before .before .args .telegram) (can i) (c .before .before .put-bytes .ensures) (c .if2 .taken)
 
 -- the line lies within the bytes
 fitting : (c : tie.Else2) → c .before .before .put-bytes .result ≤ length (c .before .before .put-bytes .last .1 .0)
 fitting c =
+    let i = c .before .before .before .before in
     let n : length (c .before .before .put-bytes .last .1 .0) ≡ 77 = search needs in
-    let m : c .before .before .put-bytes .result ≤ 77 = at-most (c .before .before .before .before .before .before .before .args .telegram) (c .before .before .before .before .before .before .before .args .out .now) (sym (c .before .before .before .before .before .is-unwritable .ensures) ∙ c .before .before .before .before .if1 .left) (c .before .before .put-bytes .ensures) in
-    omega arith
+    omega (arith, at-most (i .before .before .before .args .telegram) (can i) (c .before .before .put-bytes .ensures))
 
 array-share-prefix-bytes : tie.Need-array-share-prefix-bytes
 array-share-prefix-bytes c = fitting c
@@ -45,8 +53,9 @@ same-length c = search needs
 
 returns-3 : tie.Need-returns-3
 returns-3 c =
-    written (c .before .before .before .before .before .before .before .before .before .before .before .before .args .telegram) (c .before .before .before .before .before .before .before .before .before .before .before .before .args .out .now) (sym (c .before .before .before .before .before .before .before .before .before .before .is-unwritable .ensures) ∙ c .before .before .before .before .before .before .before .before .before .if1 .left)
-    (c .before .before .before .before .before .before .before .put-bytes .ensures) (c .before .before .before .before .before .if2 .left) (c .before .before .carry .ensures)
+    let i = c .before .before .before .before .before .before .before .before .before in
+    written (i .before .before .before .args .telegram) (can i) (c .before .before .before .before .before .before .before .put-bytes .ensures) (c .before .before .before .before .before .if2 .left)
+    (c .before .before .carry .ensures)
 
 pub write-line-spec : {M : Type 1} → statement M
 write-line-spec =

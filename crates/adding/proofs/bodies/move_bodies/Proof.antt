@@ -1,6 +1,5 @@
 -- `adding::bodies::move_bodies` meets its contract. Assumes nothing.
 use borrow.Author.Needs.{needs}
-use mathlib.Core.Path.{_∙_}
 use denote.Ref.{now}
 use Rattle.adding.specs.Writing.{bodies-moved}
 use Rattle.adding.proofs.bodies.move_bodies.Statement.{statement}

@@ -1,7 +1,6 @@
 -- `adding::bodies::move_by_twelve` meets its contract: the loop moves from the end down. Assumes nothing.
 use borrow.Author.Needs.{needs}
-use Prim.Native.Nat.{_-_, _≤_}
-use native.Mathlib.Omega.{arith}
+use Prim.Native.Nat.{_-_}
 use Rattle.adding.specs.Writing.{Shifting, shifting-none, shifting-next, shifting-all}
 use Rattle.adding.proofs.bodies.move_by_twelve.Statement.{statement}
 use Rattle.adding.proofs.bodies.move_by_twelve.Tie as tie

@@ -1,6 +1,6 @@
 -- `bundle::reading::body_at` meets its contract: the place is that of the row's fields. Assumes nothing.
 use borrow.Author.Needs.{needs}
-use mathlib.Core.Path.{_≡_, sym, _∙_}
+use mathlib.Core.Path.{sym, _∙_}
 use denote.Ref.{now}
 use Rattle.format.specs.Answers.{reads, refusal}
 use Rattle.bundle.specs.Bundles.{rowAt}

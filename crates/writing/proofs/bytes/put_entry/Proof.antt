@@ -12,7 +12,7 @@ use Rattle.writing.proofs.bytes.put_entry.Statement.{statement}
 use Rattle.writing.proofs.bytes.put_entry.Tie as tie
 
 entry-bytes-requires : tie.Need-entry-bytes-requires
-entry-bytes-requires c κs = entry-cut (c .before .args .e) (c .before .pre .right) .told
+entry-bytes-requires c κs = entry-cut (c .before .args .e) (c .before .pre .right) .there
 
 width-of-requires : tie.Need-width-of-requires
 width-of-requires c κs = search needs

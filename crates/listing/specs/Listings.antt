@@ -1,0 +1,75 @@
+-- 01, "The run bundle", its last paragraph: the listing of a bundle.
+use Prim.Native.Nat.{ℕ}
+use mathlib.Core.Bool.{Bool, cond, not, _&&_}
+use mathlib.Core.List.{List, [], _∷_, _++_}
+use lib.Dec.{eqb}
+use lib.ListN.{length, take, drop}
+use Rattle.format.specs.Lists.{any}
+use Rattle.format.specs.Answers.{Answer, reads, refusal}
+use Rattle.format.specs.Lines.{readLine}
+use Rattle.format.specs.Views.{viewed}
+use Rattle.format.specs.declared.Request.the-variants.{Read, Enter, Leave}
+use Rattle.format.specs.declared.View.{View}
+use Rattle.format.specs.declared.View.the-variants.{Refused, Ack, Asks, Data}
+use Rattle.clock.specs.Wakes.{wakeCharacter, outside}
+use Rattle.bundle.specs.declared.Row.{Row}
+use Rattle.bundle.specs.Bodies.{charactersOf}
+use Rattle.bundle.specs.Bundles.{contentsOf, checkOf}
+use Rattle.listing.specs.Texts.{text, decimal}
+
+-- wake: 459–502 characters, all 55 with parity 0
+abbrev pub noWake : ℕ → Bool
+noWake c = not (eqb c wakeCharacter)
+
+unfoldable pub isWake : List ℕ → Bool
+isWake line = not (outside (length line)) && not (any noWake line)
+
+-- or, say, refused 3
+abbrev pub refusedText : ℕ → List ℕ
+refusedText n = text "refused " ++ decimal n
+
+-- the line column of what reading answers
+abbrev pub wordFor : View → List ℕ
+wordFor (Refused n) = refusedText n
+wordFor Ack = text "ack"
+wordFor (Asks (Read a)) = text "read"
+wordFor (Asks (Enter a s)) = text "enter"
+wordFor (Asks (Leave a)) = text "leave"
+wordFor (Data a) = text "data"
+
+-- the line column: a wake-up is told before the line is read
+unfoldable pub wordOf : List ℕ → List ℕ
+wordOf line = cond (isWake line) (text "wake") (wordFor (viewed (readLine line)))
+
+-- direction 0 sent or 1 heard
+abbrev pub directionText : ℕ → List ℕ
+directionText direction = cond (eqb direction 0) (text "sent") (text "heard")
+
+-- position,direction,time,line and a line feed
+unfoldable pub rowText : ℕ → ℕ → ℕ → List ℕ → List ℕ
+rowText position direction time word =
+    decimal position ++ (text "," ++ (directionText direction ++ (text "," ++ (decimal time ++ (text "," ++ (word ++ text "\n"))))))
+
+-- a row's body: so many bytes of the bundle from its offset on
+abbrev pub bodyIn : List ℕ → Row → List ℕ
+bodyIn b r = take (r .length) (drop (r .offset) b)
+
+abbrev pub lineFor : List ℕ → Row → List ℕ
+lineFor b r = rowText (r .position) (r .direction) (r .time) (wordOf (charactersOf (bodyIn b r)))
+
+-- the rows in order
+unfoldable pub linesFor : List ℕ → List Row → List ℕ
+linesFor b [] = []
+linesFor b (r ∷ rows) = lineFor b r ++ linesFor b rows
+
+-- its first line is always this text
+abbrev pub firstLine : List ℕ
+firstLine = text "position,direction,time,line\n"
+
+-- The whole listing: the first line and a line for each row; where the bundle is refused, "refused 31" (or its number) is all.
+abbrev pub listed : List ℕ → Answer ℕ → List ℕ
+listed b (refusal n) = refusedText n ++ text "\n"
+listed b (reads n) = firstLine ++ linesFor b (contentsOf b)
+
+unfoldable pub listingOf : List ℕ → List ℕ
+listingOf b = listed b (checkOf b)

@@ -1,0 +1,151 @@
+// The lines of a listing.
+ghost use mathlib.Core.Path.{_≡_};
+ghost use mathlib.Core.List.{_++_};
+ghost use Prim.Native.Nat.{_+_, _*_, _/_, _≤_};
+ghost use lib.ListN.{length, take, drop};
+ghost use Rattle.format.specs.Answers.{reads};
+ghost use Rattle.bundle.specs.Bodies.{charactersOf};
+ghost use Rattle.bundle.specs.Bundles.{contentsOf, checkOf};
+ghost use Rattle.bundle.specs.Rows.{rowIn};
+ghost use Rattle.listing.specs.Texts.{text};
+ghost use Rattle.listing.specs.Listings.{isWake, refusedText, wordFor, wordOf, directionText, rowText, lineFor, linesFor};
+ghost use Rattle.listing.specs.Writing.{textOf, Holds};
+use crate::texts::Line;
+use crate::texts::begin;
+use crate::texts::blank;
+use crate::texts::put;
+use crate::texts::with;
+use crate::texts::with_number;
+use bundle::Row;
+use bundle::reading::unchecked_row;
+use clock::WAKE_CHARACTER;
+use clock::WAKE_LEAST;
+use clock::WAKE_MOST;
+use format::Request;
+use format::View;
+use reading::read_line;
+use views::view_of;
+
+// The characters of a body, in the first places.
+fn characters(body: &[u8]) -> [u16; 502]
+    requires { ⌜ length (now body) ≤ 1004 ⌝ }
+    ensures { λ r. ⌜ (length r ≡ 502) × (take (length (now (body .entry)) / 2) r ≡ charactersOf (now (body .entry))) ⌝ }
+{
+    let mut line = [0u16; 502];
+    for i in 0..body.len() / 2 {
+        line[i] = body[2 * i] as u16 + 256 * body[2 * i + 1] as u16;
+    }
+    line
+}
+
+// The line is a wake-up.
+fn is_wake(line: &[u16]) -> bool
+    ensures { λ r. ⌜ r ≡ isWake (now (line .entry)) ⌝ }
+{
+    let outside = (line.len() < WAKE_LEAST) | (WAKE_MOST < line.len());
+    let mut other = false;
+    for i in 0..line.len() {
+        other = other | (line[i] != WAKE_CHARACTER);
+    }
+    !outside & !other
+}
+
+// The word refused and the number.
+pub(crate) fn refused(n: u16) -> Line
+    ensures { λ r. ⌜ Holds 18 r (refusedText n) ⌝ }
+{
+    let word = begin(b"refused ");
+    with_number(word, n as u32)
+}
+
+// The word for what reading answers.
+fn word_for(view: View) -> Line
+    ensures { λ r. ⌜ Holds 18 r (wordFor view) ⌝ }
+{
+    match view {
+        View::Refused(n) => refused(n),
+        View::Ack => begin(b"ack"),
+        View::Asks(request) => match request {
+            Request::Read(_) => begin(b"read"),
+            Request::Enter(_, _) => begin(b"enter"),
+            Request::Leave(_) => begin(b"leave"),
+        },
+        View::Data(_) => begin(b"data"),
+    }
+}
+
+// The word for a line. A wake-up is told before the line is read.
+fn word_of(line: &[u16]) -> Line
+    ensures { λ r. ⌜ Holds 18 r (wordOf (now (line .entry))) ⌝ }
+{
+    let wake = is_wake(line);
+    if wake {
+        return begin(b"wake");
+    }
+    word_for(view_of(read_line(line)))
+}
+
+// Sent or heard, between commas.
+fn with_direction(line: Line, direction: u8) -> Line
+    requires { ⌜ line .size ≤ 10 ⌝ }
+    ensures { λ r. ⌜ Holds 17 r (textOf line ++ (text "," ++ (directionText direction ++ text ","))) ⌝ }
+{
+    let sent = direction == 0;
+    if sent {
+        return with(line, b",sent,");
+    }
+    with(line, b",heard,")
+}
+
+// A line of the listing: position, direction, time and word.
+fn line_of(position: u8, direction: u8, time: u32, word: Line) -> Line
+    requires { ⌜ (word .size ≤ 18) × (length (word .bytes) ≡ 48) ⌝ }
+    ensures { λ r. ⌜ Holds 48 r (rowText position direction time (textOf word)) ⌝ }
+{
+    let first = with_number(blank(), position as u32);
+    let second = with_direction(first, direction);
+    let third = with_number(second, time);
+    let fourth = with(third, b",");
+    let size = word.size;
+    let bytes = word.bytes;
+    let fifth = with(fourth, &bytes[..size]);
+    with(fifth, b"\n")
+}
+
+// The word for a body.
+fn word_in(body: &[u8]) -> Line
+    requires { ⌜ length (now body) ≤ 1004 ⌝ }
+    ensures { λ r. ⌜ Holds 18 r (wordOf (charactersOf (now (body .entry)))) ⌝ }
+{
+    let count = body.len() / 2;
+    let line = characters(body);
+    word_of(&line[..count])
+}
+
+// The line of row i, whose body lies in the bundle.
+fn row_line(bundle: &[u8], i: usize) -> Line
+    requires { ⌜ (rowIn (now bundle) i .length ≤ 1004) × (rowIn (now bundle) i .offset + rowIn (now bundle) i .length ≤ length (now bundle)) ⌝ }
+    ensures { λ r. ⌜ Holds 48 r (lineFor (now (bundle .entry)) (rowIn (now (bundle .entry)) i)) ⌝ }
+{
+    let row = unchecked_row(bundle, i);
+    let at = row.offset as usize;
+    let end = at + row.length as usize;
+    let word = word_in(&bundle[at..end]);
+    line_of(row.position, row.direction, row.time, word)
+}
+
+// The lines of all rows stand in the places from one on; the answer is the place behind them.
+pub(crate) fn put_rows(out: &mut [u8], at: usize, bundle: &[u8], count: usize) -> usize
+    requires { ⌜ (checkOf (now bundle) ≡ reads count) × (at + 48 * count ≤ length (now out)) ⌝ }
+    ensures { λ r. ⌜ (r ≤ length (now (out .exit))) × (r ≡ at + length (linesFor (now (bundle .entry)) (contentsOf (now (bundle .entry))))) × (take r (now (out .exit)) ≡ take at (now (out .entry)) ++ linesFor (now (bundle .entry)) (contentsOf (now (bundle .entry)))) ⌝ }
+{
+    let mut next = at;
+    for i in 0..count {
+        let line = row_line(bundle, i);
+        let size = line.size;
+        let bytes = line.bytes;
+        put(out, next, &bytes[..size]);
+        next = next + size;
+    }
+    next
+}
