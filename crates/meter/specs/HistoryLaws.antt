@@ -1,5 +1,5 @@
 -- What the rules make of whole histories.
-use Prim.Native.Nat.{ℕ, zero, suc, _+_, _≤_, zero-le}
+use Prim.Native.Nat.{ℕ, _≤_, zero-le}
 use native.Mathlib.Nat.{le-refl, le-trans}
 use native.Mathlib.Omega.{arith}
 use mathlib.Core.Bool.{Bool, true, false, not, _&&_, _||_, true≢false, and-eq-true-iff, and-false}
@@ -99,26 +99,40 @@ pub enter-verifies : (m : Meter) (line : List ℕ) (t : Clock) (a s : ℕ)
 enter-verifies m line t a s on asks own = ap (λ (n : Meter). n .core .mode) (afterwards m (hear line t) _ (obeyed m line t (Enter a s) on asks own))
 
 -- Leave: in use; the totals stay.
-pub leave-uses : (m : Meter) (line : List ℕ) (t : Clock) (a : ℕ)
-    → earlier (m .last .0) (t .0) ≡ false → viewed (readLine line) ≡ views.Asks (Leave a) → addressed (m .core .address) (Leave a) ≡ true
+pub leave-uses : (m : Meter) (line : List ℕ) (t : Clock) → obeys isLeave m (hear line t) ≡ true
     → after m (hear line t) ≡ record { last = t; core = left (m .core) }
-leave-uses m line t a on asks own = afterwards m (hear line t) _ (obeyed m line t (Leave a) on asks own)
+leave-uses m line t e =
+    let (q, such, step) = obeys-told isLeave m line t e in
+    afterwards m (hear line t) _ step ∙ go q such
+  where
+    go : (q : Request) → isLeave q ≡ true
+        → _≡_ {A = Meter} (record { last = t; core = instructed t (returned t (m .core)) q .core }) (record { last = t; core = left (m .core) })
+    go (Read a) e = absurd (true≢false (sym e))
+    go (Enter a s) e = absurd (true≢false (sym e))
+    go (Leave a) e = refl
 
--- Read: nothing but the access number and the times change.
-pub read-raises : (m : Meter) (line : List ℕ) (t : Clock) (a : ℕ)
-    → earlier (m .last .0) (t .0) ≡ false → viewed (readLine line) ≡ views.Asks (Read a) → addressed (m .core .address) (Read a) ≡ true
-    → after m (hear line t)
-    ≡ record {
-      last = t;
-      core = record {
-        address = m .core .address;
-        mode = instructedAt t (modeAt t (m .core .mode));
-        used = m .core .used;
-        verified = m .core .verified;
-        template = raised (m .core .template);
-      };
-    }
-read-raises m line t a on asks own = afterwards m (hear line t) _ (obeyed m line t (Read a) on asks own)
+-- Read: nothing but the access number and the times change. (`instructedAt` keeps the mode and its method.)
+abbrev pub readAt : Clock → Meter → Meter
+readAt t m = record {
+  last = t;
+  core = record {
+    address = m .core .address;
+    mode = instructedAt t (modeAt t (m .core .mode));
+    used = m .core .used;
+    verified = m .core .verified;
+    template = raised (m .core .template);
+  };
+}
+
+pub read-raises : (m : Meter) (line : List ℕ) (t : Clock) → obeys isRead m (hear line t) ≡ true → after m (hear line t) ≡ readAt t m
+read-raises m line t e =
+    let (q, such, step) = obeys-told isRead m line t e in
+    afterwards m (hear line t) _ step ∙ go q such
+  where
+    go : (q : Request) → isRead q ≡ true → record { last = t; core = instructed t (returned t (m .core)) q .core } ≡ readAt t m
+    go (Read a) e = refl
+    go (Enter a s) e = absurd (true≢false (sym e))
+    go (Leave a) e = absurd (true≢false (sym e))
 
 -- ---- measuring changes the pair in force only
 

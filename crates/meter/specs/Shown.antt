@@ -1,17 +1,13 @@
 -- The program's answers: no two answers of the rules are shown as one; and a measure by the sum that the pair answers.
-use Prim.Native.Nat.{ℕ, _<_}
+use Prim.Native.Nat.{ℕ}
 use native.Mathlib.Omega.{arith}
 use mathlib.Core.Bool.{Bool, true, false}
-use mathlib.Core.Path.{_≡_, refl, sym, ap, ap₂, _∙_}
+use mathlib.Core.Path.{_≡_, refl, sym, ap, ap₂}
 use Rattle.clock.specs.declared.Clock.{Clock}
-use Rattle.format.specs.declared.Outcome.{Outcome}
-use Rattle.format.specs.declared.Outcome.the-variants as outcomes
-use Rattle.format.specs.declared.Telegram.{Telegram}
 use Rattle.format.specs.Answers.{Answer, reads, refusal, refuse, within}
 use Rattle.template.specs.declared.Pair.{Pair}
 use Rattle.template.specs.Templates.{overflows, plus, sumOf}
 use Rattle.meter.specs.declared.Core.{Core}
-use Rattle.meter.specs.declared.Reply.{Reply}
 use Rattle.meter.specs.declared.Reply.the-variants as replies
 use Rattle.meter.specs.declared.Meter.{Meter}
 use Rattle.meter.specs.declared.Setup.{Setup}

@@ -1,27 +1,30 @@
--- Whatever happens to a meter that was set up, each of its answers can be written, and comes from its own address.
-use Prim.Native.Nat.{ℕ, zero-le}
+-- Whatever happens to a meter that was set up: each of its answers can be written and read back, and comes from its own address.
+use Prim.Native.Nat.{ℕ, _<_, zero-le}
 use mathlib.Core.Bool.{false}
 use mathlib.Core.List.{List, [], _∷_}
 use mathlib.Core.Logic.{_⊎_, inl, inr}
 use mathlib.Core.Path.{_≡_, refl, sym, ap, subst, _∙_}
+use lib.Dec.{lit<}
 use Rattle.clock.specs.declared.Clock.{Clock}
 use Rattle.format.specs.declared.Request.{Request}
 use Rattle.format.specs.declared.Request.the-variants.{Read, Enter, Leave}
 use Rattle.format.specs.declared.Telegram.{Telegram}
 use Rattle.format.specs.declared.View.{View}
 use Rattle.format.specs.declared.View.the-variants as views
-use Rattle.format.specs.Answers.{Answer, reads, refusal, refuse}
+use Rattle.format.specs.Answers.{reads}
 use Rattle.format.specs.AnswerLaws.{reads-same}
 use Rattle.format.specs.Lists.{any}
 use Rattle.format.specs.Lines.{readLine}
 use Rattle.format.specs.Telegrams.{ack}
 use Rattle.format.specs.Tests.{by-test, passed}
 use Rattle.format.specs.Views.{viewed}
-use Rattle.format.specs.Writing.{unwritable}
+use Rattle.format.specs.Writing.{lineOf, unwritable}
+use Rattle.format.specs.TelegramLaws.{Sized}
+use Rattle.format.specs.RoundTrip.{write-then-read}
 use Rattle.clock.specs.Times.{earlier}
 use Rattle.template.specs.declared.Pair.{Pair}
 use Rattle.template.specs.Templates.{unfit, overflows, plus}
-use Rattle.template.specs.TemplateLaws.{Within, pair-within, plus-within, raised-fit, data-written}
+use Rattle.template.specs.TemplateLaws.{Within, pair-within, plus-within, raised-fit, raised-sized, data-written, data-sized}
 use Rattle.meter.specs.declared.Core.{Core}
 use Rattle.meter.specs.declared.Mode.{Mode}
 use Rattle.meter.specs.declared.Mode.the-variants.{Use, Verifying}
@@ -33,6 +36,8 @@ use Rattle.meter.specs.HistoryLaws.{by-hear, by-measure}
 -- ---- what every history keeps
 
 pub record Sound (c : Core) : Type 0 where
+  pub own : c .address < 256
+  pub sized : Sized (c .template)
   pub template : unfit (c .template) ≡ false
   pub used : Within (c .used)
   pub verified : Within (c .verified)
@@ -40,13 +45,13 @@ pub record Sound (c : Core) : Type 0 where
 zeros-within : Within zeros
 zeros-within = record { volume = zero-le; energy = zero-le }
 
-begun-sound : (a : ℕ) (t : Telegram) → unfit t ≡ false → Sound (begun a t .core)
-begun-sound a t e = record { template = e; used = pair-within t e; verified = zeros-within }
+begun-sound : (a : ℕ) (t : Telegram) → a < 256 → Sized t → unfit t ≡ false → Sound (begun a t .core)
+begun-sound a t small z e = record { own = small; sized = z; template = e; used = pair-within t e; verified = zeros-within }
 
 instructed-sound : (t : Clock) (c : Core) (q : Request) → Sound c → Sound (instructed t c q .core)
-instructed-sound t c (Leave a) s = record { template = s .template; used = s .used; verified = s .verified }
-instructed-sound t c (Read a) s = record { template = raised-fit (c .template) (s .template); used = s .used; verified = s .verified }
-instructed-sound t c (Enter a m) s = record { template = s .template; used = s .used; verified = go (c .mode) }
+instructed-sound t c (Leave a) s = record { own = s .own; sized = s .sized; template = s .template; used = s .used; verified = s .verified }
+instructed-sound t c (Read a) s = record { own = s .own; sized = raised-sized (c .template) (s .sized); template = raised-fit (c .template) (s .template); used = s .used; verified = s .verified }
+instructed-sound t c (Enter a m) s = record { own = s .own; sized = s .sized; template = s .template; used = s .used; verified = go (c .mode) }
   where
     go : (mode : Mode) → Within (clearedFrom mode (c .verified))
     go Use = zeros-within
@@ -59,7 +64,7 @@ hears-sound t c (views.Data a) s = s
 hears-sound t c (views.Asks q) s = by-test (addressed (c .address) q) (λ own. rw own (instructed-sound t c q s)) (λ other. rw other s)
 
 force-sound : (c : Core) (p : Pair) → Within p → Sound c → Sound (withForce c p)
-force-sound c p fits s = record { template = s .template; used = u (c .mode); verified = w (c .mode) }
+force-sound c p fits s = record { own = s .own; sized = s .sized; template = s .template; used = u (c .mode); verified = w (c .mode) }
   where
     u : (mode : Mode) → Within (forceOf mode p (c .used))
     u Use = fits
@@ -70,7 +75,7 @@ force-sound c p fits s = record { template = s .template; used = u (c .mode); ve
     w (Verifying m since) = fits
 
 returned-sound : (t : Clock) (c : Core) → Sound c → Sound (returned t c)
-returned-sound t c s = record { template = s .template; used = s .used; verified = s .verified }
+returned-sound t c s = record { own = s .own; sized = s .sized; template = s .template; used = s .used; verified = s .verified }
 
 pub after-sound : (m : Meter) (e : Event) → Sound (m .core) → Sound (after m e .core)
 after-sound m (hear line t) s = by-hear (λ (n : Meter). Sound (n .core)) m t s line (λ on. hears-sound t (returned t (m .core)) (viewed (readLine line)) (returned-sound t (m .core) s))
@@ -87,22 +92,31 @@ force-within : (mode : Mode) (u w : Pair) → Within u → Within w → Within (
 force-within Use u w a b = a
 force-within (Verifying m since) u w a b = b
 
-answer-written : (c : Core) → Sound c → unwritable (answer c) ≡ false
-answer-written c s = data-written (c .address) (inForce c) (c .template) (s .template) (force-within (c .mode) (c .used) (c .verified) (s .used) (s .verified))
-
--- silence, or a telegram that can be written and is the ack or comes from the address
+-- silence, or a telegram that can be written, whose line reads as it, and that is the ack or comes from the address
 abbrev pub Proper : ℕ → Said → Type 0
 Proper a silence = Unit {0}
-Proper a (says x) = (unwritable x ≡ false) × ((x ≡ ack) ⊎ (x .address ≡ a))
+Proper a (says x) = (unwritable x ≡ false) × (readLine (lineOf x) ≡ reads x) × ((x ≡ ack) ⊎ (x .address ≡ a))
+
+ack-written : unwritable ack ≡ false
+unfolding unwritable any
+ack-written = refl
+
+ack-sized : Sized ack
+ack-sized = record { address = lit< tt; header = record { version = lit< tt; access = lit< tt; status = lit< tt }; places = refl }
 
 ack-proper : (a : ℕ) → Proper a (says ack)
-unfolding unwritable any
-ack-proper a = (refl, inl refl)
+ack-proper a = (ack-written, write-then-read ack ack-sized ack-written, inl refl)
+
+answer-proper : (c : Core) → Sound c → Proper (c .address) (says (answer c))
+answer-proper c s =
+    let within = force-within (c .mode) (c .used) (c .verified) (s .used) (s .verified) in
+    let written = data-written (c .address) (inForce c) (c .template) (s .template) within in
+    (written, write-then-read (answer c) (data-sized (c .address) (inForce c) (c .template) (s .own) (s .sized)) written, inr refl)
 
 instructed-proper : (t : Clock) (c : Core) (q : Request) → Sound c → Proper (c .address) (instructed t c q .said)
 instructed-proper t c (Enter a m) s = ack-proper (c .address)
 instructed-proper t c (Leave a) s = ack-proper (c .address)
-instructed-proper t c (Read a) s = (answer-written (read t c) (instructed-sound t c (Read a) s), inr refl)
+instructed-proper t c (Read a) s = answer-proper (read t c) (instructed-sound t c (Read a) s)
 
 hears-proper : (t : Clock) (c : Core) (v : View) → Sound c → Proper (c .address) (hears t c v .said)
 hears-proper t c (views.Refused n) s = tt
@@ -138,12 +152,13 @@ address-stays (e ∷ es) m = address-stays es (after m e) ∙ one m e
     one m (hear line t) = by-hear (λ (n : Meter). n .core .address ≡ m .core .address) m t refl line (λ on. hears-address t (returned t (m .core)) (viewed (readLine line)))
     one m (measure v e t) = by-measure (λ (n : Meter). n .core .address ≡ m .core .address) m t refl v e (λ on fits. refl)
 
--- A meter that was set up, after any history: what it answers can be written, and is the ack or comes from its own address.
+-- A meter that was set up, after any history: what it answers can be written, its line reads as it, and it is the ack or comes from
+-- the own address. (`Sized`: each field is in the range of its type.)
 pub answers-proper : (a : ℕ) (template : Telegram) (m : Meter) (es : List Event) (e : Event) (d : Deed)
-    → setUp a template ≡ reads m → stepOf (run m es) e ≡ reads d → Proper a (d .said)
-answers-proper a template m es e d up step =
+    → a < 256 → Sized template → setUp a template ≡ reads m → stepOf (run m es) e ≡ reads d → Proper a (d .said)
+answers-proper a template m es e d small z up step =
     let fine = passed 72 (unfit template) (reads (begun a template)) m up in
     let same : begun a template ≡ m = reads-same (fine .1) in
-    let sound : Sound (m .core) = subst (λ (n : Meter). Sound (n .core)) same (begun-sound a template (fine .0)) in
+    let sound : Sound (m .core) = subst (λ (n : Meter). Sound (n .core)) same (begun-sound a template small z (fine .0)) in
     let own : run m es .core .address ≡ a = address-stays es m ∙ ap (λ (n : Meter). n .core .address) (sym same) in
     subst (λ (x : ℕ). Proper x (d .said)) own (step-proper (run m es) e d (run-sound es m sound) step)

@@ -4,9 +4,9 @@ use native.Mathlib.Omega.{arith}
 use mathlib.Core.Bool.{Bool, true, false, cond, not, _&&_, _||_, true≢false, and-eq-true-iff}
 use mathlib.Core.List.{List, [], _∷_, _++_, map}
 use mathlib.Core.Path.{_≡_, refl, sym, ap, ap₂, _∙_, fun-ext}
-use borrow.Author.Tests.{eqb-true, le-ltb, lt-ltb, ltb-true, ltb-false, not-false}
+use borrow.Author.Tests.{eqb-true, eqb-false, lt-ltb, ltb-true, ltb-false, not-false}
 use lib.Dec.{eqb, ltb, lit<}
-use lib.ListN.{length, take, drop}
+use lib.ListN.{take, drop, length-map}
 use Rattle.format.specs.declared.Kind.{Kind}
 use Rattle.format.specs.declared.Kind.the-variants as kinds
 use Rattle.format.specs.declared.Telegram.{Telegram}
@@ -19,9 +19,10 @@ use Rattle.format.specs.ListLaws.{any-map, map-take, map-drop}
 use Rattle.format.specs.Quantities.{quantityOf, widthOf, paired, isTime, volume, energy}
 use Rattle.format.specs.Entries.{seen, missing}
 use Rattle.format.specs.Tests.{by-test, neither}
+use Rattle.format.specs.TelegramLaws.{Sized}
 use Rattle.format.specs.Writing.{entriesOf, usedValue, usedEntry, wrongValue, wrongEntry, unwrittenHeader, repeats, wrongData, wrongFor, unwritable}
 use Rattle.template.specs.declared.Pair.{Pair}
-use Rattle.template.specs.Templates.{isData, holds, lacks, unfit, countOf, totalIn, pairIn, raised, counted, filledEntry, filled, dataWith, totalMost, passes, overflows, plus, shownSum}
+use Rattle.template.specs.Templates.{isData, holds, lacks, unfit, countOf, totalIn, pairIn, nextAccess, raised, counted, filledEntry, filled, dataWith, totalMost, passes, overflows, plus, shownSum}
 use Rattle.template.specs.Walks.{pass-fits}
 
 -- both totals are within the limit
@@ -211,6 +212,22 @@ data-written own p t e within =
     let whole : missing (take n (filled p (t .entries))) ≡ false = ap missing cut ∙ missing-filled p (take n (t .entries)) ∙ f .whole in
     let past : any usedEntry (drop n (filled p (t .entries))) ≡ false = ap (any usedEntry) (sym (map-drop (filledEntry p) n (t .entries))) ∙ any-kept usedEntry (filledEntry p) (used-filled p) (drop n (t .entries)) (f .past) in
     ap (λ (x : Kind). wrongFor x (dataWith own p t)) (f .kind) ∙ rw (f .method, f .header, f .count, right, once, whole, past)
+
+-- each field stays in the range of its type
+pub raised-sized : (t : Telegram) → Sized t → Sized (raised t)
+raised-sized t z =
+    let f = z .header in
+    record {
+      address = z .address;
+      header = record { version = f .version; access = go (t .header .access) (f .access); status = f .status };
+      places = z .places;
+    }
+  where
+    go : (n : ℕ) → n < 256 → nextAccess n < 256
+    go n h = by-test (eqb n 255) (λ e. rw e (lit< tt)) (λ e. rw e (omega (arith, eqb-false n 255 e)))
+
+pub data-sized : (own : ℕ) (p : Pair) (t : Telegram) → own < 256 → Sized t → Sized (dataWith own p t)
+data-sized own p t small z = record { address = small; header = z .header; places = length-map (t .entries) (filledEntry p) ∙ z .places }
 
 -- no two sums are shown as one
 pub shownSum-same : (a b : Answer Pair) → shownSum a ≡ shownSum b → a ≡ b
