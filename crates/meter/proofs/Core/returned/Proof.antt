@@ -1,0 +1,13 @@
+-- `Core::returned` meets its contract. Assumes nothing.
+use borrow.Author.Needs.{needs}
+use Rattle.meter.proofs.Core.returned.Statement.{statement}
+use Rattle.meter.proofs.Core.returned.Tie as tie
+
+at-requires : tie.Need-at-requires
+at-requires c κs = search needs
+
+returns : tie.Need-returns
+returns c = rw (c .before .before .before .at .ensures)
+
+pub returned-spec : {M : Type 1} → statement M
+returned-spec = tie.close (tie.spec at-requires returns)

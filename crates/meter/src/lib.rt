@@ -1,0 +1,146 @@
+// The simulated meter of document 01: set-up, line heard and measure, each with its whole answer. A meter goes in and comes back
+// by value; a refused step hands it back as it stood.
+ghost use mathlib.Core.Path.{_≡_};
+ghost use Rattle.meter.specs.Meters.{begun, setUp, heardAt, measuredAt, shownSetup, refusedStep, shownStep};
+use clock::Clock;
+use format::Outcome;
+use format::Telegram;
+use instructions::acknowledgement;
+use reading::read_line;
+use template::Pair;
+use template::Sum;
+use template::is_unfit;
+use views::view_of;
+
+mod instructions;
+
+// In use, or in verification with the method and the time of the last instruction.
+pub enum Mode {
+    Use,
+    Verifying(u8, Clock),
+}
+
+// A meter but for the time of its last step: the own address, the mode, the use pair and the verification pair of totals, and the
+// data template, which has the access number.
+pub struct Core {
+    pub address: u8,
+    pub mode: Mode,
+    pub used: Pair,
+    pub verified: Pair,
+    pub template: Telegram,
+}
+
+// A simulated meter. The time of its last accepted step is 0 before the first: no time is earlier.
+pub struct Meter {
+    pub last: Clock,
+    pub core: Core,
+}
+
+// What set-up gives: the meter, or the number of a refusal and a meter set up with nothing.
+pub struct Setup {
+    pub outcome: Outcome,
+    pub meter: Meter,
+}
+
+// What a step answers: silence, a telegram, or the number of a refusal.
+pub enum Reply {
+    Silence,
+    Says,
+    Refused(u16),
+}
+
+// What a step gives: the meter as it then stands, and its answer. The telegram is blank unless the reply says it.
+pub struct Step {
+    pub meter: Meter,
+    pub reply: Reply,
+    pub telegram: Telegram,
+}
+
+impl Meter {
+    // A meter that begins, whatever the template.
+    fn begun(address: u8, template: Telegram) -> Meter
+        ensures { λ r. ⌜ r ≡ begun address template ⌝ }
+    {
+        let entries = template.entries;
+        let used = Pair::of(entries);
+        Meter {
+            last: Clock(0),
+            core: Core {
+                address,
+                mode: Mode::Use,
+                used,
+                verified: Pair {
+                    volume: 0,
+                    energy: 0,
+                },
+                template,
+            },
+        }
+    }
+
+    // A meter with its own address and its data template.
+    pub fn set_up(address: u8, template: Telegram) -> Setup
+        ensures { λ r. ⌜ r ≡ shownSetup (setUp address template) ⌝ }
+    {
+        let unfit = is_unfit(template);
+        if unfit {
+            let blank = acknowledgement();
+            let meter = Meter::begun(0, blank);
+            return Setup {
+                outcome: Outcome::Refused(72),
+                meter,
+            };
+        }
+        let meter = Meter::begun(address, template);
+        Setup {
+            outcome: Outcome::Accepted,
+            meter,
+        }
+    }
+
+    // A step that is refused and leaves the meter as it stood.
+    fn refused(self, n: u16) -> Step
+        ensures { λ r. ⌜ r ≡ refusedStep self n ⌝ }
+    {
+        let telegram = acknowledgement();
+        Step {
+            meter: self,
+            reply: Reply::Refused(n),
+            telegram,
+        }
+    }
+
+    // A line heard at t.
+    pub fn heard(self, line: &[u16], t: Clock) -> Step
+        ensures { λ r. ⌜ r ≡ shownStep self t (heardAt self (now (line .entry)) t) ⌝ }
+    {
+        let last = self.last;
+        let back = last.earlier(t);
+        if back {
+            return self.refused(70);
+        }
+        let core = self.core;
+        let core = core.returned(t);
+        let reading = read_line(line);
+        let view = view_of(reading);
+        core.hears(view, t)
+    }
+
+    // Volume and energy measured at t, as counts of the template's last digits.
+    pub fn measure(self, volume: u64, energy: u64, t: Clock) -> Step
+        ensures { λ r. ⌜ r ≡ shownStep self t (measuredAt self volume energy t) ⌝ }
+    {
+        let last = self.last;
+        let back = last.earlier(t);
+        if back {
+            return self.refused(70);
+        }
+        let core = self.core;
+        let core = core.returned(t);
+        let sum = core.plus(volume, energy);
+        match sum {
+            Sum::Refused(n) => self.refused(n),
+            Sum::Totals(totals) => core.measured(totals, t),
+        }
+    }
+}
