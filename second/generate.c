@@ -927,9 +927,8 @@ int main(int argc, char **argv)
         const char *name;
         void (*generate)(void);
     } capabilities[] = {
-        {"read", generate_read}, {"write", generate_write}, {"find", generate_find},
-        {"wake", generate_wake}, {"gap", generate_gap},     {"error", generate_error},
-        {"exchange", generate_exchange}, {"meter", generate_meter},
+        {"read", generate_read}, {"write", generate_write}, {"find", generate_find},         {"wake", generate_wake},
+        {"gap", generate_gap},   {"error", generate_error}, {"exchange", generate_exchange}, {"meter", generate_meter},
     };
     if (argc != 4)
         return fprintf(stderr, "usage: generate NAME SEED COUNT\n"), 2;

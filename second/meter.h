@@ -6,13 +6,13 @@
 
 struct second_meter {
     unsigned address;
-    struct second_telegram template; /* with the access number as it stands */
+    struct second_telegram template;  /* with the access number as it stands */
     uint64_t use[2], verification[2]; /* totals: volume, energy */
     int is_verifying;
-    unsigned method;          /* in verification */
-    uint64_t instructed;      /* in verification: the last instruction's time */
+    unsigned method;     /* in verification */
+    uint64_t instructed; /* in verification: the last instruction's time */
     int has_stepped;
-    uint64_t last; /* the last step's time, if there was one */
+    uint64_t last; /* where it has stepped: the last step's time */
 };
 
 /* Each answers 0, or the number of a refusal, which leaves the meter as it stood. Times are in bit times. */
