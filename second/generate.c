@@ -3,7 +3,9 @@
  * The same seed gives the same cases on every machine; so no expression asks for chance twice, where C leaves
  * open which comes first.
  */
+#include "exchange.h"
 #include "line.h"
+#include "meter.h"
 
 #include <inttypes.h>
 #include <stdio.h>
@@ -736,6 +738,175 @@ static void generate_error(void)
     printf("error +%" PRIu64 " +%" PRIu64 " +%" PRIu64 " +%" PRIu64, c[0], c[1], c[2], c[3]);
 }
 
+/* ---- histories, each step chosen by how the exchange or the meter stands */
+
+/* A time: most often a little later than the last, or at an edge after the event that a window counts from. */
+static uint64_t some_time(uint64_t last, uint64_t from, const unsigned *edges, unsigned n)
+{
+    uint64_t t = from + edges[below(n)];
+    switch (below(16)) {
+    case 0:
+        return last;
+    case 1:
+        return once_in(2) ? last - (last > 0) : of_any_width();
+    case 2:
+    case 3:
+    case 4:
+    case 5:
+        return last > UINT64_MAX - 100 ? UINT64_MAX : last + below(100);
+    default:
+        return t < from ? UINT64_MAX : t;
+    }
+}
+
+/* A line that reads as the telegram. */
+static void write_telegram(struct line *l, const struct second_telegram *t)
+{
+    if (second_write(t, l->c, sizeof l->c / sizeof l->c[0], &l->n) != 0)
+        abort();
+}
+
+static void damaged_line(struct line *l)
+{
+    if (once_in(3))
+        noise(l, 12);
+    else if (once_in(2))
+        near_miss(l);
+    else
+        flip(l, between(1, 3));
+}
+
+static uint64_t first_time(void)
+{
+    return once_in(3) ? UINT64_MAX - below(3000) : once_in(3) ? below(500) : of_any_width();
+}
+
+/* A line for an exchange to hear: the reply that it waits for, its neighbour, any telegram, or damage. */
+static void reply_line(struct line *l, const struct second_telegram *request)
+{
+    struct second_telegram t = good_telegram(request->kind == SECOND_READ ? SECOND_DATA : SECOND_ACK);
+    if (once_in(4))
+        t = good_telegram(some_kind());
+    else if (t.kind == SECOND_DATA && !once_in(4))
+        t.address = request->address;
+    write_telegram(l, &t);
+    if (once_in(3))
+        damaged_line(l);
+}
+
+static void exchange_step(struct second_exchange *x)
+{
+    static const unsigned edges[] = {0, 1, 100, 449, 450, 451, 452, 900};
+    struct second_telegram reply;
+    struct line l = {{0}, 0};
+    uint64_t t = some_time(x->last, x->began, edges, 8);
+    unsigned sort = below(8);
+    if (x->state == SECOND_RESEND && !once_in(4))
+        sort = 7;
+    if (sort < 4) {
+        reply_line(&l, &x->request);
+        printf(" heard +%" PRIu64, t);
+        print_characters(&l);
+        second_heard(x, l.c, l.n, t, &reply);
+    } else if (sort < 7) {
+        printf(" tick +%" PRIu64, t);
+        second_tick(x, t);
+    } else {
+        printf(" sent +%" PRIu64, t);
+        second_sent(x, t);
+    }
+}
+
+static void generate_exchange(void)
+{
+    struct second_exchange x;
+    struct second_telegram request = good_telegram(once_in(20) ? some_kind() : (enum second_kind)between(1, 3));
+    uint64_t t = first_time();
+    printf("exchange start +%" PRIu64, t);
+    print_telegram(&request, 0);
+    if (second_start(&x, &request, t) != 0)
+        return;
+    for (unsigned steps = between(1, 12); steps > 0; steps--) {
+        exchange_step(&x);
+        if ((x.state == SECOND_WELL || x.state == SECOND_FAILED) && once_in(2))
+            return;
+    }
+}
+
+/* A template that a meter is set up with, but now and then. */
+static struct second_telegram meter_template(void)
+{
+    struct second_telegram t = good_telegram(SECOND_DATA);
+    t.access = once_in(2) ? 255 - below(3) : t.access;
+    for (size_t i = 0; i < t.count; i++)
+        if (t.entries[i].unit < 0x18 && !once_in(40)) {
+            t.entries[i].structure = 0x0C;
+            t.entries[i].count = count_for(0x0C);
+        }
+    if (once_in(20))
+        break_telegram(&t);
+    return t;
+}
+
+static uint64_t some_amount(uint64_t total)
+{
+    switch (below(8)) {
+    case 0:
+        return 99999999 - total + below(3);
+    case 1:
+        return UINT64_MAX - below(3);
+    case 2:
+        return of_any_width();
+    default:
+        return below(1000);
+    }
+}
+
+/* A line for a meter to hear: an instruction, a request to another meter, any telegram, or damage. */
+static void request_line(struct line *l, unsigned address)
+{
+    struct second_telegram t = good_telegram(once_in(8) ? some_kind() : (enum second_kind)between(1, 3));
+    if (t.kind != SECOND_ACK && !once_in(4))
+        t.address = address;
+    write_telegram(l, &t);
+    if (once_in(8))
+        damaged_line(l);
+}
+
+static void meter_step(struct second_meter *m)
+{
+    static const unsigned edges[] = {0, 1, 4319998, 4319999, 4320000, 4320001, 5000000, 100};
+    struct second_telegram answer;
+    struct line l = {{0}, 0};
+    int does_answer;
+    uint64_t t = some_time(m->last, m->is_verifying ? m->instructed : m->last, edges, 8), volume, energy;
+    if (once_in(3)) {
+        volume = some_amount(m->use[0]);
+        energy = some_amount(m->use[1]);
+        printf(" measure +%" PRIu64 " +%" PRIu64 " +%" PRIu64, t, volume, energy);
+        second_measure(m, t, volume, energy);
+        return;
+    }
+    request_line(&l, m->address);
+    printf(" heard +%" PRIu64, t);
+    print_characters(&l);
+    second_meter_heard(m, l.c, l.n, t, &does_answer, &answer);
+}
+
+static void generate_meter(void)
+{
+    struct second_meter m;
+    struct second_telegram template = meter_template();
+    unsigned address = once_in(4) ? 0xFE : below(256);
+    printf("meter setup %02X", address);
+    print_telegram(&template, SECOND_ENTRIES);
+    if (second_set_up(&m, address, &template) != 0)
+        return;
+    m.last = first_time(); /* no step has been, so this holds the first one to nothing */
+    for (unsigned steps = between(1, 12); steps > 0; steps--)
+        meter_step(&m);
+}
+
 /* What is no case. */
 static void generate_bad(const char *name)
 {
@@ -756,8 +927,8 @@ int main(int argc, char **argv)
         const char *name;
         void (*generate)(void);
     } capabilities[] = {
-        {"read", generate_read}, {"write", generate_write}, {"find", generate_find},
-        {"wake", generate_wake}, {"gap", generate_gap},     {"error", generate_error},
+        {"read", generate_read}, {"write", generate_write}, {"find", generate_find},         {"wake", generate_wake},
+        {"gap", generate_gap},   {"error", generate_error}, {"exchange", generate_exchange}, {"meter", generate_meter},
     };
     if (argc != 4)
         return fprintf(stderr, "usage: generate NAME SEED COUNT\n"), 2;

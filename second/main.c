@@ -2,8 +2,10 @@
  * The second program: answers the case files of docs/CASES.md from standard input.
  * With arguments it knows only the capabilities that they name, as the proved programs do.
  */
+#include "exchange.h"
 #include "indication.h"
 #include "line.h"
+#include "meter.h"
 #include "wake.h"
 
 #include <inttypes.h>
@@ -129,11 +131,17 @@ static int take(uint64_t *number, uint64_t most)
     return 1;
 }
 
-/* A number that may be left out at the end of the line, and is 0 then. */
+/* Whether a list goes on here: it ends at a name and at the end of the line. */
+static int goes_on(void)
+{
+    return at < words_count && !words[at].is_name;
+}
+
+/* A number that may be left out at the end of a list, and is 0 then. */
 static int take_or_end(uint64_t *number, uint64_t most)
 {
     *number = 0;
-    return at == words_count || take(number, most);
+    return !goes_on() || take(number, most);
 }
 
 static int take_name(const char *name)
@@ -147,7 +155,7 @@ static int take_name(const char *name)
 static int take_characters(uint16_t *characters, size_t *n)
 {
     uint64_t c;
-    for (*n = 0; at < words_count; characters[(*n)++] = (uint16_t)c)
+    for (*n = 0; goes_on(); characters[(*n)++] = (uint16_t)c)
         if (!take(&c, 0xFFFF))
             return 0;
     return 1;
@@ -202,7 +210,7 @@ static int take_telegram(struct second_telegram *t)
     t->access = (unsigned)fields[6];
     t->status = (unsigned)fields[7];
     t->count = fields[8];
-    for (size_t i = 0; at < words_count; i++)
+    for (size_t i = 0; goes_on(); i++)
         if (i == SECOND_ENTRIES || !take_entry(&t->entries[i]))
             return 0;
     return 1;
@@ -222,7 +230,7 @@ static int answer_read(void)
 {
     struct second_telegram t;
     size_t n;
-    if (!take_characters(characters, &n))
+    if (!take_characters(characters, &n) || at != words_count)
         return 0;
     if (!refused(second_read(characters, n, &t)))
         say_telegram(&t);
@@ -234,7 +242,7 @@ static int answer_write(void)
     struct second_telegram t;
     uint64_t places;
     size_t length = 0;
-    if (!take(&places, PLACES_MOST) || !take_telegram(&t))
+    if (!take(&places, PLACES_MOST) || !take_telegram(&t) || at != words_count)
         return 0;
     clear_places(places);
     int refusal = second_write(&t, characters, (size_t)places, &length);
@@ -245,7 +253,7 @@ static int answer_write(void)
 static int answer_find(void)
 {
     size_t n, place = 0, length = 0;
-    if (!take_characters(characters, &n))
+    if (!take_characters(characters, &n) || at != words_count)
         return 0;
     if (!refused(second_find(characters, n, &place, &length)))
         printf("found +%zu +%zu", place, length);
@@ -287,12 +295,147 @@ static int answer_error(void)
     return 1;
 }
 
+/* ---- histories: a first pass sees that every step is one, a second answers them */
+
+/* A step's name and how many numbers follow it; behind those of a line heard come its characters. */
+struct shape {
+    const char *name;
+    size_t numbers;
+};
+
+struct step {
+    const char *name;
+    uint64_t numbers[3];
+    size_t n;
+};
+
+static int is_step(const struct step *s, const char *name)
+{
+    return strcmp(s->name, name) == 0;
+}
+
+/* The next step, which has one of the shapes; a shape without a name ends them. */
+static int take_step(const struct shape *shape, struct step *s)
+{
+    while (shape->name != NULL && !take_name(shape->name))
+        shape++;
+    if (shape->name == NULL)
+        return 0;
+    s->name = shape->name;
+    for (size_t i = 0; i < shape->numbers; i++)
+        if (!take(&s->numbers[i], UINT64_MAX))
+            return 0;
+    return !is_step(s, "heard") || take_characters(characters, &s->n);
+}
+
+static int is_history(const struct shape *shapes)
+{
+    struct step s;
+    size_t first = at;
+    while (at < words_count)
+        if (!take_step(shapes, &s))
+            return 0;
+    at = first;
+    return 1;
+}
+
+static void say_exchange(const struct second_exchange *x)
+{
+    static const char *const states[] = {"waiting", "resend", "well", "failed"};
+    static const char *const causes[] = {" silent", " damaged", " wrong"};
+    int failed = x->state == SECOND_RESEND || x->state == SECOND_FAILED;
+    printf("%s%s +%u", states[x->state], failed ? causes[x->cause] : "", x->sends);
+    printf(" +%" PRIu64 " +%" PRIu64, x->began, x->last);
+}
+
+static void step_exchange(struct second_exchange *x, const struct step *s)
+{
+    struct second_telegram reply;
+    uint64_t t = s->numbers[0];
+    int is_line = is_step(s, "heard"), refusal;
+    if (is_line)
+        refusal = second_heard(x, characters, s->n, t, &reply);
+    else
+        refusal = is_step(s, "tick") ? second_tick(x, t) : second_sent(x, t);
+    putchar(' ');
+    if (refused(refusal))
+        return;
+    say_exchange(x);
+    if (is_line && x->state == SECOND_WELL) {
+        putchar(' ');
+        say_telegram(&reply);
+    }
+}
+
+static int answer_exchange(void)
+{
+    static const struct shape shapes[] = {{"heard", 1}, {"tick", 1}, {"sent", 1}, {NULL, 0}};
+    struct second_exchange x;
+    struct second_telegram request;
+    struct step s;
+    uint64_t t;
+    if (!take_name("start") || !take(&t, UINT64_MAX) || !take_telegram(&request) || !is_history(shapes))
+        return 0;
+    if (refused(second_start(&x, &request, t)))
+        return 1;
+    say_exchange(&x);
+    while (take_step(shapes, &s))
+        step_exchange(&x, &s);
+    return 1;
+}
+
+static void say_meter(const struct second_meter *m)
+{
+    if (m->is_verifying)
+        printf("verifying %02X +%" PRIu64, m->method, m->instructed);
+    else
+        printf("use");
+    printf(" +%" PRIu64 " +%" PRIu64, m->use[0], m->use[1]);
+    printf(" +%" PRIu64 " +%" PRIu64 " %02X", m->verification[0], m->verification[1], m->template.access);
+}
+
+static void step_meter(struct second_meter *m, const struct step *s)
+{
+    struct second_telegram answer;
+    int does_answer = 0, refusal;
+    if (is_step(s, "heard"))
+        refusal = second_meter_heard(m, characters, s->n, s->numbers[0], &does_answer, &answer);
+    else
+        refusal = second_measure(m, s->numbers[0], s->numbers[1], s->numbers[2]);
+    putchar(' ');
+    if (refused(refusal))
+        return;
+    if (does_answer)
+        say_telegram(&answer);
+    else
+        printf("silence");
+    putchar(' ');
+    say_meter(m);
+}
+
+static int answer_meter(void)
+{
+    static const struct shape shapes[] = {{"heard", 1}, {"measure", 3}, {NULL, 0}};
+    struct second_meter m;
+    struct second_telegram template;
+    struct step s;
+    uint64_t address;
+    if (!take_name("setup") || !take(&address, 0xFF) || !take_telegram(&template) || !is_history(shapes))
+        return 0;
+    if (refused(second_set_up(&m, (unsigned)address, &template)))
+        return 1;
+    say_meter(&m);
+    while (take_step(shapes, &s))
+        step_meter(&m, &s);
+    return 1;
+}
+
 static const struct {
     const char *name;
     int (*answer)(void);
 } capabilities[] = {
-    {"read", answer_read}, {"write", answer_write}, {"find", answer_find},
-    {"wake", answer_wake}, {"gap", answer_gap},     {"error", answer_error},
+    {"read", answer_read}, {"write", answer_write}, {"find", answer_find},         {"wake", answer_wake},
+    {"gap", answer_gap},   {"error", answer_error}, {"exchange", answer_exchange}, {"meter", answer_meter},
 };
 
 static int answer_case(char **known)

@@ -1,0 +1,83 @@
+// Answers the cases `meter` of docs/CASES.md.
+use cases::Run;
+use format::Outcome;
+use format::Telegram;
+use meter::Meter;
+
+mod put;
+mod steps;
+
+// The meter's set-up and the steps from a place on, and their answers.
+fn answer_meter(
+    names: &[bool; 4096],
+    values: &[u64; 4096],
+    count: usize,
+    from: usize,
+    address: u8,
+    template: Telegram,
+    out: &mut [u8; 4096],
+    at: usize,
+) -> usize {
+    let setup = Meter::set_up(address, template);
+    let outcome = setup.outcome;
+    let meter = setup.meter;
+    match outcome {
+        Outcome::Refused(n) => answers::put_refusal(out, at, n),
+        Outcome::Accepted => {
+            let said = put::put_meter(out, at, meter);
+            steps::answer_steps(names, values, count, from, meter, out, said)
+        }
+    }
+}
+
+fn answer(
+    names: &[bool; 4096],
+    values: &[u64; 4096],
+    count: usize,
+    out: &mut [u8; 4096],
+    at: usize,
+) -> usize {
+    let is_named = cases::has_name(names, values, count, 0, b"meter")
+        & cases::has_name(names, values, count, 1, b"setup");
+    let address = cases::number_at(names, values, count, 2, 0xFF);
+    let taken = telegrams::take_telegram(names, values, count, 3);
+    let template = taken.telegram;
+    let is_setup = is_named & address.is_there & taken.is_there;
+    if is_setup & steps::is_history(names, values, count, taken.next) {
+        let own = (address.value % 256) as u8;
+        return answer_meter(names, values, count, taken.next, own, template, out, at);
+    }
+    answers::put_bad(out, at)
+}
+
+// One case and its answer.
+fn turn(
+    run: Run,
+    input: &mut [u8; 4096],
+    names: &mut [bool; 4096],
+    values: &mut [u64; 4096],
+    out: &mut [u8; 4096],
+) -> Run {
+    let next = cases::next_case(run, input, names, values, out);
+    if next.is_over {
+        return next;
+    }
+    let said = answer(names, values, next.count, out, next.waiting);
+    let waiting = answers::end_line(out, said);
+    Run { waiting, ..next }
+}
+
+fn main() {
+    let mut input = [0u8; 4096];
+    let mut names = [false; 4096];
+    let mut values = [0u64; 4096];
+    let mut out = [0u8; 4096];
+    let mut run = cases::begin();
+    for _ in 0..u64::MAX {
+        run = turn(run, &mut input, &mut names, &mut values, &mut out);
+        if run.is_over {
+            break;
+        }
+    }
+    answers::write_out(&out, run.waiting);
+}
