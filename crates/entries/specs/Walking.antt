@@ -1,7 +1,7 @@
 -- Reading entries one after the other.
 use Prim.Native.Nat.{ℕ, zero, suc, _+_, _*_, _-_, _≤_, _<_, zero-le}
-use mathlib.Core.Bool.{Bool, true, false, cond, not, _&&_, _||_, true≢false, or-true, or-false}
-use borrow.Author.Tests.{ltb-false, eqb-false, eq-eqb, ne-eqb}
+use mathlib.Core.Bool.{Bool, true, false, cond, not, _&&_, _||_, true≢false, or-true, or-false, and-eq-true-iff}
+use borrow.Author.Tests.{ltb-false, eqb-false, eqb-true, eq-eqb, ne-eqb, lt-ltb, le-ltb, not-false}
 use mathlib.Core.List.{List, [], _∷_, _++_, map}
 use mathlib.Core.Path.{_≡_, refl, sym, ap, ap₂, subst, _∙_}
 use native.Mathlib.Nat.{add-sub-cancel-left}
@@ -16,22 +16,28 @@ use Rattle.format.specs.Lists.{at, any}
 use Rattle.format.specs.Answers.{Answer, reads, refusal, refuse, follow}
 use Rattle.format.specs.AnswerLaws.{follow-refuse}
 use Rattle.format.specs.Characters.{byteOf}
-use Rattle.format.specs.Quantities.{quantityOf, widthOf, paired, isTime, between, energy, volume, power, flow, inlet, outlet, time, unknown}
+use Rattle.format.specs.Quantities.{quantityOf, widthOf, paired, isPacked, isTime, between, energy, volume, power, flow, inlet, outlet, time, unknown}
 use Rattle.format.specs.Digits.{overNine}
 use Rattle.format.specs.Moments.{wrongMoment}
+use Rattle.format.specs.Tests.{by-test}
 use Rattle.format.specs.ListLaws.{map-take, map-drop, any-snoc}
 use Rattle.format.specs.declared.Value.{Value}
 use Rattle.format.specs.declared.Entry.{Entry}
 use Rattle.format.specs.declared.Outcome.{Outcome}
 use Rattle.format.specs.declared.Outcome.the-variants.{Accepted, Refused}
 use Rattle.entries.specs.declared.Entries.{Entries}
-use Rattle.entries.specs.declared.Next.{Next}
+use Rattle.entries.specs.declared.Tried.{Tried}
 use Rattle.format.specs.Entries.{valueBytes, valueOf, entryOf, entryWidth, unfit, wrongDigit, wrongTime, seen, missing, readEntries}
 use Rattle.format.specs.Telegrams.{blankEntry, outcomeOf}
 
--- what 11, 12 and 13 say of the entry that the list begins with
-abbrev pub tried : List ℕ → Answer (Unit {0})
-tried s = refuse 11 (unfit s) (refuse 12 (wrongDigit s) (refuse 13 (wrongTime s) (reads tt)))
+-- the entry that the list begins with, or what 11, 12 and 13 say of it
+abbrev pub tried : List ℕ → Answer Entry
+tried s = refuse 11 (unfit s) (refuse 12 (wrongDigit s) (refuse 13 (wrongTime s) (reads (entryOf s))))
+
+-- The program's answer about one entry: its quantity and the width of its value, or the number.
+abbrev pub triedShown : Answer Entry → Tried
+triedShown (refusal n) = Tried.Refused n
+triedShown (reads e) = Tried.Passed (quantityOf (e .unit)) (widthOf (e .structure))
 
 -- The program's answer for each answer about entries.
 abbrev pub entriesShown : Answer (List Entry) → Entries
@@ -47,10 +53,6 @@ nextOf s marks count =
     (refuse 14 (getD marks (quantityOf (at s 1)) false)
     (refuse 15 (eqb count 7)
     (reads (entryOf s))))))
-
-abbrev pub nextShown : Answer Entry → Next
-nextShown (refusal n) = Next.Refused n
-nextShown (reads e) = Next.Entry e
 
 -- 16 by the marks
 abbrev pub unmarked : List Bool → Bool
@@ -70,18 +72,7 @@ width-few st = go (eqb st 0x0A) (eqb st 0x0B) (eqb st 0x0C) (eqb st 0x0E) (eqb s
     go false false false false true = omega arith
     go false false false false false = omega arith
 
--- 11 as the code tries it, on what it read of the entry's first two bytes
-pub unfit-tried : (rest : List ℕ) {st u width : ℕ} {p : Bool} → st ≡ at (map byteOf rest) 0 → u ≡ at (map byteOf rest) 1 → p ≡ paired st u → width ≡ widthOf st
-    → (ltb (length rest) 2 || not p || ltb (length rest) (2 + width)) ≡ unfit (map byteOf rest)
-unfit-tried rest {st} {u} {width} {p} es eu ep ew =
-    ap₂ (λ (n : ℕ) (b : Bool). ltb n 2 || not b || ltb n (2 + width)) (sym (length-map rest byteOf)) (ep ∙ ap₂ paired es eu)
-    ∙ ap (λ (w : ℕ). ltb (length (map byteOf rest)) 2 || not (paired (at (map byteOf rest) 0) (at (map byteOf rest) 1)) || ltb (length (map byteOf rest)) (2 + w)) (ew ∙ ap widthOf es)
-
-or-false-left : (a b : Bool) → (a || b) ≡ false → a ≡ false
-or-false-left true b e = e
-or-false-left false b e = refl
-
-or-false-right : (a b : Bool) → (a || b) ≡ false → b ≡ false
+pub or-false-right : (a b : Bool) → (a || b) ≡ false → b ≡ false
 or-false-right true b e = absurd (true≢false e)
 or-false-right false b e = e
 
@@ -98,49 +89,171 @@ value-cut rest {w} e =
     ∙ map-take byteOf (widthOf (at (map byteOf rest) 0)) (drop 2 rest)
     ∙ ap (take (widthOf (at (map byteOf rest) 0))) (map-drop byteOf 2 rest)
 
-pub tried-unfit : (s : List ℕ) → unfit s ≡ true → tried s ≡ refusal 11
-tried-unfit s e = ap (λ (t : Bool). refuse 11 t (refuse 12 (wrongDigit s) (refuse 13 (wrongTime s) (reads tt)))) e
+abbrev pub pick : ℕ → Bool → Tried → Tried
+pick n test next = cond test (Tried.Refused n) next
 
--- past 11 the unit says which rule the value is held against
-pub tried-fit : (s : List ℕ) → unfit s ≡ false
-    → tried s ≡ cond (isTime (at s 1)) (refuse 13 (wrongMoment (valueBytes s)) (reads tt)) (refuse 12 (any overNine (valueBytes s)) (reads tt))
-tried-fit s e =
-    ap (λ (t : Bool). refuse 11 t (refuse 12 (wrongDigit s) (refuse 13 (wrongTime s) (reads tt)))) e
-    ∙ go (isTime (at s 1)) (any overNine (valueBytes s)) (wrongMoment (valueBytes s))
+shown-refuse : (n : ℕ) (test : Bool) (a : Answer Entry) → triedShown (refuse n test a) ≡ pick n test (triedShown a)
+shown-refuse n true a = refl
+shown-refuse n false a = refl
+
+-- one byte left
+pub tried-one : (s : List ℕ) → length s < 2 → triedShown (tried s) ≡ Tried.Refused 11
+tried-one s h = rw (lt-ltb (length s) 2 h)
+
+-- a point in time, once its unit byte is known
+pub tried-time : (s : List ℕ) → 2 ≤ length s → isTime (at s 1) ≡ true
+    → triedShown (tried s) ≡ pick 11 (not (eqb (at s 0) 0x06) || ltb (length s) 8) (pick 13 (wrongMoment (take 6 (drop 2 s))) (Tried.Passed 6 6))
+unfolding paired widthOf quantityOf
+tried-time s h t =
+    let unit : at s 1 ≡ 0x6D = eqb-true (at s 1) 0x6D t in
+    by-test (eqb (at s 0) 0x06)
+    (λ e. (let structure : at s 0 ≡ 0x06 = eqb-true (at s 0) 0x06 e in rw (structure, unit, le-ltb (length s) 2 h) (shown-refuse 11 (ltb (length s) 8) _ ∙ ap (pick 11 (ltb (length s) 8)) (shown-refuse 13 (wrongMoment (take 6 (drop 2 s))) _))))
+    (λ e. rw (unit, e, le-ltb (length s) 2 h))
+
+-- packed digits, once the unit byte is known to be another
+pub tried-number : (s : List ℕ) → 2 ≤ length s → isTime (at s 1) ≡ false
+    → triedShown (tried s)
+    ≡ pick 11 (not (isPacked (at s 0) && ltb (quantityOf (at s 1)) unknown))
+    (pick 11 (ltb (length s) (entryWidth s))
+    (pick 12 (any overNine (valueBytes s))
+    (Tried.Passed (quantityOf (at s 1)) (widthOf (at s 0)))))
+unfolding paired
+tried-number s h t = rw (t, le-ltb (length s) 2 h) (go _ (isPacked (at s 0) && ltb (quantityOf (at s 1)) unknown) (ltb (length s) (entryWidth s)) (any overNine (valueBytes s)))
   where
-    go : (t d m : Bool) → _≡_ {A = Answer (Unit {0})} (refuse 12 (not t && d) (refuse 13 (t && m) (reads tt))) (cond t (refuse 13 m (reads tt)) (refuse 12 d (reads tt)))
-    go true d m = refl
-    go false d m = refl
+    go : (e : Entry) (p w d : Bool) → triedShown (refuse 11 (not p || w) (refuse 12 d (reads e))) ≡ pick 11 (not p) (pick 11 w (pick 12 d (Tried.Passed (quantityOf (e .unit)) (widthOf (e .structure)))))
+    go e false w d = refl
+    go e true true d = refl
+    go e true false true = refl
+    go e true false false = refl
+
+-- packed digits are as many bytes as the structure is over 8
+pub packed-width : (st : ℕ) → isPacked st ≡ true → (8 ≤ st) × (widthOf st ≡ st - 8)
+unfolding widthOf
+packed-width st p =
+    by-test (eqb st 0x0A) (λ e. is 0x0A e (omega arith, refl))
+    (λ a. by-test (eqb st 0x0B) (λ e. is 0x0B e (omega arith, refl))
+    (λ b. by-test (eqb st 0x0C) (λ e. is 0x0C e (omega arith, refl))
+    (λ c. is 0x0E (rw (a, b, c) at p) (omega arith, refl))))
+  where
+    is : (k : ℕ) → eqb st k ≡ true → ((8 ≤ k) × (widthOf k ≡ k - 8)) → (8 ≤ st) × (widthOf st ≡ st - 8)
+    is k e f = rw (eqb-true st k e) f
+
+-- the row of the table that a time has, and no other unit
+pub time-quantity : (u : ℕ) → eqb (quantityOf u) time ≡ isTime u
+unfolding quantityOf
+time-quantity u =
+    by-test (isTime u) (λ e. rw (eqb-true u 0x6D e))
+    (λ e. rw e (go (between 0x00 0x07 u) (between 0x10 0x17 u) (between 0x28 0x2F u) (between 0x38 0x3F u) (between 0x58 0x5B u) (between 0x5C 0x5F u)))
+  where
+    go : (a b c d e f : Bool) → eqb (cond a energy (cond b volume (cond c power (cond d flow (cond e inlet (cond f outlet unknown)))))) time ≡ false
+    go true b c d e f = refl
+    go false true c d e f = refl
+    go false false true d e f = refl
+    go false false false true e f = refl
+    go false false false false true f = refl
+    go false false false false false true = refl
+    go false false false false false false = refl
+
+-- ---- the same, on what the code read of an entry
+
+pub time-told : {x u q : ℕ} → u ≡ x → q ≡ quantityOf u → q ≡ time → isTime x ≡ true
+time-told {x} eu eq e = sym (time-quantity x) ∙ eq-eqb (quantityOf x) time (ap quantityOf (sym eu) ∙ sym eq ∙ e)
+
+pub other-told : {x u q : ℕ} → u ≡ x → q ≡ quantityOf u → (q ≡ time → ⊥) → isTime x ≡ false
+other-told {x} eu eq n = sym (time-quantity x) ∙ ne-eqb (quantityOf x) time (λ e. n (eq ∙ ap quantityOf eu ∙ e))
+
+pub one-left : (rest : List ℕ) → length rest < 2 → triedShown (tried (map byteOf rest)) ≡ Tried.Refused 11
+one-left rest h = tried-one (map byteOf rest) (rw (length-map rest byteOf) h)
+
+pub time-is : (rest : List ℕ) {st : ℕ} → (2 ≤ length rest) × (st ≡ at (map byteOf rest) 0) × (isTime (at (map byteOf rest) 1) ≡ true)
+    → triedShown (tried (map byteOf rest))
+    ≡ pick 11 (not (eqb st 0x06) || ltb (length rest) 8) (pick 13 (wrongMoment (map byteOf (take 6 (drop 2 rest)))) (Tried.Passed 6 6))
+time-is rest {st} h =
+    tried-time (map byteOf rest) (rw (length-map rest byteOf) (h .0)) (h .2)
+    ∙ ap₂ (λ (n : ℕ) (b : List ℕ). pick 11 (not (eqb (at (map byteOf rest) 0) 0x06) || ltb n 8) (pick 13 (wrongMoment b) (Tried.Passed 6 6)))
+    (length-map rest byteOf)
+    (sym (map-take byteOf 6 (drop 2 rest) ∙ ap (take 6) (map-drop byteOf 2 rest)))
+    ∙ ap (λ (k : ℕ). pick 11 (not (eqb k 0x06) || ltb (length rest) 8) (pick 13 (wrongMoment (map byteOf (take 6 (drop 2 rest)))) (Tried.Passed 6 6))) (sym (h .1))
+
+-- what is known of an entry of another quantity than time
+pub record Other (rest : List ℕ) (st q : ℕ) : Type 0 where
+  pub two : 2 ≤ length rest
+  pub structure : st ≡ at (map byteOf rest) 0
+  pub quantity : q ≡ quantityOf (at (map byteOf rest) 1)
+  pub no-time : isTime (at (map byteOf rest) 1) ≡ false
+
+module _ {rest : List ℕ} {st q : ℕ} {packed : Bool} (o : Other rest st q) (e : packed ≡ isPacked st) where
+  other-is : triedShown (tried (map byteOf rest))
+      ≡ pick 11 (not (packed && ltb q unknown))
+      (pick 11 (ltb (length rest) (2 + widthOf st))
+      (pick 12 (any overNine (map byteOf (take (widthOf st) (drop 2 rest))))
+      (Tried.Passed q (widthOf st))))
+  other-is =
+      tried-number (map byteOf rest) (rw (length-map rest byteOf) (o .two)) (o .no-time)
+      ∙ rw (length-map rest byteOf, ← o .structure, ← o .quantity, ← e, ← map-drop byteOf 2 rest, ← map-take byteOf (widthOf st) (drop 2 rest))
+
+  pub other-unfit : not (packed && ltb q unknown) ≡ true → triedShown (tried (map byteOf rest)) ≡ Tried.Refused 11
+  other-unfit t = other-is ∙ rw t
+
+  fits : not (packed && ltb q unknown) ≡ false → isPacked st ≡ true
+  fits t = sym e ∙ and-eq-true-iff packed (ltb q unknown) .0 (not-false (packed && ltb q unknown) t) .0
+
+  pub other-over : not (packed && ltb q unknown) ≡ false → 8 ≤ st
+  other-over t = packed-width st (fits t) .0
+
+  pub other-fit : not (packed && ltb q unknown) ≡ false
+      → triedShown (tried (map byteOf rest))
+      ≡ pick 11 (ltb (length rest) (2 + (st - 8)))
+      (pick 12 (any overNine (map byteOf (take (2 + (st - 8) - 2) (drop 2 rest))))
+      (Tried.Passed q (st - 8)))
+  other-fit t =
+      other-is
+      ∙ ap (λ (b : Bool). pick 11 b (pick 11 (ltb (length rest) (2 + widthOf st)) (pick 12 (any overNine (map byteOf (take (widthOf st) (drop 2 rest)))) (Tried.Passed q (widthOf st))))) t
+      ∙ ap (λ (w : ℕ). pick 11 (ltb (length rest) (2 + w)) (pick 12 (any overNine (map byteOf (take w (drop 2 rest)))) (Tried.Passed q w))) (packed-width st (fits t) .1)
+      ∙ ap (λ (n : ℕ). pick 11 (ltb (length rest) (2 + (st - 8))) (pick 12 (any overNine (map byteOf (take n (drop 2 rest)))) (Tried.Passed q (st - 8)))) (sym (add-sub-cancel-left 2 (st - 8)))
 
 -- an entry put together of what was read
 pub entry-built : (s : List ℕ) {st u : ℕ} {v : Value} {b : List ℕ} → st ≡ at s 0 → u ≡ at s 1 → v ≡ valueOf u b → b ≡ valueBytes s
     → _≡_ {A = Entry} (record { structure = st; unit = u; value = v }) (entryOf s)
 entry-built s es eu ev eb = λ i. record { structure = es i; unit = eu i; value = (ev ∙ ap₂ valueOf eu eb) i }
 
--- ---- what the outcome of 11 to 13 says of the next entry
+-- ---- what 11 to 13 say of the next entry
 
-pub refused-next : (s : List ℕ) (marks : List Bool) (count n : ℕ) → outcomeOf (tried s) ≡ Refused n → nextShown (nextOf s marks count) ≡ Next.Refused n
+pub refused-next : (s : List ℕ) (marks : List Bool) (count n : ℕ) → triedShown (tried s) ≡ Tried.Refused n → triedShown (nextOf s marks count) ≡ Tried.Refused n
 refused-next s marks count n = go (unfit s) (wrongDigit s) (wrongTime s)
   where
-    go : (a b c : Bool) → outcomeOf {A = Unit {0}} (refuse 11 a (refuse 12 b (refuse 13 c (reads tt)))) ≡ Refused n
-        → nextShown (refuse 11 a (refuse 12 b (refuse 13 c (refuse 14 (getD marks (quantityOf (at s 1)) false) (refuse 15 (eqb count 7) (reads (entryOf s))))))) ≡ Next.Refused n
-    go true b c e = let z : _≡_ {A = ℕ} 11 n = cc in ap Next.Refused z
-    go false true c e = let z : _≡_ {A = ℕ} 12 n = cc in ap Next.Refused z
-    go false false true e = let z : _≡_ {A = ℕ} 13 n = cc in ap Next.Refused z
+    go : (a b c : Bool) → triedShown (refuse 11 a (refuse 12 b (refuse 13 c (reads (entryOf s))))) ≡ Tried.Refused n
+        → triedShown (refuse 11 a (refuse 12 b (refuse 13 c (refuse 14 (getD marks (quantityOf (at s 1)) false) (refuse 15 (eqb count 7) (reads (entryOf s))))))) ≡ Tried.Refused n
+    go true b c e = e
+    go false true c e = e
+    go false false true e = e
     go false false false e = let z : _≡_ {A = ℕ} 0 1 = cc in absurd (omega arith)
 
-pub accepted-next : (s : List ℕ) (marks : List Bool) (count : ℕ) → outcomeOf (tried s) ≡ Accepted
-    → (unfit s ≡ false) × (nextOf s marks count ≡ refuse 14 (getD marks (quantityOf (at s 1)) false) (refuse 15 (eqb count 7) (reads (entryOf s))))
-accepted-next s marks count = go (unfit s) (wrongDigit s) (wrongTime s)
-  where
-    rest : Answer Entry
-    rest = refuse 14 (getD marks (quantityOf (at s 1)) false) (refuse 15 (eqb count 7) (reads (entryOf s)))
+-- An entry that 11 to 13 let pass: its quantity and width, and then 14 and 15 by the marks.
+pub record Passing (s : List ℕ) (marks : List Bool) (count q w : ℕ) : Type 0 where
+  pub quantity : q ≡ quantityOf (at s 1)
+  pub width : w ≡ widthOf (at s 0)
+  pub next : nextOf s marks count ≡ refuse 14 (getD marks q false) (refuse 15 (eqb count 7) (reads (entryOf s)))
 
-    go : (a b c : Bool) → outcomeOf {A = Unit {0}} (refuse 11 a (refuse 12 b (refuse 13 c (reads tt)))) ≡ Accepted → (a ≡ false) × (refuse 11 a (refuse 12 b (refuse 13 c rest)) ≡ rest)
-    go true b c e = let z : _≡_ {A = ℕ} 0 1 = cc in absurd (omega arith)
-    go false true c e = let z : _≡_ {A = ℕ} 0 1 = cc in absurd (omega arith)
-    go false false true e = let z : _≡_ {A = ℕ} 0 1 = cc in absurd (omega arith)
-    go false false false e = (refl, refl)
+pub passed-next : (s : List ℕ) (marks : List Bool) (count q w : ℕ) → triedShown (tried s) ≡ Tried.Passed q w → Passing s marks count q w
+passed-next s marks count q w = go (unfit s) (wrongDigit s) (wrongTime s) refl refl refl
+  where
+    passing : q ≡ quantityOf (at s 1) → w ≡ widthOf (at s 0) → unfit s ≡ false → wrongDigit s ≡ false → wrongTime s ≡ false → Passing s marks count q w
+    passing eq ew a b c = record {
+      quantity = eq;
+      width = ew;
+      next =
+          ap (λ (t : Bool). refuse 11 t (refuse 12 (wrongDigit s) (refuse 13 (wrongTime s) (refuse 14 (getD marks (quantityOf (at s 1)) false) (refuse 15 (eqb count 7) (reads (entryOf s))))))) a
+          ∙ ap (λ (t : Bool). refuse 12 t (refuse 13 (wrongTime s) (refuse 14 (getD marks (quantityOf (at s 1)) false) (refuse 15 (eqb count 7) (reads (entryOf s)))))) b
+          ∙ ap (λ (t : Bool). refuse 13 t (refuse 14 (getD marks (quantityOf (at s 1)) false) (refuse 15 (eqb count 7) (reads (entryOf s))))) c
+          ∙ ap (λ (k : ℕ). refuse 14 (getD marks k false) (refuse 15 (eqb count 7) (reads (entryOf s)))) (sym eq);
+    }
+
+    go : (a b c : Bool) → unfit s ≡ a → wrongDigit s ≡ b → wrongTime s ≡ c → triedShown (refuse 11 a (refuse 12 b (refuse 13 c (reads (entryOf s))))) ≡ Tried.Passed q w → Passing s marks count q w
+    go true b c ea eb ec e = let z : _≡_ {A = ℕ} 0 1 = cc in absurd (omega arith)
+    go false true c ea eb ec e = let z : _≡_ {A = ℕ} 0 1 = cc in absurd (omega arith)
+    go false false true ea eb ec e = let z : _≡_ {A = ℕ} 0 1 = cc in absurd (omega arith)
+    go false false false ea eb ec e = passing (cc) (cc) ea eb ec
 
 pub quantity-few : (u : ℕ) → quantityOf u < 8
 unfolding quantityOf
@@ -292,6 +405,9 @@ module _ {rest : List ℕ} {at count : ℕ} {marks : List Bool} {entries : List 
   pub walked-missing : length rest ≤ at → unmarked marks ≡ true → readEntries 8 (map byteOf rest) [] ≡ refusal 16
   walked-missing h e = walked-all h ∙ ap (λ (t : Bool). refuse 16 t (reads (take count entries))) e
 
+  pub walked-accepted : length rest ≤ at → unmarked marks ≡ false → outcomeOf (readEntries 8 (map byteOf rest) []) ≡ Accepted
+  walked-accepted h e = ap outcomeOf (walked-all h ∙ ap (λ (t : Bool). refuse 16 t (reads (take count entries))) e)
+
   pub walked-whole : length rest ≤ at → unmarked marks ≡ false
       → _≡_ {A = Entries} (record { outcome = Accepted; count = count; entries = entries }) (entriesShown (readEntries 8 (map byteOf rest) []))
   walked-whole h e =
@@ -300,24 +416,56 @@ module _ {rest : List ℕ} {at count : ℕ} {marks : List Bool} {entries : List 
       (λ i. record { outcome = Accepted; count = n i; entries = (all ∙ ap (λ (k : ℕ). take count entries ++ replicate (7 - k) blankEntry) n) i })
       ∙ ap entriesShown (sym (walked-all h ∙ ap (λ (t : Bool). refuse 16 t (reads (take count entries))) e))
 
--- past 13, on what the code read of the entry
-pub passed-next : (s : List ℕ) (marks : List Bool) (count : ℕ) {e : Entry} {q : ℕ} → outcomeOf (tried s) ≡ Accepted → e ≡ entryOf s → q ≡ quantityOf (e .unit)
-    → nextOf s marks count ≡ refuse 14 (getD marks q false) (refuse 15 (eqb count 7) (reads e))
-passed-next s marks count {e} {q} p ee eq =
-    accepted-next s marks count p .1
-    ∙ ap₂ (λ (k : ℕ) (x : Entry). refuse 14 (getD marks k false) (refuse 15 (eqb count 7) (reads x))) (sym (eq ∙ ap (λ (x : Entry). quantityOf (x .unit)) ee)) (sym ee)
+-- what the answer about the next entry says
+pub next-passed : (s : List ℕ) (marks : List Bool) (count q w : ℕ) → triedShown (nextOf s marks count) ≡ Tried.Passed q w
+    → (nextOf s marks count ≡ reads (entryOf s)) × (q ≡ quantityOf (at s 1)) × (w ≡ widthOf (at s 0)) × (unfit s ≡ false)
+next-passed s marks count q w = go (unfit s) (wrongDigit s) (wrongTime s) (getD marks (quantityOf (at s 1)) false) (eqb count 7)
+  where
+    go : (a b c d f : Bool) → triedShown (refuse 11 a (refuse 12 b (refuse 13 c (refuse 14 d (refuse 15 f (reads (entryOf s))))))) ≡ Tried.Passed q w
+        → (refuse 11 a (refuse 12 b (refuse 13 c (refuse 14 d (refuse 15 f (reads (entryOf s)))))) ≡ reads (entryOf s)) × (q ≡ quantityOf (at s 1)) × (w ≡ widthOf (at s 0)) × (a ≡ false)
+    go true b c d f e = let z : _≡_ {A = ℕ} 0 1 = cc in absurd (omega arith)
+    go false true c d f e = let z : _≡_ {A = ℕ} 0 1 = cc in absurd (omega arith)
+    go false false true d f e = let z : _≡_ {A = ℕ} 0 1 = cc in absurd (omega arith)
+    go false false false true f e = let z : _≡_ {A = ℕ} 0 1 = cc in absurd (omega arith)
+    go false false false false true e = let z : _≡_ {A = ℕ} 0 1 = cc in absurd (omega arith)
+    go false false false false false e = (refl, cc, cc, refl)
 
-pub next-entry : (a : Answer Entry) (e : Entry) → nextShown a ≡ Next.Entry e → a ≡ reads e
-next-entry (refusal n) e q = let z : _≡_ {A = ℕ} 0 1 = cc in absurd (omega arith)
-next-entry (reads x) e q = cc
-
-pub next-refused : (a : Answer Entry) (n : ℕ) → nextShown a ≡ Next.Refused n → a ≡ refusal n
+pub next-refused : (a : Answer Entry) (n : ℕ) → triedShown a ≡ Tried.Refused n → a ≡ refusal n
 next-refused (refusal m) n q = cc
 next-refused (reads x) n q = let z : _≡_ {A = ℕ} 0 1 = cc in absurd (omega arith)
 
 -- the rest from a place on, as the code cuts it out
 pub rest-cut : (rest : List ℕ) (at : ℕ) → map byteOf (take (length rest - at) (drop at rest)) ≡ map byteOf (drop at rest)
 rest-cut rest at = ap (map byteOf) (take-all (length rest - at) (drop at rest) (omega (arith, length-drop at rest)))
+
+-- one turn of the walk, on what the code was told of the entry: it is passed over, or it is what the rest is refused by
+pub record Turn (rest : List ℕ) (at count : ℕ) (marks : List Bool) (entries : List Entry) (q w : ℕ) : Type 0 where
+  pub below : count < 7
+  pub few : q < 8
+  pub narrow : w ≤ 6
+  pub inside : at + (2 + w) ≤ length rest
+  pub fit : unfit (map byteOf (take (length rest - at) (drop at rest))) ≡ false
+  pub next : Walked rest (at + (2 + w)) (count + 1) (set marks q true) (set entries count (entryOf (map byteOf (take (length rest - at) (drop at rest)))))
+
+module _ {rest : List ℕ} {at count : ℕ} {marks : List Bool} {entries : List Entry} {x : Tried} (w : Walked rest at count marks entries) (h : at < length rest)
+    (e : x ≡ triedShown (nextOf (map byteOf (take (length rest - at) (drop at rest))) marks count)) where
+  told : triedShown (nextOf (map byteOf (drop at rest)) marks count) ≡ x
+  told = sym (e ∙ ap (λ (s : List ℕ). triedShown (nextOf s marks count)) (rest-cut rest at))
+
+  pub turned : {q v : ℕ} → x ≡ Tried.Passed q v → Turn rest at count marks entries q v
+  turned {q} {v} p =
+      let n = next-passed (map byteOf (drop at rest)) marks count q v (told ∙ p) in
+      record {
+        below = walked-below w h (entryOf (map byteOf (drop at rest))) (n .0);
+        few = rw (n .1) (quantity-few _);
+        narrow = rw (n .2) (width-few _);
+        inside = rw (n .2) (walked-inside w h (entryOf (map byteOf (drop at rest))) (n .0));
+        fit = rw (rest-cut rest at) (n .3);
+        next = rw (rest-cut rest at, n .1, n .2) (walked-next w h (entryOf (map byteOf (drop at rest))) (n .0));
+      }
+
+  pub halted : {n : ℕ} → x ≡ Tried.Refused n → readEntries 8 (map byteOf rest) [] ≡ refusal n
+  halted {n} p = walked-refused w h n (next-refused (nextOf (map byteOf (drop at rest)) marks count) n (told ∙ p))
 
 -- how the walk ends: at the end of the rest, or at an entry that is refused
 pub data Ended (rest : List ℕ) (at : ℕ) (outcome : Outcome) : Type 0 where

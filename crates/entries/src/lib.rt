@@ -1,15 +1,16 @@
 // The entries of a data telegram.
 ghost use mathlib.Core.Path.{_≡_};
-ghost use mathlib.Core.Bool.{false};
+ghost use mathlib.Core.Bool.{true, false};
 ghost use mathlib.Core.List.{[], map};
 ghost use Prim.Native.Nat.{_+_, _≤_};
 ghost use lib.ListN.{length};
 ghost use Rattle.format.specs.Lists.{at};
 ghost use Rattle.format.specs.Answers.{refusal};
 ghost use Rattle.format.specs.Characters.{byteOf};
+ghost use Rattle.format.specs.Quantities.{isTime};
 ghost use Rattle.format.specs.Entries.{entryOf, entryWidth, unfit, valueOf, readEntries};
 ghost use Rattle.format.specs.Telegrams.{blankEntry, outcomeOf};
-ghost use Rattle.entries.specs.Walking.{tried, nextOf, nextShown, entriesShown, unmarked};
+ghost use Rattle.entries.specs.Walking.{Other, tried, triedShown, nextOf, entriesShown, unmarked};
 use format::Decimal;
 use format::Entry;
 use format::Outcome;
@@ -19,7 +20,7 @@ use parts::digits::any_over_nine;
 use parts::digits::digits_of;
 use parts::moments::moment_of;
 use parts::moments::wrong_moment;
-use parts::quantities::is_paired;
+use parts::quantities::is_packed;
 use parts::quantities::quantity_of;
 use parts::quantities::width_of;
 
@@ -30,38 +31,67 @@ pub struct Entries {
     pub entries: [Entry; 7],
 }
 
-// The entry that the rest begins with, or what it is refused by.
-pub enum Next {
-    Entry(Entry),
+// The quantity of an entry and the width of its value, or what the entry is refused by.
+pub enum Tried {
+    Passed { quantity: usize, width: usize },
     Refused(u16),
 }
 
-// What 11, 12 and 13 say of the entry that the rest begins with.
-pub fn try_entry(rest: &[u16]) -> Outcome
-    ensures { λ r. ⌜ r ≡ outcomeOf (tried (map byteOf (now (rest .entry)))) ⌝ }
+// What 11 and 13 say of an entry with the unit byte of a time.
+fn try_time(rest: &[u16], structure: u8) -> Tried
+    requires { ⌜ (2 ≤ length (now rest)) × (structure ≡ at (map byteOf (now rest)) 0) × (isTime (at (map byteOf (now rest)) 1) ≡ true) ⌝ }
+    ensures { λ r. ⌜ r ≡ triedShown (tried (map byteOf (now (rest .entry)))) ⌝ }
 {
+    if !(structure == 0x06) | (rest.len() < 8) {
+        return Tried::Refused(11);
+    }
+    let wrong = wrong_moment(&rest[2..8]);
+    if wrong {
+        return Tried::Refused(13);
+    }
+    Tried::Passed {
+        quantity: 6,
+        width: 6,
+    }
+}
+
+// What 11 and 12 say of an entry of another quantity. Packed digits are as many bytes as the structure is over 8.
+fn try_number(rest: &[u16], structure: u8, quantity: u8) -> Tried
+    requires { ⌜ Other (now rest) structure quantity ⌝ }
+    ensures { λ r. ⌜ r ≡ triedShown (tried (map byteOf (now (rest .entry)))) ⌝ }
+{
+    let packed = is_packed(structure);
+    if !(packed & (quantity < 7)) {
+        return Tried::Refused(11);
+    }
+    let width = structure as usize - 8;
+    if rest.len() < 2 + width {
+        return Tried::Refused(11);
+    }
+    let wrong = any_over_nine(&rest[2..2 + width]);
+    if wrong {
+        return Tried::Refused(12);
+    }
+    Tried::Passed {
+        quantity: quantity as usize,
+        width,
+    }
+}
+
+// What 11, 12 and 13 say of the entry that the rest begins with.
+pub fn try_entry(rest: &[u16]) -> Tried
+    ensures { λ r. ⌜ r ≡ triedShown (tried (map byteOf (now (rest .entry)))) ⌝ }
+{
+    if rest.len() < 2 {
+        return Tried::Refused(11);
+    }
     let structure = byte_at(rest, 0);
     let unit = byte_at(rest, 1);
-    let paired = is_paired(structure, unit);
-    let width = width_of(structure);
-    if (rest.len() < 2) | !paired | (rest.len() < 2 + width) {
-        return Outcome::Refused(11);
-    }
-    let value = &rest[2..2 + width];
-    if unit == 0x6D {
-        let wrong = wrong_moment(value);
-        if wrong {
-            Outcome::Refused(13)
-        } else {
-            Outcome::Accepted
-        }
+    let quantity = quantity_of(unit);
+    if quantity == 6 {
+        try_time(rest, structure)
     } else {
-        let wrong = any_over_nine(value);
-        if wrong {
-            Outcome::Refused(12)
-        } else {
-            Outcome::Accepted
-        }
+        try_number(rest, structure, quantity)
     }
 }
 
@@ -107,22 +137,22 @@ pub fn blank_entry() -> Entry
 }
 
 // The entry that the rest begins with, after count entries whose quantities are marked, or what it is refused by.
-pub fn next_entry(rest: &[u16], marks: [bool; 8], count: usize) -> Next
-    ensures { λ r. ⌜ r ≡ nextShown (nextOf (map byteOf (now (rest .entry))) marks count) ⌝ }
+pub fn check_entry(rest: &[u16], marks: [bool; 8], count: usize) -> Tried
+    ensures { λ r. ⌜ r ≡ triedShown (nextOf (map byteOf (now (rest .entry))) marks count) ⌝ }
 {
     let passed = try_entry(rest);
-    if let Outcome::Refused(n) = passed {
-        return Next::Refused(n);
+    match passed {
+        Tried::Refused(n) => Tried::Refused(n),
+        Tried::Passed { quantity, width } => {
+            if marks[quantity] {
+                return Tried::Refused(14);
+            }
+            if count == 7 {
+                return Tried::Refused(15);
+            }
+            Tried::Passed { quantity, width }
+        }
     }
-    let entry = entry_of(rest);
-    let quantity = quantity_of(entry.unit) as usize;
-    if marks[quantity] {
-        return Next::Refused(14);
-    }
-    if count == 7 {
-        return Next::Refused(15);
-    }
-    Next::Entry(entry)
 }
 
 // No entries, beside the number of a refusal.
@@ -144,6 +174,37 @@ fn any_missing(marks: [bool; 8]) -> bool
     !marks[0] | !marks[1] | !marks[4] | !marks[5] | !marks[6]
 }
 
+// What 11 to 16 say of the entries of the rest, from the left.
+pub fn check_entries(rest: &[u16]) -> Outcome
+    ensures { λ r. ⌜ r ≡ outcomeOf (readEntries 8 (map byteOf (now (rest .entry))) []) ⌝ }
+{
+    let mut marks = [false; 8];
+    let mut count: usize = 0;
+    let mut at: usize = 0;
+    let mut outcome = Outcome::Accepted;
+    while at < rest.len() {
+        let next = check_entry(&rest[at..], marks, count);
+        match next {
+            Tried::Refused(n) => {
+                outcome = Outcome::Refused(n);
+                break;
+            }
+            Tried::Passed { quantity, width } => {
+                marks[quantity] = true;
+                count += 1;
+                at += 2 + width;
+            }
+        }
+    }
+    if let Outcome::Refused(n) = outcome {
+        return Outcome::Refused(n);
+    }
+    if any_missing(marks) {
+        return Outcome::Refused(16);
+    }
+    Outcome::Accepted
+}
+
 // All entries of the rest, from the left.
 pub fn read_entries(rest: &[u16]) -> Entries
     ensures { λ r. ⌜ r ≡ entriesShown (readEntries 8 (map byteOf (now (rest .entry))) []) ⌝ }
@@ -155,15 +216,14 @@ pub fn read_entries(rest: &[u16]) -> Entries
     let mut at: usize = 0;
     let mut outcome = Outcome::Accepted;
     while at < rest.len() {
-        let next = next_entry(&rest[at..], marks, count);
+        let next = check_entry(&rest[at..], marks, count);
         match next {
-            Next::Refused(n) => {
+            Tried::Refused(n) => {
                 outcome = Outcome::Refused(n);
                 break;
             }
-            Next::Entry(entry) => {
-                let quantity = quantity_of(entry.unit) as usize;
-                let width = width_of(entry.structure);
+            Tried::Passed { quantity, width } => {
+                let entry = entry_of(&rest[at..]);
                 entries[count] = entry;
                 marks[quantity] = true;
                 count += 1;

@@ -15,6 +15,7 @@ pub mod Lines
 pub mod Chain
 pub mod Views
 pub mod Writing
+pub mod Host
 -- Demand 3: flipped bits, beginnings and cuts.
 pub mod Flips
 pub mod CharacterLaws

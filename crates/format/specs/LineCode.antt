@@ -18,7 +18,7 @@ use Rattle.format.specs.Frames.{Framed, framed-byte, framed-longer}
 
 -- ---- what is asked, for any rules of the body
 
-framed : {A : Type 0} (body : List ℕ → Answer A) (b : List ℕ) (a : A) → readFrame body b ≡ reads a → Framed b
+pub framed : {A : Type 0} (body : List ℕ → Answer A) (b : List ℕ) (a : A) → readFrame body b ≡ reads a → Framed b
 framed body b a e =
     let start = passed 4 (wrongStart b) _ a e in
     let count = passed 5 (wrongCount b) _ a (start .1) in

@@ -1,6 +1,6 @@
 // The table of quantities and structures.
 ghost use mathlib.Core.Path.{_≡_};
-ghost use Rattle.format.specs.Quantities.{quantityOf, widthOf, paired};
+ghost use Rattle.format.specs.Quantities.{quantityOf, widthOf, isPacked, paired};
 
 // The row of the table that has the unit byte.
 pub fn quantity_of(unit: u8) -> u8
@@ -46,6 +46,13 @@ pub fn width_of(structure: u8) -> usize
     if structure == 0x06 { 6 } else { 0 }
 }
 
+// The structure is one of packed digits.
+pub fn is_packed(structure: u8) -> bool
+    ensures { λ r. ⌜ r ≡ isPacked structure ⌝ }
+{
+    (structure == 0x0A) | (structure == 0x0B) | (structure == 0x0C) | (structure == 0x0E)
+}
+
 // The structure goes with the unit.
 pub fn is_paired(structure: u8, unit: u8) -> bool
     ensures { λ r. ⌜ r ≡ paired structure unit ⌝ }
@@ -53,9 +60,6 @@ pub fn is_paired(structure: u8, unit: u8) -> bool
     if unit == 0x6D {
         return structure == 0x06;
     }
-    let packed = (structure == 0x0A)
-        | (structure == 0x0B)
-        | (structure == 0x0C)
-        | (structure == 0x0E);
+    let packed = is_packed(structure);
     packed & (quantity_of(unit) < 7)
 }

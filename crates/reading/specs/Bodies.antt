@@ -8,30 +8,32 @@ use mathlib.Core.Logic.{_⊎_, inl, inr}
 use borrow.Author.Tests.{eqb-true, eq-eqb, leb-true}
 use native.Mathlib.Omega.{arith}
 use lib.ListN.{length, take, drop, length-map}
+use Rattle.format.specs.declared.Outcome.{Outcome}
 use Rattle.format.specs.declared.Outcome.the-variants
 use Rattle.format.specs.declared.Kind.the-variants.{Data}
 use Rattle.format.specs.declared.Entry.{Entry}
 use Rattle.format.specs.declared.Header.{Header}
 use Rattle.format.specs.declared.Telegram.{Telegram}
 use Rattle.format.specs.declared.Reading.{Reading}
-use Rattle.format.specs.Lists.{at}
+use Rattle.format.specs.Lists.{at, any}
 use Rattle.format.specs.ListLaws.{map-take, map-drop}
-use Rattle.format.specs.Characters.{byteOf}
+use Rattle.format.specs.Characters.{over, odd, byteOf}
 use Rattle.format.specs.Answers.{Answer, reads, refusal, refuse, within, follow}
+use Rattle.format.specs.AnswerLaws.{follow-refuse, reads-same}
 use Rattle.format.specs.Headers.{headerOf, wrongHeader}
 use Rattle.format.specs.Entries.{readEntries}
-use Rattle.format.specs.Telegrams.{ack, dataOf, shown}
-use Rattle.format.specs.Tests.{by-test}
-use Rattle.format.specs.Lines.{isAck, isShort, isLong, isData, readData, readShort, readLong, readBody, readWith, readLine}
-use Rattle.format.specs.Chain.{body-last, framed-bytes}
+use Rattle.format.specs.Telegrams.{ack, dataOf, shown, outcomeOf}
+use Rattle.format.specs.Host.{lineNumber}
+use Rattle.format.specs.Tests.{passed}
+use Rattle.format.specs.Lines.{isAck, isShort, isLong, isData, wrongStart, wrongCount, wrongLengths, wrongEnd, wrongSum, readData, readShort, readLong, readBody, readFrame, readWith, readLine}
 use Rattle.format.specs.Frames
-use Rattle.format.specs.Frames.{Framed, Form, form}
-use Rattle.format.specs.LineCode.{code-with}
+use Rattle.format.specs.Frames.{Form, form}
+use Rattle.format.specs.LineCode.{framed}
 use Rattle.entries.specs.Walking.{entriesShown, rest-cut}
 use Rattle.entries.specs.declared.Entries.{Entries}
 use Rattle.reading.specs.declared.frame.Frame.{Frame}
 use Rattle.reading.specs.declared.frame.Frame.the-variants.{Ack, Short, Long, Refused}
-use Rattle.reading.specs.Forms.{frameShown}
+use Rattle.reading.specs.Forms.{frameShown, pick, line-is}
 
 -- ---- the data telegram
 
@@ -82,52 +84,66 @@ module _ (a : ℕ) (part : List ℕ) (x : Entries) (e : x ≡ entriesShown (read
       ∙ accepted-as a (headerOf (map byteOf part)) (entriesIn part) (outcome-is ∙ o)
       ∙ ap shown (sym data-is)
 
--- ---- the line, by its form
+-- ---- past 8, by the form
 
-view : (s : List ℕ) → ((n : ℕ) × (readWith reads s ≡ refusal n)) ⊎ (readWith reads s ≡ reads (map byteOf s))
-view s = go (readWith reads s) refl
+frame-last : (b : List ℕ) → readFrame readBody b ≡ follow (readFrame reads b) readBody
+frame-last b = sym (simp follow-refuse)
+
+-- what 4 to 8 leave is handed on as it is
+handed-on : (b x : List ℕ) → readFrame reads b ≡ reads x → b ≡ x
+handed-on b x e =
+    let p6 = passed 6 (wrongLengths b) _ x (passed 5 (wrongCount b) _ x (passed 4 (wrongStart b) _ x e .1) .1) .1 in
+    reads-same (passed 8 (wrongSum b) _ x (passed 7 (wrongEnd b) _ x p6 .1) .1)
+
+view : (b : List ℕ) → ((n : ℕ) × (readFrame reads b ≡ refusal n)) ⊎ (readFrame reads b ≡ reads b)
+view b = go (readFrame reads b) refl
   where
-    go : (a : Answer (List ℕ)) → readWith reads s ≡ a → ((n : ℕ) × (readWith reads s ≡ refusal n)) ⊎ (readWith reads s ≡ reads (map byteOf s))
+    go : (a : Answer (List ℕ)) → readFrame reads b ≡ a → ((n : ℕ) × (readFrame reads b ≡ refusal n)) ⊎ (readFrame reads b ≡ reads b)
     go (refusal n) e = inl (n, e)
-    go (reads b) e = inr (e ∙ ap reads (framed-bytes s b e))
+    go (reads x) e = inr (e ∙ ap reads (sym (handed-on b x e)))
 
-line-is : (s : List ℕ) → readLine s ≡ follow (readWith reads s) readBody
-unfolding readLine
-line-is s = body-last readBody s
-
-pub line-refused : (s : List ℕ) (n : ℕ) → frameShown (readWith reads s) ≡ Refused n → readLine s ≡ refusal n
-line-refused s n e = line-is s ∙ go (view s)
+pub frame-refused : (b : List ℕ) (n : ℕ) → frameShown (readFrame reads b) ≡ Refused n → readFrame readBody b ≡ refusal n
+frame-refused b n e = frame-last b ∙ go (view b)
   where
     never : (t u : Bool) → cond t Ack (cond u Short Long) ≡ Refused n → ⊥
     never true u q = let z : _≡_ {A = ℕ} 0 1 = cc in omega arith
     never false true q = let z : _≡_ {A = ℕ} 0 1 = cc in omega arith
     never false false q = let z : _≡_ {A = ℕ} 0 1 = cc in omega arith
 
-    go : ((m : ℕ) × (readWith reads s ≡ refusal m)) ⊎ (readWith reads s ≡ reads (map byteOf s)) → follow (readWith reads s) readBody ≡ refusal n
+    go : ((m : ℕ) × (readFrame reads b ≡ refusal m)) ⊎ (readFrame reads b ≡ reads b) → follow (readFrame reads b) readBody ≡ refusal n
     go (inl r) = let q : Refused (r .0) ≡ Refused n = sym (ap frameShown (r .1)) ∙ e in let z : r .0 ≡ n = cc in ap (λ (a : Answer (List ℕ)). follow a readBody) (r .1) ∙ ap refusal z
-    go (inr r) = absurd (never (isAck (map byteOf s)) (isShort (map byteOf s)) (sym (ap frameShown r) ∙ e))
+    go (inr r) = absurd (never (isAck b) (isShort b) (sym (ap frameShown r) ∙ e))
 
--- a form that 1 to 8 leave
-module _ (s : List ℕ) (f : Frame) (left : (n : ℕ) → Refused n ≡ f → ⊥) (e : frameShown (readWith reads s) ≡ f) where
-  framed : readWith reads s ≡ reads (map byteOf s)
-  framed = go (view s)
+-- a form that 4 to 8 leave
+module _ (b : List ℕ) (f : Frame) (left : (n : ℕ) → Refused n ≡ f → ⊥) (e : frameShown (readFrame reads b) ≡ f) where
+  kept : readFrame reads b ≡ reads b
+  kept = go (view b)
     where
-      go : ((m : ℕ) × (readWith reads s ≡ refusal m)) ⊎ (readWith reads s ≡ reads (map byteOf s)) → readWith reads s ≡ reads (map byteOf s)
+      go : ((m : ℕ) × (readFrame reads b ≡ refusal m)) ⊎ (readFrame reads b ≡ reads b) → readFrame reads b ≡ reads b
       go (inl r) = absurd (left (r .0) (sym (ap frameShown (r .1)) ∙ e))
       go (inr r) = r
 
-  body-is : readLine s ≡ readBody (map byteOf s)
-  body-is = line-is s ∙ ap (λ (a : Answer (List ℕ)). follow a readBody) framed
+  body-is : readFrame readBody b ≡ readBody b
+  body-is = frame-last b ∙ ap (λ (a : Answer (List ℕ)). follow a readBody) kept
 
-  form-is : cond (isAck (map byteOf s)) Ack (cond (isShort (map byteOf s)) Short Long) ≡ f
-  form-is = sym (ap frameShown framed) ∙ e
+  form-is : cond (isAck b) Ack (cond (isShort b) Short Long) ≡ f
+  form-is = sym (ap frameShown kept) ∙ e
 
-  bytes-are : Form (isAck (map byteOf s)) (isShort (map byteOf s)) (map byteOf s)
-  bytes-are = form (map byteOf s) (code-with reads .sound s (map byteOf s, framed) .bytes)
+  bytes-are : Form (isAck b) (isShort b) b
+  bytes-are = form b (framed reads b b kept)
 
-pub line-ack : (s : List ℕ) → frameShown (readWith reads s) ≡ Ack → readLine s ≡ reads ack
+no-ack : (n : ℕ) → Refused n ≡ Ack → ⊥
+no-ack n q = let z : _≡_ {A = ℕ} 0 1 = cc in omega arith
+
+no-short : (n : ℕ) → Refused n ≡ Short → ⊥
+no-short n q = let z : _≡_ {A = ℕ} 0 1 = cc in omega arith
+
+no-long : (n : ℕ) → Refused n ≡ Long → ⊥
+no-long n q = let z : _≡_ {A = ℕ} 0 1 = cc in omega arith
+
+pub frame-ack : (b : List ℕ) → frameShown (readFrame reads b) ≡ Ack → readFrame readBody b ≡ reads ack
 unfolding readBody
-line-ack s e = body-is s Ack (λ n q. (let z : _≡_ {A = ℕ} 0 1 = cc in omega arith)) e ∙ rw (isAck-is (isAck (map byteOf s)) (isShort (map byteOf s)) (form-is s Ack (λ n q. (let z : _≡_ {A = ℕ} 0 1 = cc in omega arith)) e))
+frame-ack b e = body-is b Ack no-ack e ∙ rw (isAck-is (isAck b) (isShort b) (form-is b Ack no-ack e))
   where
     isAck-is : (t u : Bool) → cond t Ack (cond u Short Long) ≡ Ack → t ≡ true
     isAck-is true u q = refl
@@ -144,28 +160,69 @@ isLong-is true u q = let z : _≡_ {A = ℕ} 0 1 = cc in absurd (omega arith)
 isLong-is false true q = let z : _≡_ {A = ℕ} 0 1 = cc in absurd (omega arith)
 isLong-is false false q = (refl, refl)
 
-pub line-short : (s : List ℕ) → frameShown (readWith reads s) ≡ Short → (length s ≡ 5) × (readLine s ≡ readShort (map byteOf (take 2 (drop 1 s))))
+pub frame-short : (s : List ℕ) → frameShown (readFrame reads (map byteOf s)) ≡ Short
+    → (length s ≡ 5) × (readFrame readBody (map byteOf s) ≡ readShort (map byteOf (take 2 (drop 1 s))))
 unfolding readBody
-line-short s e =
-    let left : (n : ℕ) → Refused n ≡ Short → ⊥ = λ n q. (let z : _≡_ {A = ℕ} 0 1 = cc in omega arith) in
-    let t = isShort-is (isAck (map byteOf s)) (isShort (map byteOf s)) (form-is s Short left e) in
-    let first : at (map byteOf s) 0 ≡ 0x10 = eqb-true (at (map byteOf s) 0) 0x10 (t .1) in
-    let long : isLong (map byteOf s) ≡ false = rw first in
-    let cut : map byteOf (take 2 (drop 1 s)) ≡ take 2 (drop 1 (map byteOf s)) = map-take byteOf 2 (drop 1 s) ∙ ap (take 2) (map-drop byteOf 1 s) in
-    let bytes : Frames.Short (map byteOf s) = rw (t .0, t .1) at (bytes-are s Short left e) in
-    (sym (length-map s byteOf) ∙ bytes .count, body-is s Short left e ∙ rw (t .0, t .1, long, cut))
+frame-short s e =
+    let b = map byteOf s in
+    let t = isShort-is (isAck b) (isShort b) (form-is b Short no-short e) in
+    let first : at b 0 ≡ 0x10 = eqb-true (at b 0) 0x10 (t .1) in
+    let long : isLong b ≡ false = rw first in
+    let cut : map byteOf (take 2 (drop 1 s)) ≡ take 2 (drop 1 b) = map-take byteOf 2 (drop 1 s) ∙ ap (take 2) (map-drop byteOf 1 s) in
+    let bytes : Frames.Short b = rw (t .0, t .1) at (bytes-are b Short no-short e) in
+    (sym (length-map s byteOf) ∙ bytes .count, body-is b Short no-short e ∙ rw (t .0, t .1, long, cut))
+
+pub frame-long : (s : List ℕ) → frameShown (readFrame reads (map byteOf s)) ≡ Long
+    → (6 ≤ length s) × (readFrame readBody (map byteOf s) ≡ readLong (map byteOf (take (length s - 2 - 4) (drop 4 s))))
+unfolding readBody
+frame-long s e =
+    let b = map byteOf s in
+    let t = isLong-is (isAck b) (isShort b) (form-is b Long no-long e) in
+    let bytes : Frames.Long b = rw (t .0, t .1) at (bytes-are b Long no-long e) in
+    let long : isLong b ≡ true = eq-eqb (at b 0) 0x68 (bytes .start) in
+    let six : length b - 6 ≡ length s - 2 - 4 = omega (arith, length-map s byteOf) in
+    let cut : map byteOf (take (length s - 2 - 4) (drop 4 s)) ≡ take (length s - 2 - 4) (drop 4 b) =
+    map-take byteOf (length s - 2 - 4) (drop 4 s) ∙ ap (take (length s - 2 - 4)) (map-drop byteOf 4 s) in
+    (omega (arith, length-map s byteOf, bytes .count), body-is b Long no-long e ∙ rw (t .0, t .1, long, six, cut))
+
+-- ---- the line: 1 to 3, and then its form
+
+-- a line that 1 to 3 leave
+pub sound-line : (s : List ℕ) → eqb (length s) 0 ≡ false → any over s ≡ false → any odd s ≡ false → readLine s ≡ readFrame readBody (map byteOf s)
+unfolding readLine
+sound-line s a b c = rw (a, b, c)
+
+picked : (n : ℕ) (t : Bool) {x f : Frame} → ((m : ℕ) → Refused m ≡ f → ⊥) → pick n t x ≡ f → (t ≡ false) × (x ≡ f)
+picked n true left e = absurd (left n e)
+picked n false left e = (refl, e)
+
+past-three : (s : List ℕ) (f : Frame) → ((m : ℕ) → Refused m ≡ f → ⊥) → frameShown (readWith reads s) ≡ f
+    → (readLine s ≡ readFrame readBody (map byteOf s)) × (frameShown (readFrame reads (map byteOf s)) ≡ f)
+past-three s f left e =
+    let one = picked 1 (eqb (length s) 0) left (sym (line-is s) ∙ e) in
+    let two = picked 2 (any over s) left (one .1) in
+    let three = picked 3 (any odd s) left (two .1) in
+    (sound-line s (one .0) (two .0) (three .0), three .1)
+
+pub line-refused : (s : List ℕ) (n : ℕ) → frameShown (readWith reads s) ≡ Refused n → readLine s ≡ refusal n
+unfolding readLine
+line-refused s n e = go (eqb (length s) 0) (any over s) (any odd s) (sym (line-is s) ∙ e)
+  where
+    go : (a b c : Bool) → pick 1 a (pick 2 b (pick 3 c (frameShown (readFrame reads (map byteOf s))))) ≡ Refused n
+        → refuse 1 a (refuse 2 b (refuse 3 c (readFrame readBody (map byteOf s)))) ≡ refusal n
+    go true b c q = let z : _≡_ {A = ℕ} 1 n = cc in ap refusal z
+    go false true c q = let z : _≡_ {A = ℕ} 2 n = cc in ap refusal z
+    go false false true q = let z : _≡_ {A = ℕ} 3 n = cc in ap refusal z
+    go false false false q = frame-refused (map byteOf s) n q
+
+pub line-ack : (s : List ℕ) → frameShown (readWith reads s) ≡ Ack → readLine s ≡ reads ack
+line-ack s e = let p = past-three s Ack no-ack e in p .0 ∙ frame-ack (map byteOf s) (p .1)
+
+pub line-short : (s : List ℕ) → frameShown (readWith reads s) ≡ Short → (length s ≡ 5) × (readLine s ≡ readShort (map byteOf (take 2 (drop 1 s))))
+line-short s e = let p = past-three s Short no-short e in let q = frame-short s (p .1) in (q .0, p .0 ∙ q .1)
 
 pub line-long : (s : List ℕ) → frameShown (readWith reads s) ≡ Long → (6 ≤ length s) × (readLine s ≡ readLong (map byteOf (take (length s - 2 - 4) (drop 4 s))))
-unfolding readBody
-line-long s e =
-    let left : (n : ℕ) → Refused n ≡ Long → ⊥ = λ n q. (let z : _≡_ {A = ℕ} 0 1 = cc in omega arith) in
-    let t = isLong-is (isAck (map byteOf s)) (isShort (map byteOf s)) (form-is s Long left e) in
-    let bytes : Frames.Long (map byteOf s) = rw (t .0, t .1) at (bytes-are s Long left e) in
-    let long : isLong (map byteOf s) ≡ true = eq-eqb (at (map byteOf s) 0) 0x68 (bytes .start) in
-    let six : length (map byteOf s) - 6 ≡ length s - 2 - 4 = omega (arith, length-map s byteOf) in
-    let cut : map byteOf (take (length s - 2 - 4) (drop 4 s)) ≡ take (length s - 2 - 4) (drop 4 (map byteOf s)) =
-    map-take byteOf (length s - 2 - 4) (drop 4 s) ∙ ap (take (length s - 2 - 4)) (map-drop byteOf 4 s) in
-    (omega (arith, length-map s byteOf, bytes .count), body-is s Long left e ∙ rw (t .0, t .1, long, six, cut))
+line-long s e = let p = past-three s Long no-long e in let q = frame-long s (p .1) in (q .0, p .0 ∙ q .1)
 
 -- ---- the data telegram in the long form
 
@@ -175,3 +232,29 @@ data-long f e = leb-true 15 (length f) (and-eq-true-iff (leb 15 (length f)) (eqb
 -- what follows C, A and CI, as the code cuts it out
 pub data-cut : (s : List ℕ) → map byteOf (take (length s - 3) (drop 3 s)) ≡ drop 3 (map byteOf s)
 data-cut s = rest-cut s 3 ∙ map-drop byteOf 3 s
+
+-- ---- the number of a line, without its telegram
+
+pub number-refuse : (n : ℕ) (t : Bool) (a : Answer Telegram) → lineNumber (refuse n t a) ≡ cond t (256 + n) (lineNumber a)
+number-refuse n true a = refl
+number-refuse n false a = refl
+
+-- the number of a data telegram's line, by what became of its entries
+abbrev dataNumber : Outcome → ℕ
+dataNumber the-variants.Accepted = 5
+dataNumber (the-variants.Refused n) = 256 + n
+
+number-entries : (a : ℕ) (h : Header) (ans : Answer (List Entry)) → lineNumber (within (dataOf a h) ans) ≡ dataNumber (outcomeOf ans)
+number-entries a h (refusal n) = refl
+number-entries a h (reads done) = refl
+
+pub header-number : (a : ℕ) (part : List ℕ) → wrongHeader (map byteOf part) ≡ true → 266 ≡ lineNumber (readData a (map byteOf part))
+header-number a part e = rw e
+
+pub data-number : (a : ℕ) (part : List ℕ) {x y : Outcome} → wrongHeader (map byteOf part) ≡ false
+    → x ≡ outcomeOf (readEntries 8 (map byteOf (take (length part - 12) (drop 12 part))) []) → x ≡ y
+    → dataNumber y ≡ lineNumber (readData a (map byteOf part))
+data-number a part {x} {y} good e o =
+    ap dataNumber (sym o ∙ e ∙ ap (λ (s : List ℕ). outcomeOf (readEntries 8 s [])) (entries-cut part))
+    ∙ sym (number-entries a (headerOf (map byteOf part)) (readEntries 8 (drop 12 (map byteOf part)) []))
+    ∙ ap (λ (t : Bool). lineNumber (refuse 10 t (within (dataOf a (headerOf (map byteOf part))) (readEntries 8 (drop 12 (map byteOf part)) [])))) (sym good)

@@ -1,3 +1,4 @@
 -- What the functions of this crate answer in between.
 pub mod Forms
 pub mod Bodies
+pub mod Parity

@@ -74,7 +74,7 @@ pub fn read_short(field: &[u16]) -> Reading
 }
 
 // L = 4 with C 53, CI 50 and an S of enter or leave.
-fn is_command(field: &[u16]) -> bool
+pub fn is_command(field: &[u16]) -> bool
     ensures { λ r. ⌜ r ≡ isCommand (map byteOf (now (field .entry))) ⌝ }
 {
     let control = byte_at(field, 0);
@@ -85,7 +85,7 @@ fn is_command(field: &[u16]) -> bool
 }
 
 // L of 15 and more with C 08 and CI 72.
-fn is_data(field: &[u16]) -> bool
+pub fn is_data(field: &[u16]) -> bool
     ensures { λ r. ⌜ r ≡ isData (map byteOf (now (field .entry))) ⌝ }
 {
     let control = byte_at(field, 0);

@@ -1,11 +1,10 @@
 // The frame of a line: the rules 1 to 8.
 ghost use mathlib.Core.Path.{_≡_};
 ghost use mathlib.Core.List.{map};
-ghost use Rattle.format.specs.Lists.{at};
 ghost use Rattle.format.specs.Characters.{byteOf};
 ghost use Rattle.format.specs.Answers.{reads};
 ghost use Rattle.format.specs.Lines.{readFrame, readWith};
-ghost use Rattle.reading.specs.Forms.{frameShown};
+ghost use Rattle.reading.specs.Forms.{ShortCount, LongCount, startShown, frameShown};
 use crate::scan::any_odd;
 use crate::scan::any_over;
 use crate::scan::sum_of;
@@ -19,27 +18,38 @@ pub enum Frame {
     Refused(u16),
 }
 
-// After E5.
-fn ack_frame(line: &[u16]) -> Frame
-    requires { ⌜ at (map byteOf (now line)) 0 ≡ 0xE5 ⌝ }
-    ensures { λ r. ⌜ r ≡ frameShown (readFrame reads (map byteOf (now (line .entry)))) ⌝ }
+// The rules 4 and 5, which look at the first two bytes and the count.
+pub fn start_of(first: u8, second: u8, count: usize) -> Frame
+    ensures { λ r. ⌜ r ≡ startShown first second count ⌝ }
 {
-    if line.len() == 1 {
-        Frame::Ack
-    } else {
-        Frame::Refused(5)
+    if first == 0xE5 {
+        if count == 1 {
+            return Frame::Ack;
+        }
+        return Frame::Refused(5);
     }
+    if first == 0x10 {
+        if count == 5 {
+            return Frame::Short;
+        }
+        return Frame::Refused(5);
+    }
+    if first == 0x68 {
+        let wrong = (count < 6) | !(count == second as usize + 6);
+        if wrong {
+            return Frame::Refused(5);
+        }
+        return Frame::Long;
+    }
+    Frame::Refused(4)
 }
 
-// After 10.
+// After 10, with the right count: 7 and 8.
 fn short_frame(line: &[u16]) -> Frame
-    requires { ⌜ at (map byteOf (now line)) 0 ≡ 0x10 ⌝ }
+    requires { ⌜ ShortCount (now line) ⌝ }
     ensures { λ r. ⌜ r ≡ frameShown (readFrame reads (map byteOf (now (line .entry)))) ⌝ }
 {
     let n = line.len();
-    if n != 5 {
-        return Frame::Refused(5);
-    }
     let end = byte_at(line, n - 1);
     if end != 0x16 {
         return Frame::Refused(7);
@@ -52,16 +62,13 @@ fn short_frame(line: &[u16]) -> Frame
     Frame::Short
 }
 
-// After 68.
+// After 68, with the right count: 6, 7 and 8.
 fn long_frame(line: &[u16]) -> Frame
-    requires { ⌜ at (map byteOf (now line)) 0 ≡ 0x68 ⌝ }
+    requires { ⌜ LongCount (now line) ⌝ }
     ensures { λ r. ⌜ r ≡ frameShown (readFrame reads (map byteOf (now (line .entry)))) ⌝ }
 {
     let n = line.len();
     let second = byte_at(line, 1);
-    if (n < 6) | !(n == second as usize + 6) {
-        return Frame::Refused(5);
-    }
     let third = byte_at(line, 2);
     let fourth = byte_at(line, 3);
     if !(second == third) | !(fourth == 0x68) {
@@ -79,6 +86,21 @@ fn long_frame(line: &[u16]) -> Frame
     Frame::Long
 }
 
+// The rules 4 to 8, in this order.
+pub fn form_of(line: &[u16]) -> Frame
+    ensures { λ r. ⌜ r ≡ frameShown (readFrame reads (map byteOf (now (line .entry)))) ⌝ }
+{
+    let first = byte_at(line, 0);
+    let second = byte_at(line, 1);
+    let start = start_of(first, second, line.len());
+    match start {
+        Frame::Refused(n) => Frame::Refused(n),
+        Frame::Ack => Frame::Ack,
+        Frame::Short => short_frame(line),
+        Frame::Long => long_frame(line),
+    }
+}
+
 // The rules 1 to 8, in this order.
 pub fn frame_of(line: &[u16]) -> Frame
     ensures { λ r. ⌜ r ≡ frameShown (readWith reads (now (line .entry))) ⌝ }
@@ -92,15 +114,5 @@ pub fn frame_of(line: &[u16]) -> Frame
     if any_odd(line) {
         return Frame::Refused(3);
     }
-    let first = byte_at(line, 0);
-    if first == 0xE5 {
-        return ack_frame(line);
-    }
-    if first == 0x10 {
-        return short_frame(line);
-    }
-    if first == 0x68 {
-        return long_frame(line);
-    }
-    Frame::Refused(4)
+    form_of(line)
 }

@@ -12,6 +12,7 @@ use frame::Frame;
 use frame::frame_of;
 
 pub mod body;
+pub mod check;
 pub mod frame;
 pub mod scan;
 

@@ -1,18 +1,17 @@
 -- `entries::read_entries` meets its contract: each turn walks over one entry. Assumes nothing.
-use Prim.Native.Nat.{ℕ, _+_, _-_, _<_, _≤_}
-use mathlib.Core.List.{List, map}
-use mathlib.Core.Path.{_≡_, refl, sym, ap, _∙_}
-use mathlib.Core.Logic.{⊎-elim}
-use Rattle.entries.specs.Walking.Ended.{whole, refused}
 use borrow.Author.Needs.{needs}
 use native.Mathlib.Omega.{arith}
+use Prim.Native.Nat.{_-_}
 use denote.Ref.{now}
-use lib.ListN.{length, drop}
-use Rattle.format.specs.Answers.{reads, refusal}
-use Rattle.format.specs.Characters.{byteOf}
-use Rattle.format.specs.Quantities.{widthOf}
-use Rattle.format.specs.declared.Outcome.the-variants.{Accepted, Refused}
-use Rattle.entries.specs.Walking.{nextOf, nextShown, next-entry, next-refused, rest-cut, width-few, quantity-few, Walked, walked-none, walked-below, walked-inside, walked-next, walked-refused, walked-missing, walked-whole, Ended, ended-refused, ended-whole, entriesShown}
+use lib.ListN.{length, replicate}
+use mathlib.Core.List.{List}
+use mathlib.Core.Logic.{⊎-elim}
+use mathlib.Core.Path.{_≡_, refl, sym, ap, _∙_}
+use Rattle.format.specs.declared.Entry.{Entry}
+use Rattle.format.specs.declared.Outcome.the-variants.{Accepted}
+use Rattle.format.specs.Telegrams.{blankEntry, outcomeOf}
+use Rattle.entries.specs.Walking.Ended.{whole, refused}
+use Rattle.entries.specs.Walking.{entriesShown, Walked, walked-none, walked-missing, walked-whole, Turn, turned, halted, Ended, ended-refused, ended-whole}
 use Rattle.entries.proofs.read_entries.Statement.{statement}
 use Rattle.entries.proofs.read_entries.Tie as tie
 
@@ -22,28 +21,16 @@ Inv-loop rest entries₀ marks₀ count₀ at₀ outcome₀ entries marks count 
 abbrev μ-loop : tie.MeasureT-loop
 μ-loop rest entries₀ marks₀ count₀ at₀ outcome₀ entries marks count at outcome = length rest - at
 
--- the entry that a turn walks over
-entry-is : (c : tie.After-known-told2 Inv-loop μ-loop) → nextOf (map byteOf (drop (c .before .before .before .before .before .before .loop .at) (now (c .before .before .before .before .before .before .before .before .before .args .rest)))) (c .before .before .before .before .before .before .loop .marks) (c .before .before .before .before .before .before .loop .count) ≡ reads (c .before .next2 .given .0 .0)
-entry-is c =
-    next-entry (nextOf (map byteOf (drop (c .before .before .before .before .before .before .loop .at) (now (c .before .before .before .before .before .before .before .before .before .args .rest)))) (c .before .before .before .before .before .before .loop .marks) (c .before .before .before .before .before .before .loop .count)) (c .before .next2 .given .0 .0)
-    (ap (λ (s : List ℕ). nextShown (nextOf s (c .before .before .before .before .before .before .loop .marks) (c .before .before .before .before .before .before .loop .count))) (sym (rest-cut (now (c .before .before .before .before .before .before .before .before .before .args .rest)) (c .before .before .before .before .before .before .loop .at)))
-    ∙ sym (c .before .before .before .next-entry .ensures) ∙ c .before .next2 .given .1)
-
-below : (c : tie.After-known-told2 Inv-loop μ-loop) → c .before .before .before .before .before .before .loop .count < 7
-below c = walked-below (c .before .before .before .before .before .before .loop .inv .0) (c .before .before .before .before .before .loop-test .taken) (c .before .next2 .given .0 .0) (entry-is c)
-
-inside : (c : tie.After-known-told2 Inv-loop μ-loop) → c .before .before .before .before .before .before .loop .at + (2 + widthOf (c .before .next2 .given .0 .0 .structure)) ≤ length (now (c .before .before .before .before .before .before .before .before .before .args .rest))
-inside c = walked-inside (c .before .before .before .before .before .before .loop .inv .0) (c .before .before .before .before .before .loop-test .taken) (c .before .next2 .given .0 .0) (entry-is c)
+-- a turn that passes over an entry
+turn : (c : tie.After-known-told2 Inv-loop μ-loop)
+    → Turn (now (c .before .before .before .before .before .before .before .before .before .args .rest)) (c .before .before .before .before .before .before .loop .at) (c .before .before .before .before .before .before .loop .count) (c .before .before .before .before .before .before .loop .marks) (c .before .before .before .before .before .before .loop .entries) (c .before .next2 .given .0 .0) (c .before .next2 .given .0 .1 .0)
+turn c = turned (c .before .before .before .before .before .before .loop .inv .0) (c .before .before .before .before .before .loop-test .taken) (c .before .before .before .check-entry .ensures) (c .before .next2 .given .1)
 
 -- the two ways out of the loop
 ends : (c : tie.Left-loop Inv-loop μ-loop) → Ended (now (c .before .before .before .before .args .rest)) (c .before .loop .at) (c .loop-test .outcome)
 ends c =
     ⊎-elim (λ w. whole (w .1 ∙ c .before .loop .inv .1) (w .0 .left))
-    (λ w. refused (w .4 .given .0 .0) (w .6)
-    (walked-refused (c .before .loop .inv .0) (w .0 .taken) (w .4 .given .0 .0)
-    (next-refused (nextOf (map byteOf (drop (c .before .loop .at) (now (c .before .before .before .before .args .rest)))) (c .before .loop .marks) (c .before .loop .count)) (w .4 .given .0 .0)
-    (ap (λ (s : List ℕ). nextShown (nextOf s (c .before .loop .marks) (c .before .loop .count))) (sym (rest-cut (now (c .before .before .before .before .args .rest)) (c .before .loop .at)))
-    ∙ sym (w .2 .ensures) ∙ w .4 .given .1))))
+    (λ w. refused (w .4 .given .0 .0) (w .6) (halted (c .before .loop .inv .0) (w .0 .taken) (w .2 .ensures) (w .4 .given .1)))
     (c .loop-test .came)
 
 blank-entry-requires : tie.Need-blank-entry-requires Inv-loop μ-loop
@@ -52,20 +39,20 @@ blank-entry-requires c κs = search needs
 loop-holds : tie.Need-loop-holds Inv-loop μ-loop
 loop-holds c = rw (c .blank-entry .ensures) (walked-none _, refl)
 
-mul-next-entry : tie.Need-mul-next-entry Inv-loop μ-loop
-mul-next-entry c = search needs
+mul-check-entry : tie.Need-mul-check-entry Inv-loop μ-loop
+mul-check-entry c = search needs
 
-sub-next-entry : tie.Need-sub-next-entry Inv-loop μ-loop
-sub-next-entry c = search needs
+sub-check-entry : tie.Need-sub-check-entry Inv-loop μ-loop
+sub-check-entry c = search needs
 
-part-next-entry-start : tie.Need-part-next-entry-start Inv-loop μ-loop
-part-next-entry-start c = search needs
+part-check-entry-start : tie.Need-part-check-entry-start Inv-loop μ-loop
+part-check-entry-start c = search needs
 
-part-next-entry-end : tie.Need-part-next-entry-end Inv-loop μ-loop
-part-next-entry-end c = search needs
+part-check-entry-end : tie.Need-part-check-entry-end Inv-loop μ-loop
+part-check-entry-end c = search needs
 
-next-entry-requires : tie.Need-next-entry-requires Inv-loop μ-loop
-next-entry-requires c κs = search needs
+check-entry-requires : tie.Need-check-entry-requires Inv-loop μ-loop
+check-entry-requires c κs = search needs
 
 enum-known-next : tie.Need-enum-known-next Inv-loop μ-loop
 enum-known-next c = search needs
@@ -73,38 +60,44 @@ enum-known-next c = search needs
 enum-known-next-2 : tie.Need-enum-known-next-2 Inv-loop μ-loop
 enum-known-next-2 c = search needs
 
-quantity-of-requires : tie.Need-quantity-of-requires Inv-loop μ-loop
-quantity-of-requires c κs = search needs
+mul-entry-of : tie.Need-mul-entry-of Inv-loop μ-loop
+mul-entry-of c = search needs
 
-cast-quantity : tie.Need-cast-quantity Inv-loop μ-loop
-cast-quantity c = search needs
+sub-entry-of : tie.Need-sub-entry-of Inv-loop μ-loop
+sub-entry-of c = search needs
 
-width-of-requires : tie.Need-width-of-requires Inv-loop μ-loop
-width-of-requires c κs = search needs
+part-entry-of-start : tie.Need-part-entry-of-start Inv-loop μ-loop
+part-entry-of-start c = search needs
+
+part-entry-of-end : tie.Need-part-entry-of-end Inv-loop μ-loop
+part-entry-of-end c = search needs
+
+entry-of-requires : tie.Need-entry-of-requires Inv-loop μ-loop
+entry-of-requires c κs = turn (c .before) .fit
 
 mul-entries : tie.Need-mul-entries Inv-loop μ-loop
-mul-entries c = omega (arith, below (c .before .before))
+mul-entries c = omega (arith, turn (c .before .before) .below)
 
 array-set-from-entries : tie.Need-array-set-from-entries Inv-loop μ-loop
-array-set-from-entries c = below (c .before .before)
+array-set-from-entries c = turn (c .before .before) .below
 
 array-write-marks : tie.Need-array-write-marks Inv-loop μ-loop
-array-write-marks c = omega (arith, c .before .quantity-of .ensures, quantity-few (c .before .before .before .next2 .given .0 .0 .unit))
+array-write-marks c = omega (arith, turn (c .before .before) .few, c .before .before .before .before .before .before .before .before .loop .inv .0 .marked)
 
 add-count : tie.Need-add-count Inv-loop μ-loop
-add-count c = omega (arith, below (c .before .before))
+add-count c = omega (arith, turn (c .before .before) .below)
 
 add-at : tie.Need-add-at Inv-loop μ-loop
-add-at c = omega (arith, c .width-of .ensures, width-few (c .before .before .before .next2 .given .0 .0 .structure))
+add-at c = omega (arith, turn (c .before .before) .narrow)
 
 add-at-2 : tie.Need-add-at-2 Inv-loop μ-loop
-add-at-2 c = omega (arith, c .width-of .ensures, inside (c .before .before))
+add-at-2 c = omega (arith, turn (c .before .before) .inside)
 
 loop-less : tie.Need-loop-less Inv-loop μ-loop
-loop-less c = omega (arith, c .width-of .ensures, inside (c .before .before))
+loop-less c = omega (arith, turn (c .before .before) .inside)
 
 loop-again : tie.Need-loop-again Inv-loop μ-loop
-loop-again c = rw (c .width-of .ensures, c .before .quantity-of .ensures) (walked-next (c .before .before .before .before .before .before .before .before .loop .inv .0) (c .before .before .before .before .before .before .before .loop-test .taken) (c .before .before .before .next2 .given .0 .0) (entry-is (c .before .before)), c .before .before .before .before .before .before .before .before .loop .inv .1)
+loop-again c = rw (c .entry-of .ensures) (turn (c .before .before) .next, c .before .before .before .before .before .before .before .before .loop .inv .1)
 
 enum-known-outcome : tie.Need-enum-known-outcome Inv-loop μ-loop
 enum-known-outcome c = search needs
@@ -138,16 +131,18 @@ read-entries-spec =
     μ-loop
     blank-entry-requires
     loop-holds
-    mul-next-entry
-    sub-next-entry
-    part-next-entry-start
-    part-next-entry-end
-    next-entry-requires
+    mul-check-entry
+    sub-check-entry
+    part-check-entry-start
+    part-check-entry-end
+    check-entry-requires
     enum-known-next
     enum-known-next-2
-    quantity-of-requires
-    cast-quantity
-    width-of-requires
+    mul-entry-of
+    sub-entry-of
+    part-entry-of-start
+    part-entry-of-end
+    entry-of-requires
     mul-entries
     array-set-from-entries
     array-write-marks

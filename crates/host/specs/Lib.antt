@@ -1,0 +1,2 @@
+-- What the check on bytes holds on to.
+pub mod Bytes

@@ -1,0 +1,82 @@
+/* Calls the archive as a bench host does: document 01's values, and what only the host form has. */
+#include "skarrowith.h"
+
+#include <stdio.h>
+
+struct value {
+    const char *name;
+    uint32_t answer;
+    size_t len;
+    const uint8_t *bytes;
+};
+
+static const uint8_t ack[] = {0xE5, 1};
+static const uint8_t odd_parity[] = {0xE5, 0};
+static const uint8_t read_fe[] = {0x10, 1, 0x5B, 1, 0xFE, 1, 0x59, 0, 0x16, 1};
+static const uint8_t wrong_sum[] = {0x10, 1, 0x5B, 1, 0xFE, 1, 0x58, 1, 0x16, 1};
+static const uint8_t enter_90[] = {0x68, 1, 4, 1, 4, 1, 0x68, 1, 0x53, 0, 0xFE, 1, 0x50, 0, 0x90, 0, 0x31, 1, 0x16, 1};
+static const uint8_t leave[] = {0x68, 1, 4, 1, 4, 1, 0x68, 1, 0x53, 0, 0xFE, 1, 0x50, 0, 0x00, 0, 0xA1, 1, 0x16, 1};
+static const uint8_t too_high[] = {0xE5, 3};
+static const uint8_t high_byte_first[] = {1, 0xE5};
+static const uint8_t too_many[] = {0xE5, 1, 0xE5, 1};
+
+/* 000's data example, 5.4.3. */
+static const uint8_t data_bytes[63] = {
+    0x68, 0x39, 0x39, 0x68, 0x08, 0x00, 0x72, 0x78, 0x56, 0x34, 0x12, 0x89, 0x4E, 0x01, 0x04, 0x03,
+    0x00, 0x00, 0x00, 0x0C, 0x03, 0x45, 0x23, 0x71, 0x96, 0x0C, 0x11, 0x78, 0x56, 0x34, 0x12, 0x0B,
+    0x59, 0x12, 0x78, 0x00, 0x0B, 0x5D, 0x34, 0x65, 0x00, 0x0C, 0x2D, 0x78, 0x56, 0x34, 0x12, 0x0C,
+    0x3B, 0x78, 0x56, 0x34, 0x12, 0x06, 0x6D, 0x1C, 0x33, 0x0F, 0x57, 0x27, 0x00, 0x02, 0x16};
+
+static int wrong;
+
+static void expect(const char *name, uint32_t answer, const uint8_t *bytes, size_t len)
+{
+    uint32_t got = skarrowith_check_line(bytes, len);
+    if (got != answer) {
+        printf("test: %s: %lu, and not %lu\n", name, (unsigned long)got, (unsigned long)answer);
+        wrong = 1;
+    }
+}
+
+static void with_parity(uint8_t *out, const uint8_t *bytes, size_t n)
+{
+    for (size_t i = 0; i < n; i++) {
+        unsigned ones = 0;
+        for (unsigned b = bytes[i]; b != 0; b >>= 1)
+            ones ^= b & 1;
+        out[2 * i] = bytes[i];
+        out[2 * i + 1] = (uint8_t)ones;
+    }
+}
+
+int main(void)
+{
+    static const struct value values[] = {
+        {"ack", SKARROWITH_ACK, sizeof ack, ack},
+        {"odd parity", SKARROWITH_REFUSED + 3, sizeof odd_parity, odd_parity},
+        {"the empty line", SKARROWITH_REFUSED + 1, 0, NULL},
+        {"read", SKARROWITH_READ, sizeof read_fe, read_fe},
+        {"wrong sum", SKARROWITH_REFUSED + 8, sizeof wrong_sum, wrong_sum},
+        {"enter", SKARROWITH_ENTER, sizeof enter_90, enter_90},
+        {"leave", SKARROWITH_LEAVE, sizeof leave, leave},
+        {"a character over 511", SKARROWITH_REFUSED + 2, sizeof too_high, too_high},
+        {"high byte first", SKARROWITH_REFUSED + 2, sizeof high_byte_first, high_byte_first},
+        {"two acks", SKARROWITH_REFUSED + 5, sizeof too_many, too_many},
+        {"one byte", SKARROWITH_REFUSED + 17, 1, ack},
+        {"an odd number of bytes", SKARROWITH_REFUSED + 17, 3, too_many},
+    };
+    uint8_t data[2 * sizeof data_bytes];
+    size_t count = sizeof values / sizeof values[0];
+    for (size_t i = 0; i < count; i++)
+        expect(values[i].name, values[i].answer, values[i].bytes, values[i].len);
+    with_parity(data, data_bytes, sizeof data_bytes);
+    expect("000's data line", SKARROWITH_DATA, data, sizeof data);
+    data[2 * 15] ^= 3;
+    data[2 * 16] ^= 3;
+    expect("the same, four flips", SKARROWITH_DATA, data, sizeof data);
+    data[2 * 16] ^= 1;
+    expect("the same, five flips", SKARROWITH_REFUSED + 3, data, sizeof data);
+    if (!wrong)
+        printf("test: %lu answers are right\n", (unsigned long)count + 3);
+    return wrong;
+}
