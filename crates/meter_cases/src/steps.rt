@@ -35,7 +35,11 @@ fn behind(names: &[bool; 4096], values: &[u64; 4096], count: usize, at: usize) -
         let n = characters_at(names, values, count, timed, &mut line);
         return wrapping_add_usize(timed, n);
     }
-    if is_measure & are_numbers { wrapping_add_usize(at, 4) } else { at }
+    if is_measure & are_numbers {
+        wrapping_add_usize(at, 4)
+    } else {
+        at
+    }
 }
 
 // Whether nothing but steps stands from a place on. There are no more steps than words.
