@@ -10,7 +10,7 @@ use Rattle.format.specs.declared.Telegram.{Telegram}
 use Rattle.format.specs.Answers.{Answer, reads, refusal}
 use Rattle.format.specs.Telegrams.{blankEntry, shown}
 use Rattle.entries.specs.declared.Entries.{Entries}
-use Rattle.entries.specs.Walking.{nextShown, entriesShown}
+use Rattle.entries.specs.Walking.{entriesShown}
 
 -- reading a line
 pub shown-same : (a b : Answer Telegram) → shown a ≡ shown b → a ≡ b
@@ -19,13 +19,7 @@ shown-same (refusal m) (reads u) e = let z : _≡_ {A = ℕ} 0 1 = cc in absurd 
 shown-same (reads t) (refusal n) e = let z : _≡_ {A = ℕ} 0 1 = cc in absurd (omega arith)
 shown-same (reads t) (reads u) e = cc
 
--- reading the next entry, and all entries
-pub next-same : (a b : Answer Entry) → nextShown a ≡ nextShown b → a ≡ b
-next-same (refusal m) (refusal n) e = cc
-next-same (refusal m) (reads u) e = let z : _≡_ {A = ℕ} 0 1 = cc in absurd (omega arith)
-next-same (reads t) (refusal n) e = let z : _≡_ {A = ℕ} 0 1 = cc in absurd (omega arith)
-next-same (reads t) (reads u) e = cc
-
+-- reading all entries
 abbrev kept : Entries → List Entry
 kept x = take (x .count) (x .entries)
 
