@@ -12,7 +12,8 @@ use lib.ListN.{length, getD, take, drop, length-append}
 use lib.Seq.{take-suc, take-all, length-take-le}
 use Rattle.format.specs.Answers.{reads, refusal}
 use Rattle.bundle.specs.declared.Row.{Row}
-use Rattle.bundle.specs.Walks.{endOf, both-false, none-wrong}
+use Rattle.format.specs.Tests.{neither}
+use Rattle.bundle.specs.Walks.{endOf, none-wrong}
 use Rattle.bundle.specs.Rows.{wrongField, wrongRow, timeOf, blankRow, rowIn, length-rows}
 use Rattle.bundle.specs.Bundles.{countOf, contentsOf, checkOf}
 use Rattle.bundle.specs.Accepted.{Sound, accepted-sound, body-inside, row-there}
@@ -31,11 +32,11 @@ row-joined p d t w e0 e1 e2 e3 e4 e5 e6 = rw (e6, e5, e4, e3, e2, e1, e0) (simp 
 -- the ranges of an accepted row's position and length
 field-range : (a d n : ℕ) → wrongField a d n ≡ false → (a ≤ 48) × (n ≤ 1004)
 field-range a d n e =
-    let p = both-false (ltb a 1 || ltb 48 a || ltb 1 d || eqb (n % 2) 1 || ltb n 2) (ltb 1004 n) e in
-    let q = both-false (ltb a 1 || ltb 48 a || ltb 1 d || eqb (n % 2) 1) (ltb n 2) (p .0) in
-    let r = both-false (ltb a 1 || ltb 48 a || ltb 1 d) (eqb (n % 2) 1) (q .0) in
-    let s = both-false (ltb a 1 || ltb 48 a) (ltb 1 d) (r .0) in
-    (ltb-false 48 a (both-false (ltb a 1) (ltb 48 a) (s .0) .1), ltb-false 1004 n (p .1))
+    let p = neither (ltb a 1 || ltb 48 a || ltb 1 d || eqb (n % 2) 1 || ltb n 2) (ltb 1004 n) e in
+    let q = neither (ltb a 1 || ltb 48 a || ltb 1 d || eqb (n % 2) 1) (ltb n 2) (p .0) in
+    let r = neither (ltb a 1 || ltb 48 a || ltb 1 d) (eqb (n % 2) 1) (q .0) in
+    let s = neither (ltb a 1 || ltb 48 a) (ltb 1 d) (r .0) in
+    (ltb-false 48 a (neither (ltb a 1) (ltb 48 a) (s .0) .1), ltb-false 1004 n (p .1))
 
 pub row-range : (b : List ℕ) (i : ℕ) → Sound b → i < countOf b
     → (getD (contentsOf b) i blankRow .position ≤ 48) × (getD (contentsOf b) i blankRow .length ≤ 1004)
@@ -45,7 +46,7 @@ row-range b i s h =
     let w : wrongRow before r ≡ false =
     none-wrong wrongRow timeOf 0 (contentsOf b) i blankRow (s .fields) (omega (arith, length-rows (countOf b) (drop 2 b))) in
     field-range (r .position) (r .direction) (r .length)
-    (both-false (wrongField (r .position) (r .direction) (r .length)) (ltb (r .time) before) w .0)
+    (neither (wrongField (r .position) (r .direction) (r .length)) (ltb (r .time) before) w .0)
 
 -- a row that stands in an accepted bundle has its length and its body
 pub row-fits : (b : List ℕ) (i n : ℕ) → checkOf b ≡ reads n → i < n
