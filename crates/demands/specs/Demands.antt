@@ -22,11 +22,12 @@ use Rattle.exchange.specs.declared.State.the-variants.{Resend, Well}
 use Rattle.exchange.specs.Steps.{begun}
 use Rattle.exchange.specs.Histories.{Step, heard, after, made, ended, EndedWell}
 use Rattle.exchange.specs.Theorems
-use Rattle.meter.specs.Meters.{zeros}
+use Rattle.meter.specs.Meters.{zeros, Deed, setUp}
 use Rattle.meter.specs.declared.Meter.{Meter}
-use Rattle.meter.specs.Histories.{Event, run, sometime, entersFromUse}
+use Rattle.meter.specs.Histories.{Event, hear, stepOf, after as after-step, run, sometime, isRead, isEnter, obeys, entersFromUse, endsVerification}
 use Rattle.meter.specs.HistoryLaws
-use Rattle.meter.specs.HistoryLaws.{Rises}
+use Rattle.meter.specs.HistoryLaws.{Rises, readAt}
+use Rattle.meter.specs.Written.{Proper, answers-proper}
 
 -- ---- Demand 1: any input gets a result. Every public function answers by an equation `r ≡ definition` over total definitions
 -- (docs/PROMISES.md), so that two answers to one input are the same; that the work ends is part of what a proved crate says.
@@ -89,3 +90,21 @@ cleared-by-enter = HistoryLaws.zero-by-enter
 -- As long as there is no such enter they never fall.
 pub totals-never-fall : (es : List Event) (m : Meter) → sometime entersFromUse m es ≡ false → Rises (m .core .verified) (run m es .core .verified)
 totals-never-fall = HistoryLaws.never-falls
+
+-- From one enter to the next, without a leave or a 30 minute return between, they never fall.
+pub between-enters : (m : Meter) (e : Event) (es : List Event) → obeys isEnter m e ≡ true → sometime endsVerification (after-step m e) es ≡ false
+    → Rises (after-step m e .core .verified) (run (after-step m e) es .core .verified)
+between-enters = HistoryLaws.between-enters
+
+-- A refused step changes nothing; a read changes only the access number and the times.
+pub refused-changes-nothing : (m : Meter) (e : Event) (n : ℕ) → stepOf m e ≡ refusal n → after-step m e ≡ m
+refused-changes-nothing = HistoryLaws.refused-stays
+
+pub read-changes-access : (m : Meter) (line : List ℕ) (t : Clock) → obeys isRead m (hear line t) ≡ true → after-step m (hear line t) ≡ readAt t m
+read-changes-access = HistoryLaws.read-raises
+
+-- Whatever a meter that was set up answers, after any history, can be written; its line reads as it; and it is the ack or comes from
+-- the own address.
+pub meter-answers : (own : ℕ) (template : Telegram) (m : Meter) (es : List Event) (e : Event) (d : Deed)
+    → own < 256 → Sized template → setUp own template ≡ reads m → stepOf (run m es) e ≡ reads d → Proper own (d .said)
+meter-answers = answers-proper
