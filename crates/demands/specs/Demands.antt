@@ -13,7 +13,7 @@ use Rattle.format.specs.Lines.{readLine, Accepted}
 use Rattle.format.specs.Telegrams.{shown}
 use Rattle.format.specs.TelegramLaws.{Sized}
 use Rattle.format.specs.Writing.{lineOf, unwritable}
-use Rattle.format.specs.RoundTrip.{read-then-write, write-then-read, refusal-20}
+use Rattle.format.specs.RoundTrip.{accepted-lines, read-then-write, write-then-read, refusal-20}
 use Rattle.format.specs.Flips.{Place, Places, flips}
 use Rattle.format.specs.Codes.{Each}
 use Rattle.format.specs.LineCode
@@ -34,11 +34,15 @@ use Rattle.meter.specs.Written.{Proper, answers-proper}
 
 -- ---- Demand 2: reading and writing agree.
 
+-- What is accepted: the lines of the telegrams that can be written, and no others. (`Sized`: each field is in the range of its type.)
+pub what-is-accepted : (s : List ℕ) → Accepted s ↔ ((t : Telegram) × Sized t × (unwritable t ≡ false) × (s ≡ lineOf t))
+what-is-accepted = accepted-lines
+
 -- An accepted line, read and written, gives the same characters.
 pub read-and-write : (s : List ℕ) (t : Telegram) → readLine s ≡ reads t → s ≡ lineOf t
 read-and-write s t r = read-then-write s t r .same
 
--- A telegram that can be written reads back as itself. (`Sized`: each field is in the range of its type.)
+-- A telegram that can be written reads back as itself.
 pub write-and-read : (t : Telegram) → Sized t → unwritable t ≡ false → readLine (lineOf t) ≡ reads t
 write-and-read = write-then-read
 

@@ -70,6 +70,9 @@ pub record Fits (h : Header) : Type 0 where
   pub access : h .access < 256
   pub status : h .status < 256
 
+pub header-fits : (b : List ℕ) → Bytes b → Fits (headerOf b)
+header-fits b h = record { version = byte-at b h 6; access = byte-at b h 8; status = byte-at b h 9 }
+
 heat-below : (t : ℕ) → heatMeter t ≡ true → t < 256
 heat-below t e =
     let no : 256 ≤ t → ⊥ = λ h. false≢true (rw (ne-eqb t 0x04 (omega arith), ne-eqb t 0x0B (omega arith), ne-eqb t 0x0C (omega arith), ne-eqb t 0x0D (omega arith)) at e) in

@@ -6,7 +6,7 @@ use mathlib.Core.Path.{_≡_, refl, sym, ap, ap₂, subst, _∙_}
 use native.Mathlib.Omega.{arith}
 use borrow.Author.Tests.{ltb-false, leb-true, le-leb, eqb-true, ne-eqb, not-false}
 use lib.Dec.{ltb, leb, eqb, lit<, lit≤}
-use lib.ListN.{length, take, drop, length-append, length-take, length-drop, take-append-drop}
+use lib.ListN.{length, take, drop, replicate, length-replicate, length-append, length-take, length-drop, take-append-drop}
 use lib.Seq.{drop-at}
 use Rattle.format.specs.declared.Kind.{Kind}
 use Rattle.format.specs.declared.Kind.the-variants.{Ack, Read, Enter, Leave, Data}
@@ -19,14 +19,14 @@ use Rattle.format.specs.CharacterLaws.{carrier-byte, byte-carrier, carri
 use Rattle.format.specs.Answers.{Answer, reads, refuse, within}
 use Rattle.format.specs.Headers.{headerOf, wrongHeader}
 use Rattle.format.specs.Entries.{missing, readEntries}
-use Rattle.format.specs.Telegrams.{readOf, enterOf, leaveOf, dataOf, bare}
+use Rattle.format.specs.Telegrams.{blankEntry, blankHeader, readOf, enterOf, leaveOf, dataOf, bare}
 use Rattle.format.specs.Lines.{isAck, isShort, wrongStart, wrongCount, wrongLengths, wrongEnd, wrongSum, field, isMethod, isCommand, isData, readShort, commandOf, readData, readLong, readBody, readFrame}
 use Rattle.format.specs.Writing.{bytesOfHeader, bytesOfEntries, closed, shortFrame, longFrame, entriesOf, bytesOfKind, usedBody, usedEntry, unwrittenHeader, wrongEntry, repeats, wrongData, wrongFor, unwritable}
 use Rattle.format.specs.TestLaws.{none, every, all-passed, within-reads}
 use Rattle.format.specs.Tests.{not-different, by-test, passed}
 use Rattle.format.specs.AnswerLaws.{reads-same}
-use Rattle.format.specs.ByteLaws.{Bytes, bytes-append, bytes-take, bytes-drop, spell, spell-whole}
-use Rattle.format.specs.HeaderLaws.{HeaderRead, header-read, header-length, header-written, Fits, header-bytes}
+use Rattle.format.specs.ByteLaws.{Bytes, byte-at, bytes-append, bytes-take, bytes-drop, spell, spell-whole}
+use Rattle.format.specs.HeaderLaws.{HeaderRead, header-read, header-fits, header-length, header-written, Fits, header-bytes}
 use Rattle.format.specs.EntryLaws.{EntriesRead, entries-read, entries-written, entries-bytes}
 use Rattle.format.specs.LengthLaws.{entries-least, entries-most}
 use Rattle.format.specs.Frames.{Framed, Short, Long, form}
@@ -64,18 +64,25 @@ carried (x ∷ b) h =
 pub record Round (b : List ℕ) (t : Telegram) : Type 0 where
   pub back : b ≡ bytesOfKind (t .kind) t
   pub writable : unwritable t ≡ false
+  pub sized : Sized t
 
-short-round : (b f : List ℕ) (t : Telegram) → b ≡ shortFrame f → length f ≡ 2 → readShort f ≡ reads t → Round b t
+blank-fits : Fits blankHeader
+blank-fits = record { version = lit< tt; access = lit< tt; status = lit< tt }
+
+bare-sized : (k : Kind) (a m : ℕ) → a < 256 → Sized (bare k a m)
+bare-sized k a m h = record { address = h; header = blank-fits; places = refl }
+
+short-round : (b f : List ℕ) (t : Telegram) → b ≡ shortFrame f → Bytes f → length f ≡ 2 → readShort f ≡ reads t → Round b t
 unfolding unwritable any
-short-round b f t e n r =
+short-round b f t e bytes n r =
     let k = passed 9 (not (eqb (at f 0) 0x5B)) (reads (readOf (at f 1))) t r in
     let c : at f 0 ≡ 0x5B = not-different (at f 0) 0x5B (k .0) in
     let form : f ≡ 0x5B ∷ at f 1 ∷ [] = spell-whole 2 f n ∙ rw c in
-    subst (Round b) (reads-same (k .1)) (record { back = e ∙ ap shortFrame form; writable = refl })
+    subst (Round b) (reads-same (k .1)) (record { back = e ∙ ap shortFrame form; writable = refl; sized = bare-sized Read (at f 1) 0 (byte-at f bytes 1) })
 
-command-round : (b f : List ℕ) (t : Telegram) → b ≡ longFrame f → isCommand f ≡ true → reads (commandOf f) ≡ reads t → Round b t
+command-round : (b f : List ℕ) (t : Telegram) → b ≡ longFrame f → Bytes f → isCommand f ≡ true → reads (commandOf f) ≡ reads t → Round b t
 unfolding unwritable any
-command-round b f t e q r =
+command-round b f t e bytes q r =
     let k = every (eqb (length f) 4) (eqb (at f 0) 0x53 ∷ eqb (at f 2) 0x50 ∷ (isMethod (at f 3) || eqb (at f 3) 0x00) ∷ []) q in
     let form : f ≡ 0x53 ∷ at f 1 ∷ 0x50 ∷ at f 3 ∷ [] =
     spell-whole 4 f (eqb-true (length f) 4 (k .0)) ∙ rw (eqb-true (at f 0) 0x53 (k .1 .0), eqb-true (at f 2) 0x50 (k .1 .1 .0)) in
@@ -83,13 +90,13 @@ command-round b f t e q r =
     (by-test (eqb (at f 3) 0x00)
     (λ z.
     let leave : f ≡ 0x53 ∷ at f 1 ∷ 0x50 ∷ 0x00 ∷ [] = form ∙ rw (eqb-true (at f 3) 0x00 z) in
-    rw z (record { back = e ∙ ap longFrame leave; writable = refl }))
+    rw z (record { back = e ∙ ap longFrame leave; writable = refl; sized = bare-sized Leave (at f 1) 0 (byte-at f bytes 1) }))
     (λ z.
     let m : isMethod (at f 3) ≡ true = sym (or-false (isMethod (at f 3))) ∙ rw z at (k .1 .1 .1 .0) in
-    rw z (record { back = e ∙ ap longFrame form; writable = rw m })))
+    rw z (record { back = e ∙ ap longFrame form; writable = rw m; sized = bare-sized Enter (at f 1) (at f 3) (byte-at f bytes 1) })))
 
-data-made : (b rest : List ℕ) (a : ℕ) (h : Header) (es : List Entry) → b ≡ longFrame (0x08 ∷ a ∷ 0x72 ∷ (bytesOfHeader h ++ rest)) → unwrittenHeader h ≡ false → EntriesRead rest [] es → Round b (dataOf a h es)
-data-made b rest a h es e header x =
+data-made : (b rest : List ℕ) (a : ℕ) (h : Header) (es : List Entry) → a < 256 → Fits h → b ≡ longFrame (0x08 ∷ a ∷ 0x72 ∷ (bytesOfHeader h ++ rest)) → unwrittenHeader h ≡ false → EntriesRead rest [] es → Round b (dataOf a h es)
+data-made b rest a h es below fits e header x =
     let same : x .more ≡ es = sym (x .joins) in
     let right : any wrongEntry es ≡ false = rw same at (x .right) in
     let once : repeats [] es ≡ false = rw same at (x .once) in
@@ -97,6 +104,11 @@ data-made b rest a h es e header x =
     record {
       back = e ∙ ap (λ (l : List ℕ). longFrame (0x08 ∷ a ∷ 0x72 ∷ (bytesOfHeader h ++ l))) entries;
       writable = data-writable a h es header right once (x .whole) (x .few);
+      sized = record {
+        address = below;
+        header = fits;
+        places = length-append es (replicate (7 - length es) blankEntry) ∙ ap (_+_ (length es)) (length-replicate (7 - length es) blankEntry) ∙ omega (arith, x .few);
+      };
     }
 
 data-round : (b f : List ℕ) (t : Telegram) → b ≡ longFrame f → Bytes f → isData f ≡ true → readData (at f 1) (drop 3 f) ≡ reads t → Round b t
@@ -112,20 +124,20 @@ data-round b f t e bytes q r =
     let parts : d ≡ bytesOfHeader (headerOf d) ++ drop 12 d = sym (take-append-drop 12 d) ∙ ap (λ (l : List ℕ). l ++ drop 12 d) (sym (o .back)) in
     let form : f ≡ 0x08 ∷ at f 1 ∷ 0x72 ∷ (bytesOfHeader (headerOf d) ++ drop 12 d) =
     sym (take-append-drop 3 f) ∙ ap₂ (λ (x y : List ℕ). x ++ y) first parts in
-    subst (Round b) (w .2) (data-made b (drop 12 d) (at f 1) (headerOf d) (w .0) (e ∙ ap longFrame form) (o .written) es)
+    subst (Round b) (w .2) (data-made b (drop 12 d) (at f 1) (headerOf d) (w .0) (byte-at f bytes 1) (header-fits d (bytes-drop 3 f bytes)) (e ∙ ap longFrame form) (o .written) es)
 
 long-round : (b f : List ℕ) (t : Telegram) → b ≡ longFrame f → Bytes f → readLong f ≡ reads t → Round b t
 long-round b f t e bytes r =
-    by-test (isCommand f) (λ q. command-round b f t e q (rw q at r))
+    by-test (isCommand f) (λ q. command-round b f t e bytes q (rw q at r))
     (λ q.
     let u = passed 9 (not (isData f)) (readData (at f 1) (drop 3 f)) t (rw q at r) in
     data-round b f t e bytes (not-false (isData f) (u .0)) (u .1))
 
-short-bytes : (b : List ℕ) (t : Telegram) → isShort b ≡ true → Short b → readShort (field b) ≡ reads t → Round b t
-short-bytes b t q s r =
+short-bytes : (b : List ℕ) (t : Telegram) → Bytes b → isShort b ≡ true → Short b → readShort (field b) ≡ reads t → Round b t
+short-bytes b t bytes q s r =
     let z : at b 0 ≡ 0x10 = eqb-true (at b 0) 0x10 q in
     let h = short-read b z s in
-    short-round b (take 2 (drop 1 b)) t (h .0) (h .1) (rw z at r)
+    short-round b (take 2 (drop 1 b)) t (h .0) (bytes-take 2 (drop 1 b) (bytes-drop 1 b bytes)) (h .1) (rw z at r)
 
 long-bytes : (b : List ℕ) (t : Telegram) → Bytes b → Long b → readLong (field b) ≡ reads t → Round b t
 long-bytes b t bytes l r =
@@ -138,8 +150,8 @@ unfolding readBody unwritable any
 frame-round b t bytes r =
     let k = all-passed ((4, wrongStart b) ∷ (5, wrongCount b) ∷ (6, wrongLengths b) ∷ (7, wrongEnd b) ∷ (8, wrongSum b) ∷ []) (readBody b) r in
     let f : Framed b = record { start = k .0 .0; count = k .0 .1 .0; lengths = k .0 .1 .1 .0; end = k .0 .1 .1 .1 .0; sum = k .0 .1 .1 .1 .1 .0 } in
-    by-test (isAck b) (λ q. subst (Round b) (reads-same (rw q at (k .1))) (record { back = ack-read b q (rw q at (form b f)); writable = refl }))
-    (λ a. by-test (isShort b) (λ q. short-bytes b t q (rw (a, q) at (form b f)) (rw (a, q) at (k .1)))
+    by-test (isAck b) (λ q. subst (Round b) (reads-same (rw q at (k .1))) (record { back = ack-read b q (rw q at (form b f)); writable = refl; sized = bare-sized Ack 0 0 (lit< tt) }))
+    (λ a. by-test (isShort b) (λ q. short-bytes b t bytes q (rw (a, q) at (form b f)) (rw (a, q) at (k .1)))
     (λ q. long-bytes b t bytes (rw (a, q) at (form b f)) (rw (a, q) at (k .1))))
 
 -- ---- from a telegram that can be written to its line and back

@@ -13,7 +13,7 @@ use Rattle.format.specs.declared.Telegram.{Telegram}
 use Rattle.format.specs.Lists.{at, any}
 use Rattle.format.specs.Characters.{over, odd, byteOf, carrier}
 use Rattle.format.specs.Answers.{reads, refusal}
-use Rattle.format.specs.Lines.{readBody, readFrame, readLine}
+use Rattle.format.specs.Lines.{readBody, readFrame, readLine, Accepted}
 use Rattle.format.specs.Writing.{entriesOf, bytesOfKind, lineOf, wrongData, wrongFor, unwritable, writeLine}
 use Rattle.format.specs.TestLaws.{none, all-passed, all-passing}
 use Rattle.format.specs.Tests.{by-test}
@@ -25,13 +25,14 @@ use Rattle.format.specs.TelegramLaws.{Sized}
 pub record Rewritten (s : List ℕ) (t : Telegram) : Type 0 where
   pub same : s ≡ lineOf t
   pub writable : unwritable t ≡ false
+  pub sized : Sized t
 
 pub read-then-write : (s : List ℕ) (t : Telegram) → readLine s ≡ reads t → Rewritten s t
 unfolding readLine lineOf
 read-then-write s t r =
     let k = all-passed ((1, eqb (length s) 0) ∷ (2, any over s) ∷ (3, any odd s) ∷ []) (readFrame readBody (map byteOf s)) r in
     let o : Round (map byteOf s) t = frame-round (map byteOf s) t (bytes-of s) (k .1) in
-    record { same = even-line s (k .0 .1 .0) (k .0 .1 .1 .0) ∙ ap (map carrier) (o .back); writable = o .writable }
+    record { same = even-line s (k .0 .1 .0) (k .0 .1 .1 .0) ∙ ap (map carrier) (o .back); writable = o .writable; sized = o .sized }
 
 -- Every telegram that can be written reads back as itself.
 pub write-then-read : (t : Telegram) → Sized t → unwritable t ≡ false → readLine (lineOf t) ≡ reads t
@@ -55,6 +56,13 @@ refusal-20 t z = (
 -- For a telegram that can be written there is exactly one accepted line.
 pub one-line : (t : Telegram) → Sized t → unwritable t ≡ false → (readLine (lineOf t) ≡ reads t) × ((s : List ℕ) → readLine s ≡ reads t → s ≡ lineOf t)
 one-line t z w = (write-then-read t z w, λ s r. read-then-write s t r .same)
+
+-- A line is accepted exactly where it is what is written for a telegram that can be written.
+pub accepted-lines : (s : List ℕ) → Accepted s ↔ ((t : Telegram) × Sized t × (unwritable t ≡ false) × (s ≡ lineOf t))
+accepted-lines s = (
+  λ a. let r : Rewritten s (a .0) = read-then-write s (a .0) (a .1) in (a .0, r .sized, r .writable, r .same),
+  λ w. (w .0, ap readLine (w .3) ∙ write-then-read (w .0) (w .1) (w .2)),
+)
 
 -- Within 20 and 21 the lower goes first.
 pub lower-first : (t : Telegram) (places : ℕ) → unwritable t ≡ true → writeLine t places ≡ refusal 20
