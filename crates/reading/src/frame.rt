@@ -2,9 +2,8 @@
 ghost use mathlib.Core.Path.{_≡_};
 ghost use mathlib.Core.List.{map};
 ghost use Rattle.format.specs.Characters.{byteOf};
-ghost use Rattle.format.specs.Answers.{reads};
 ghost use Rattle.format.specs.Lines.{readFrame, readWith};
-ghost use Rattle.reading.specs.Forms.{ShortCount, LongCount, startShown, frameShown};
+ghost use Rattle.reading.specs.Forms.{ShortCount, LongCount, form, startOf, frameShown};
 use crate::scan::any_odd;
 use crate::scan::any_over;
 use crate::scan::sum_of;
@@ -20,7 +19,7 @@ pub enum Frame {
 
 // The rules 4 and 5, which look at the first two bytes and the count.
 pub fn start_of(first: u8, second: u8, count: usize) -> Frame
-    ensures { λ r. ⌜ r ≡ startShown first second count ⌝ }
+    ensures { λ r. ⌜ r ≡ frameShown (startOf first second count) ⌝ }
 {
     if first == 0xE5 {
         if count == 1 {
@@ -47,7 +46,7 @@ pub fn start_of(first: u8, second: u8, count: usize) -> Frame
 // After 10, with the right count: 7 and 8.
 fn short_frame(line: &[u16]) -> Frame
     requires { ⌜ ShortCount (now line) ⌝ }
-    ensures { λ r. ⌜ r ≡ frameShown (readFrame reads (map byteOf (now (line .entry)))) ⌝ }
+    ensures { λ r. ⌜ r ≡ frameShown (readFrame form (map byteOf (now (line .entry)))) ⌝ }
 {
     let n = line.len();
     let end = byte_at(line, n - 1);
@@ -65,7 +64,7 @@ fn short_frame(line: &[u16]) -> Frame
 // After 68, with the right count: 6, 7 and 8.
 fn long_frame(line: &[u16]) -> Frame
     requires { ⌜ LongCount (now line) ⌝ }
-    ensures { λ r. ⌜ r ≡ frameShown (readFrame reads (map byteOf (now (line .entry)))) ⌝ }
+    ensures { λ r. ⌜ r ≡ frameShown (readFrame form (map byteOf (now (line .entry)))) ⌝ }
 {
     let n = line.len();
     let second = byte_at(line, 1);
@@ -88,7 +87,7 @@ fn long_frame(line: &[u16]) -> Frame
 
 // The rules 4 to 8, in this order.
 pub fn form_of(line: &[u16]) -> Frame
-    ensures { λ r. ⌜ r ≡ frameShown (readFrame reads (map byteOf (now (line .entry)))) ⌝ }
+    ensures { λ r. ⌜ r ≡ frameShown (readFrame form (map byteOf (now (line .entry)))) ⌝ }
 {
     let first = byte_at(line, 0);
     let second = byte_at(line, 1);
@@ -103,7 +102,7 @@ pub fn form_of(line: &[u16]) -> Frame
 
 // The rules 1 to 8, in this order.
 pub fn frame_of(line: &[u16]) -> Frame
-    ensures { λ r. ⌜ r ≡ frameShown (readWith reads (now (line .entry))) ⌝ }
+    ensures { λ r. ⌜ r ≡ frameShown (readWith form (now (line .entry))) ⌝ }
 {
     if line.len() == 0 {
         return Frame::Refused(1);
