@@ -19,6 +19,7 @@ use Rattle.format.specs.Characters.{byteOf}
 use Rattle.format.specs.Quantities.{quantityOf, widthOf, paired, isPacked, isTime, between, energy, volume, power, flow, inlet, outlet, time, unknown}
 use Rattle.format.specs.Digits.{overNine}
 use Rattle.format.specs.Moments.{wrongMoment}
+use Rattle.format.specs.LengthLaws.{width-most}
 use Rattle.format.specs.Tests.{by-test}
 use Rattle.format.specs.ListLaws.{map-take, map-drop, any-snoc}
 use Rattle.format.specs.declared.Value.{Value}
@@ -76,18 +77,6 @@ abbrev pub unmarked : List Bool → Bool
 unmarked marks =
     not (getD marks energy false) || not (getD marks volume false) || not (getD marks inlet false) || not (getD marks outlet false)
     || not (getD marks time false)
-
-pub width-few : (st : ℕ) → widthOf st ≤ 6
-unfolding widthOf
-width-few st = go (eqb st 0x0A) (eqb st 0x0B) (eqb st 0x0C) (eqb st 0x0E) (eqb st 0x06)
-  where
-    go : (a b c d e : Bool) → cond a 2 (cond b 3 (cond c 4 (cond d 6 (cond e 6 0)))) ≤ 6
-    go true b c d e = omega arith
-    go false true c d e = omega arith
-    go false false true d e = omega arith
-    go false false false true e = omega arith
-    go false false false false true = omega arith
-    go false false false false false = omega arith
 
 pub or-false-right : (a b : Bool) → (a || b) ≡ false → b ≡ false
 or-false-right true b e = absurd (true≢false e)
@@ -473,7 +462,7 @@ module _ {rest : List ℕ} {at count : ℕ} {marks : List Bool} {entries : List 
       record {
         below = walked-below w h (sizeOf (map byteOf (drop at rest))) (n .0);
         few = rw (n .1) (quantity-few _);
-        narrow = rw (n .2) (width-few _);
+        narrow = rw (n .2) (width-most _);
         inside = rw (n .2) (walked-inside w h (sizeOf (map byteOf (drop at rest))) (n .0));
         fit = rw (rest-cut rest at) (n .3);
         next = rw (rest-cut rest at, n .1, n .2) (walked-next w h (sizeOf (map byteOf (drop at rest))) (n .0));

@@ -2,6 +2,7 @@
 ghost use mathlib.Core.Path.{_≡_};
 ghost use mathlib.Core.List.{map};
 ghost use Rattle.format.specs.Characters.{byteOf};
+ghost use Rattle.format.specs.Answers.{refuse};
 ghost use Rattle.format.specs.Lines.{readFrame, readWith};
 ghost use Rattle.reading.specs.Forms.{ShortCount, LongCount, form, startOf, frameShown};
 use crate::scan::any_odd;
@@ -85,12 +86,15 @@ fn long_frame(line: &[u16]) -> Frame
     Frame::Long
 }
 
-// The rules 4 to 8, in this order.
-pub fn form_of(line: &[u16]) -> Frame
-    ensures { λ r. ⌜ r ≡ frameShown (readFrame form (map byteOf (now (line .entry)))) ⌝ }
+// The rules 3 to 8, in this order, where the parities were gathered before.
+fn sound_form(line: &[u16], odd: bool) -> Frame
+    ensures { λ r. ⌜ r ≡ frameShown (refuse 3 odd (readFrame form (map byteOf (now (line .entry))))) ⌝ }
 {
     let first = byte_at(line, 0);
     let second = byte_at(line, 1);
+    if odd {
+        return Frame::Refused(3);
+    }
     let start = start_of(first, second, line.len());
     match start {
         Frame::Refused(n) => Frame::Refused(n),
@@ -98,6 +102,13 @@ pub fn form_of(line: &[u16]) -> Frame
         Frame::Short => short_frame(line),
         Frame::Long => long_frame(line),
     }
+}
+
+// The rules 4 to 8, in this order.
+pub fn form_of(line: &[u16]) -> Frame
+    ensures { λ r. ⌜ r ≡ frameShown (readFrame form (map byteOf (now (line .entry)))) ⌝ }
+{
+    sound_form(line, false)
 }
 
 // The rules 1 to 8, in this order.
@@ -110,8 +121,6 @@ pub fn frame_of(line: &[u16]) -> Frame
     if any_over(line) {
         return Frame::Refused(2);
     }
-    if any_odd(line) {
-        return Frame::Refused(3);
-    }
-    form_of(line)
+    let odd = any_odd(line);
+    sound_form(line, odd)
 }
