@@ -15,7 +15,7 @@ use Rattle.format.specs.TestLaws.{none}
 use Rattle.bundle.specs.declared.Row.{Row}
 use Rattle.bundle.specs.Walks.{endOf}
 use Rattle.bundle.specs.Rows.{mostRows, rowsOf, wrongRow, timeOf, blankRow, rowIn, length-rows}
-use Rattle.bundle.specs.Bodies.{charactersOf}
+use Rattle.format.specs.Host.{chars}
 use Rattle.bundle.specs.Bundles.{mostBytes, countOf, contentsOf, checkOf}
 use Rattle.bundle.specs.Accepted.{accepted-sound, row-there}
 use Rattle.bundle.specs.Records.{Recorded, recordsOf, rowFor, bundleOf}
@@ -43,7 +43,7 @@ addOf buffer filled k =
     refuse 30 (ltb (length buffer) filled)
     (follow (checkOf (take filled buffer)) (λ n.
     refuse 34 (wrongRow (lastTime (contentsOf (take filled buffer))) (rowFor (filled + 12) k))
-    (refuse 37 (any over (charactersOf (k .body)))
+    (refuse 37 (any over (chars (k .body)))
     (refuse 38 (noRoom buffer n (grown filled k))
     (reads (grown filled k))))))
 
@@ -87,7 +87,7 @@ module _ (buffer : List ℕ) (filled : ℕ) (k : Recorded) where
     wrong = wrongRow (lastTime (contentsOf (take filled buffer))) (rowFor (filled + 12) k)
 
     abbrev wide : Bool
-    wide = any over (charactersOf (k .body))
+    wide = any over (chars (k .body))
 
     pub add-wrong : wrong ≡ true → addOf buffer filled k ≡ refusal 34
     unfolding addOf

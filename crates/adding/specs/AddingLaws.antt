@@ -18,7 +18,7 @@ use Rattle.bundle.specs.declared.Row.{Row}
 use Rattle.bundle.specs.Numbers.{number}
 use Rattle.bundle.specs.Walks.{someWrong, endOf}
 use Rattle.bundle.specs.Rows.{mostRows, rowsOf, wrongField, wrongRow, wrongRows, timeOf, firstOffset, nextOffset, wrongPlaces, blankRow, length-rows, places-right}
-use Rattle.bundle.specs.Bodies.{charactersOf}
+use Rattle.format.specs.Host.{chars}
 use Rattle.bundle.specs.Bundles.{mostBytes, countOf, contentsOf, bodiesOf, checkOf, bodyAt, placeOf}
 use Rattle.bundle.specs.Records.{Recorded, recordsIn, recordsOf, rowFor, rowsFor, bodiesFor, bundleOf}
 use Rattle.bundle.specs.Accepted.{Sound, accepted-sound, sound-accepted, row-reads}
@@ -47,8 +47,8 @@ even-end before o (r ∷ rows) w =
     even-next : (o n : ℕ) → n % 2 ≡ 0 → (o + n) % 2 ≡ o % 2
     even-next o n h = omega arith
 
-pub characters-append : (s t : List ℕ) → length s % 2 ≡ 0 → charactersOf (s ++ t) ≡ charactersOf s ++ charactersOf t
-unfolding charactersOf
+pub characters-append : (s t : List ℕ) → length s % 2 ≡ 0 → chars (s ++ t) ≡ chars s ++ chars t
+unfolding chars
 characters-append [] t h = refl
 characters-append (x ∷ []) t h = let never : ⊥ = omega arith in absurd never
 characters-append (x ∷ (y ∷ s)) t h = rw (characters-append s t (omega arith))
@@ -87,7 +87,7 @@ pub record Taken (buffer : List ℕ) (filled : ℕ) (k : Recorded) (n : ℕ) : T
   pub inside : filled ≤ length buffer
   pub old : checkOf (take filled buffer) ≡ reads rows
   pub right : wrongRow (lastTime (contentsOf (take filled buffer))) (rowFor (filled + 12) k) ≡ false
-  pub range : any over (charactersOf (k .body)) ≡ false
+  pub range : any over (chars (k .body)) ≡ false
   pub room : noRoom buffer rows (grown filled k) ≡ false
   pub size : n ≡ grown filled k
 
@@ -98,13 +98,13 @@ taken buffer filled k n e = past (ltb (length buffer) filled) refl e
     tests : ℕ → Answer ℕ
     tests m =
         refuse 34 (wrongRow (lastTime (contentsOf (take filled buffer))) (rowFor (filled + 12) k))
-        (refuse 37 (any over (charactersOf (k .body))) (refuse 38 (noRoom buffer m (grown filled k)) (reads (grown filled k))))
+        (refuse 37 (any over (chars (k .body))) (refuse 38 (noRoom buffer m (grown filled k)) (reads (grown filled k))))
 
     checked : (a : Answer ℕ) → ltb (length buffer) filled ≡ false → checkOf (take filled buffer) ≡ a → follow a tests ≡ reads n → Taken buffer filled k n
     checked (refusal m) h o g = absurd (not-refused g)
     checked (reads m) h o g =
         let p =
-        all-passed ((34, wrongRow (lastTime (contentsOf (take filled buffer))) (rowFor (filled + 12) k)) ∷ ((37, any over (charactersOf (k .body))) ∷ ((38, noRoom buffer m (grown filled k)) ∷ [])))
+        all-passed ((34, wrongRow (lastTime (contentsOf (take filled buffer))) (rowFor (filled + 12) k)) ∷ ((37, any over (chars (k .body))) ∷ ((38, noRoom buffer m (grown filled k)) ∷ [])))
         (reads (grown filled k)) g in
         record {
           rows = m;
@@ -155,9 +155,9 @@ module _ (buffer : List ℕ) (filled : ℕ) (k : Recorded) (n : ℕ) (e : addOf 
       some-append wrongRecord recordTime 0 (recordsOf old) (k ∷ [])
       ∙ rw (good-held old sound times .fields, times-end 0 (contentsOf old) (bodiesOf old), t .right)
 
-  range-all : any over (charactersOf (bodiesFor all)) ≡ false
+  range-all : any over (chars (bodiesFor all)) ≡ false
   range-all =
-      rw (bodies-grown old sound k, characters-append (bodiesOf old) (k .body) (even-bodies old sound), any-append over (charactersOf (bodiesOf old)) (charactersOf (k .body)), sound .range, t .range)
+      rw (bodies-grown old sound k, characters-append (bodiesOf old) (k .body) (even-bodies old sound), any-append over (chars (bodiesOf old)) (chars (k .body)), sound .range, t .range)
 
   size-all : firstOffset (length all) + length (bodiesFor all) ≡ n
   size-all =
@@ -223,7 +223,7 @@ pub data Built : List ℕ → Type 0 where
       → Built (left buffer filled k n)
 
 empty-accepted : checkOf (0 ∷ (0 ∷ [])) ≡ reads 0
-unfolding checkOf number rowsOf someWrong endOf charactersOf any
+unfolding checkOf number rowsOf someWrong endOf chars any
 empty-accepted = refl
 
 built-sound : (b : List ℕ) → Built b → Sound b × Each Timely (recordsOf b)

@@ -8,7 +8,7 @@ use Rattle.format.specs.Answers.{reads, refusal}
 use Rattle.bundle.specs.Numbers.{number, bytesOf}
 use Rattle.bundle.specs.Walks.{someWrong, endOf}
 use Rattle.bundle.specs.Rows.{rowsOf}
-use Rattle.bundle.specs.Bodies.{charactersOf}
+use Rattle.format.specs.Host.{chars}
 use Rattle.bundle.specs.Bundles.{checkOf}
 use Rattle.bundle.specs.Records.{recordsIn, rowsFor, bodiesFor, bytesOfRows}
 use Rattle.bundle.specs.Example.{sixteen}
@@ -19,7 +19,7 @@ abbrev buffer : List ℕ
 buffer = 0x00 ∷ 0x00 ∷ replicate 18 0xFF
 
 filled-16 : addOf buffer 2 (recorded 7 1 0 (0xE5 ∷ 0x01 ∷ [])) ≡ reads 16
-unfolding addOf checkOf number rowsOf someWrong endOf charactersOf any
+unfolding addOf checkOf number rowsOf someWrong endOf chars any
 filled-16 = refl
 
 is-the-example : held (reads 16) buffer 2 (recorded 7 1 0 (0xE5 ∷ 0x01 ∷ [])) ≡ sixteen ++ replicate 4 0xFF
@@ -28,13 +28,13 @@ is-the-example = refl
 
 -- position 0 is told before the character 512, and that before the lack of room
 position-first : addOf buffer 2 (recorded 0 1 0 (replicate 8 0x02)) ≡ refusal 34
-unfolding addOf checkOf number rowsOf someWrong endOf charactersOf any
+unfolding addOf checkOf number rowsOf someWrong endOf chars any
 position-first = refl
 
 character-next : addOf buffer 2 (recorded 7 1 0 (replicate 8 0x02)) ≡ refusal 37
-unfolding addOf checkOf number rowsOf someWrong endOf charactersOf any
+unfolding addOf checkOf number rowsOf someWrong endOf chars any
 character-next = refl
 
 room-last : addOf buffer 2 (recorded 7 1 0 (replicate 8 0x01)) ≡ refusal 38
-unfolding addOf checkOf number rowsOf someWrong endOf charactersOf any
+unfolding addOf checkOf number rowsOf someWrong endOf chars any
 room-last = refl

@@ -14,7 +14,7 @@ use Rattle.bundle.specs.declared.Row.{Row}
 use Rattle.bundle.specs.Numbers.{number, bytesOf, length-bytes, number-bytes}
 use Rattle.bundle.specs.Walks.{someWrong, endOf}
 use Rattle.bundle.specs.Rows.{mostRows, rowOf, rowsOf, wrongRow, wrongRows, firstOffset, wrongPlaces, bodiesEnd}
-use Rattle.bundle.specs.Bodies.{charactersOf}
+use Rattle.format.specs.Host.{chars}
 use Rattle.bundle.specs.Bundles.{mostBytes, countOf, contentsOf, bodiesOf}
 use Rattle.bundle.specs.Records.{Recorded, recordsIn, recordsOf, rowFor, rowsFor, bodiesFor, bytesOfRow, bytesOfRows, bundleOf}
 use Rattle.bundle.specs.Accepted.{Sound}
@@ -111,7 +111,7 @@ pub record Good (ks : List Recorded) : Type 0 where
   pub fits : firstOffset (length ks) + length (bodiesFor ks) ≤ mostBytes
   pub fields : someWrong wrongRecord recordTime 0 ks ≡ false
   pub timely : Each Timely ks
-  pub range : any over (charactersOf (bodiesFor ks)) ≡ false
+  pub range : any over (chars (bodiesFor ks)) ≡ false
 
 module _ (ks : List Recorded) (g : Good ks) where
   abbrev rows : List Row

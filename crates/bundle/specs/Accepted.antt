@@ -16,7 +16,7 @@ use Rattle.format.specs.TestLaws.{not-refused, all-passed, all-passing}
 use Rattle.bundle.specs.declared.Row.{Row}
 use Rattle.bundle.specs.Walks.{none-wrong, endOf}
 use Rattle.bundle.specs.Rows.{mostRows, rowOf, wrongRows, firstOffset, nextOffset, wrongPlace, wrongPlaces, bodiesEnd, blankRow, rowIn, length-rows, row-at, row-in, place-right}
-use Rattle.bundle.specs.Bodies.{charactersOf}
+use Rattle.format.specs.Host.{chars}
 use Rattle.bundle.specs.Bundles.{mostBytes, countOf, contentsOf, bodiesOf, checkOf, rowAt, bodyAt, placeOf, Place}
 
 -- none of the refusals applies
@@ -28,7 +28,7 @@ pub record Sound (b : List ℕ) : Type 0 where
   pub fields : wrongRows 0 (contentsOf b) ≡ false
   pub places : wrongPlaces (length b) (firstOffset (countOf b)) (contentsOf b) ≡ false
   pub full : length b ≤ bodiesEnd (firstOffset (countOf b)) (contentsOf b)
-  pub range : any over (charactersOf (bodiesOf b)) ≡ false
+  pub range : any over (chars (bodiesOf b)) ≡ false
 
 -- the refusals of the check, each with its test
 abbrev tests : List ℕ → List (ℕ × Bool)
@@ -40,7 +40,7 @@ tests b =
     ∷ ((33, ltb (length b) first)
     ∷ ((34, wrongRows 0 (contentsOf b))
     ∷ ((35, wrongPlaces (length b) first (contentsOf b))
-    ∷ ((36, ltb (bodiesEnd first (contentsOf b)) (length b)) ∷ ((37, any over (charactersOf (bodiesOf b))) ∷ [])))))))
+    ∷ ((36, ltb (bodiesEnd first (contentsOf b)) (length b)) ∷ ((37, any over (chars (bodiesOf b))) ∷ [])))))))
 
 -- The check accepts exactly the sound bundles, and gives their count.
 pub accepted-sound : (b : List ℕ) (n : ℕ) → checkOf b ≡ reads n → Sound b × (n ≡ countOf b)

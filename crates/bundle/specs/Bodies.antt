@@ -9,23 +9,18 @@ use lib.Dec.{ltb}
 use lib.ListN.{length}
 use Rattle.format.specs.Lists.{at, any}
 use Rattle.format.specs.Characters.{over}
+use Rattle.format.specs.Host.{chars}
 use Rattle.format.specs.ListLaws.{Gathered, gathered-next, gathered-all}
 
--- the characters, each low byte first; a byte left over is none
-unfoldable pub charactersOf : List ℕ → List ℕ
-charactersOf [] = []
-charactersOf (low ∷ []) = []
-charactersOf (low ∷ (high ∷ s)) = (low + 256 * high) ∷ charactersOf s
-
 -- Laws: how many characters there are, and which stands at each place.
-pub length-characters : (s : List ℕ) → length (charactersOf s) ≡ length s / 2
-unfolding charactersOf
+pub length-characters : (s : List ℕ) → length (chars s) ≡ length s / 2
+unfolding chars
 length-characters [] = refl
 length-characters (low ∷ []) = refl
 length-characters (low ∷ (high ∷ s)) = rw (length-characters s) (omega arith)
 
-pub character-at : (s : List ℕ) (i : ℕ) → i < length s / 2 → at (charactersOf s) i ≡ at s (2 * i) + 256 * at s (2 * i + 1)
-unfolding charactersOf
+pub character-at : (s : List ℕ) (i : ℕ) → i < length s / 2 → at (chars s) i ≡ at s (2 * i) + 256 * at s (2 * i + 1)
+unfolding chars
 character-at [] i h = omega arith
 character-at (low ∷ []) i h = omega arith
 character-at (low ∷ (high ∷ s)) zero h = refl
@@ -43,11 +38,11 @@ over-high low high h = go (ltb 1 high) refl
     go false e = sym (le-ltb 511 (low + 256 * high) (omega (arith, ltb-false 1 high e)))
 
 -- A loop that looks at the second byte of each character.
-pub high-next : (s : List ℕ) {i : ℕ} {found : Bool} → Gathered over (charactersOf s) i found → i < length s / 2 → at s (2 * i) < 256
-    → Gathered over (charactersOf s) (i + 1) (found || ltb 1 (at s (2 * i + 1)))
+pub high-next : (s : List ℕ) {i : ℕ} {found : Bool} → Gathered over (chars s) i found → i < length s / 2 → at s (2 * i) < 256
+    → Gathered over (chars s) (i + 1) (found || ltb 1 (at s (2 * i + 1)))
 high-next s {i} {found} g h k =
     rw (over-high (at s (2 * i)) (at s (2 * i + 1)) k ∙ ap over (sym (character-at s i h)))
     (gathered-next 0 g (omega (arith, length-characters s)))
 
-pub high-all : (s : List ℕ) {i : ℕ} {found : Bool} → Gathered over (charactersOf s) i found → length s / 2 ≤ i → found ≡ any over (charactersOf s)
+pub high-all : (s : List ℕ) {i : ℕ} {found : Bool} → Gathered over (chars s) i found → length s / 2 ≤ i → found ≡ any over (chars s)
 high-all s g h = gathered-all g (omega (arith, length-characters s))

@@ -9,7 +9,7 @@ use Rattle.format.specs.Answers.{Answer, reads, refuse, within, follow}
 use Rattle.bundle.specs.declared.Row.{Row}
 use Rattle.bundle.specs.Numbers.{number}
 use Rattle.bundle.specs.Rows.{mostRows, rowsOf, wrongRows, firstOffset, wrongPlaces, bodiesEnd, blankRow}
-use Rattle.bundle.specs.Bodies.{charactersOf}
+use Rattle.format.specs.Host.{chars}
 
 -- at most 65,536 bytes
 abbrev pub mostBytes : ℕ
@@ -39,7 +39,7 @@ checkOf b =
     (refuse 34 (wrongRows 0 (contentsOf b))
     (refuse 35 (wrongPlaces (length b) (firstOffset (countOf b)) (contentsOf b))
     (refuse 36 (ltb (bodiesEnd (firstOffset (countOf b)) (contentsOf b)) (length b))
-    (refuse 37 (any over (charactersOf (bodiesOf b)))
+    (refuse 37 (any over (chars (bodiesOf b)))
     (reads (countOf b)))))))))
 
 -- One row's five fields; 39 no such row. Rows count from 0.

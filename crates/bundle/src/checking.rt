@@ -2,7 +2,7 @@
 ghost use mathlib.Core.Path.{_≡_};
 ghost use Rattle.format.specs.Lists.{any};
 ghost use Rattle.format.specs.Characters.{over};
-ghost use Rattle.bundle.specs.Bodies.{charactersOf};
+ghost use Rattle.format.specs.Host.{chars};
 ghost use Rattle.bundle.specs.Bundles.{checkOf};
 ghost use Rattle.bundle.specs.Shown.{shownChecked};
 use crate::Checked;
@@ -14,7 +14,7 @@ use crate::numbers::two;
 
 // A character of the bodies is over 511: its second byte is over 1.
 pub fn any_over(bodies: &[u8]) -> bool
-    ensures { λ r. ⌜ r ≡ any over (charactersOf (now (bodies .entry))) ⌝ }
+    ensures { λ r. ⌜ r ≡ any over (chars (now (bodies .entry))) ⌝ }
 {
     let mut found = false;
     for i in 0..bodies.len() / 2 {

@@ -13,12 +13,13 @@ use lib.ListN.{length, getD, take, drop, set, replicate, length-map, getD-replic
 use lib.Seq.{take-all, length-take-le, drop-cons, getD-set-same, getD-set-other, take-suc-set, drop-set-lt, drop-drop}
 use Rattle.format.specs.Lists
 use Rattle.format.specs.Lists.{at, any}
-use Rattle.format.specs.Answers.{Answer, reads, refusal, refuse, follow}
+use Rattle.format.specs.Answers.{Answer, reads, refusal, refuse, follow, alone}
 use Rattle.format.specs.AnswerLaws.{follow-refuse}
 use Rattle.format.specs.Characters.{byteOf}
 use Rattle.format.specs.Quantities.{quantityOf, widthOf, paired, isPacked, isTime, between, energy, volume, power, flow, inlet, outlet, time, unknown}
 use Rattle.format.specs.Digits.{overNine}
 use Rattle.format.specs.Moments.{wrongMoment}
+use Rattle.format.specs.LengthLaws.{width-most}
 use Rattle.format.specs.Tests.{by-test}
 use Rattle.format.specs.ListLaws.{map-take, map-drop, any-snoc}
 use Rattle.format.specs.declared.Value.{Value}
@@ -28,49 +29,54 @@ use Rattle.format.specs.declared.Outcome.the-variants.{Accepted, Refused}
 use Rattle.entries.specs.declared.Entries.{Entries}
 use Rattle.entries.specs.declared.Tried.{Tried}
 use Rattle.format.specs.Entries.{valueBytes, valueOf, entryOf, entryWidth, unfit, wrongDigit, wrongTime, seen, missing, readEntries}
-use Rattle.format.specs.Telegrams.{blankEntry, outcomeOf}
+use Rattle.format.specs.Telegrams.{blankEntry, outcomeShown}
 
--- the entry that the list begins with, or what 11, 12 and 13 say of it
-abbrev pub tried : List ℕ → Answer Entry
-tried s = refuse 11 (unfit s) (refuse 12 (wrongDigit s) (refuse 13 (wrongTime s) (reads (entryOf s))))
+-- what is asked of an entry to walk past it: its quantity and the width of its value
+pub record Size : Type 0 where
+  pub quantity : ℕ
+  pub width : ℕ
 
--- The program's answer about one entry: its quantity and the width of its value, or the number.
-abbrev pub triedShown : Answer Entry → Tried
+abbrev pub sizeOf : List ℕ → Size
+sizeOf s = record { quantity = quantityOf (at s 1); width = widthOf (at s 0) }
+
+-- the size of the entry that the list begins with, or what 11, 12 and 13 say of it
+abbrev pub tried : List ℕ → Answer Size
+tried s = refuse 11 (unfit s) (refuse 12 (wrongDigit s) (refuse 13 (wrongTime s) (reads (sizeOf s))))
+
+-- The program's answer for each answer about one entry.
+abbrev pub triedShown : Answer Size → Tried
 triedShown (refusal n) = Tried.Refused n
-triedShown (reads e) = Tried.Passed (quantityOf (e .unit)) (widthOf (e .structure))
+triedShown (reads z) = Tried.Passed (z .quantity) (z .width)
+
+pub triedShown-same : (a b : Answer Size) → triedShown a ≡ triedShown b → a ≡ b
+triedShown-same (refusal m) (refusal n) e = cc
+triedShown-same (refusal m) (reads z) e = cc
+triedShown-same (reads y) (refusal n) e = cc
+triedShown-same (reads y) (reads z) e =
+    let q : y .quantity ≡ z .quantity = cc in
+    let w : y .width ≡ z .width = cc in
+    λ i. reads (record { quantity = q i; width = w i })
 
 -- The program's answer for each answer about entries.
 abbrev pub entriesShown : Answer (List Entry) → Entries
 entriesShown (refusal n) = record { outcome = Refused n; count = 0; entries = replicate 7 blankEntry }
 entriesShown (reads done) = record { outcome = Accepted; count = length done; entries = done ++ replicate (7 - length done) blankEntry }
 
--- The next entry where the quantities so far are marked: 11 to 15.
-abbrev pub nextOf : List ℕ → List Bool → ℕ → Answer Entry
+-- The next entry's size where the quantities so far are marked: 11 to 15.
+abbrev pub nextOf : List ℕ → List Bool → ℕ → Answer Size
 nextOf s marks count =
     refuse 11 (unfit s)
     (refuse 12 (wrongDigit s)
     (refuse 13 (wrongTime s)
     (refuse 14 (getD marks (quantityOf (at s 1)) false)
     (refuse 15 (eqb count 7)
-    (reads (entryOf s))))))
+    (reads (sizeOf s))))))
 
 -- 16 by the marks
 abbrev pub unmarked : List Bool → Bool
 unmarked marks =
     not (getD marks energy false) || not (getD marks volume false) || not (getD marks inlet false) || not (getD marks outlet false)
     || not (getD marks time false)
-
-pub width-few : (st : ℕ) → widthOf st ≤ 6
-unfolding widthOf
-width-few st = go (eqb st 0x0A) (eqb st 0x0B) (eqb st 0x0C) (eqb st 0x0E) (eqb st 0x06)
-  where
-    go : (a b c d e : Bool) → cond a 2 (cond b 3 (cond c 4 (cond d 6 (cond e 6 0)))) ≤ 6
-    go true b c d e = omega arith
-    go false true c d e = omega arith
-    go false false true d e = omega arith
-    go false false false true e = omega arith
-    go false false false false true = omega arith
-    go false false false false false = omega arith
 
 pub or-false-right : (a b : Bool) → (a || b) ≡ false → b ≡ false
 or-false-right true b e = absurd (true≢false e)
@@ -92,7 +98,7 @@ value-cut rest {w} e =
 abbrev pub pick : ℕ → Bool → Tried → Tried
 pick n test next = cond test (Tried.Refused n) next
 
-shown-refuse : (n : ℕ) (test : Bool) (a : Answer Entry) → triedShown (refuse n test a) ≡ pick n test (triedShown a)
+shown-refuse : (n : ℕ) (test : Bool) (a : Answer Size) → triedShown (refuse n test a) ≡ pick n test (triedShown a)
 shown-refuse n true a = refl
 shown-refuse n false a = refl
 
@@ -120,11 +126,11 @@ pub tried-number : (s : List ℕ) → 2 ≤ length s → isTime (at s 1) ≡ fal
 unfolding paired
 tried-number s h t = rw (t, le-ltb (length s) 2 h) (go _ (isPacked (at s 0) && ltb (quantityOf (at s 1)) unknown) (ltb (length s) (entryWidth s)) (any overNine (valueBytes s)))
   where
-    go : (e : Entry) (p w d : Bool) → triedShown (refuse 11 (not p || w) (refuse 12 d (reads e))) ≡ pick 11 (not p) (pick 11 w (pick 12 d (Tried.Passed (quantityOf (e .unit)) (widthOf (e .structure)))))
-    go e false w d = refl
-    go e true true d = refl
-    go e true false true = refl
-    go e true false false = refl
+    go : (z : Size) (p w d : Bool) → triedShown (refuse 11 (not p || w) (refuse 12 d (reads z))) ≡ pick 11 (not p) (pick 11 w (pick 12 d (Tried.Passed (z .quantity) (z .width))))
+    go z false w d = refl
+    go z true true d = refl
+    go z true false true = refl
+    go z true false false = refl
 
 -- packed digits are as many bytes as the structure is over 8
 pub packed-width : (st : ℕ) → isPacked st ≡ true → (8 ≤ st) × (widthOf st ≡ st - 8)
@@ -222,8 +228,8 @@ entry-built s es eu ev eb = λ i. record { structure = es i; unit = eu i; value 
 pub refused-next : (s : List ℕ) (marks : List Bool) (count n : ℕ) → triedShown (tried s) ≡ Tried.Refused n → triedShown (nextOf s marks count) ≡ Tried.Refused n
 refused-next s marks count n = go (unfit s) (wrongDigit s) (wrongTime s)
   where
-    go : (a b c : Bool) → triedShown (refuse 11 a (refuse 12 b (refuse 13 c (reads (entryOf s))))) ≡ Tried.Refused n
-        → triedShown (refuse 11 a (refuse 12 b (refuse 13 c (refuse 14 (getD marks (quantityOf (at s 1)) false) (refuse 15 (eqb count 7) (reads (entryOf s))))))) ≡ Tried.Refused n
+    go : (a b c : Bool) → triedShown (refuse 11 a (refuse 12 b (refuse 13 c (reads (sizeOf s))))) ≡ Tried.Refused n
+        → triedShown (refuse 11 a (refuse 12 b (refuse 13 c (refuse 14 (getD marks (quantityOf (at s 1)) false) (refuse 15 (eqb count 7) (reads (sizeOf s))))))) ≡ Tried.Refused n
     go true b c e = e
     go false true c e = e
     go false false true e = e
@@ -233,7 +239,7 @@ refused-next s marks count n = go (unfit s) (wrongDigit s) (wrongTime s)
 pub record Passing (s : List ℕ) (marks : List Bool) (count q w : ℕ) : Type 0 where
   pub quantity : q ≡ quantityOf (at s 1)
   pub width : w ≡ widthOf (at s 0)
-  pub next : nextOf s marks count ≡ refuse 14 (getD marks q false) (refuse 15 (eqb count 7) (reads (entryOf s)))
+  pub next : nextOf s marks count ≡ refuse 14 (getD marks q false) (refuse 15 (eqb count 7) (reads (sizeOf s)))
 
 pub passed-next : (s : List ℕ) (marks : List Bool) (count q w : ℕ) → triedShown (tried s) ≡ Tried.Passed q w → Passing s marks count q w
 passed-next s marks count q w = go (unfit s) (wrongDigit s) (wrongTime s) refl refl refl
@@ -243,13 +249,13 @@ passed-next s marks count q w = go (unfit s) (wrongDigit s) (wrongTime s) refl r
       quantity = eq;
       width = ew;
       next =
-          ap (λ (t : Bool). refuse 11 t (refuse 12 (wrongDigit s) (refuse 13 (wrongTime s) (refuse 14 (getD marks (quantityOf (at s 1)) false) (refuse 15 (eqb count 7) (reads (entryOf s))))))) a
-          ∙ ap (λ (t : Bool). refuse 12 t (refuse 13 (wrongTime s) (refuse 14 (getD marks (quantityOf (at s 1)) false) (refuse 15 (eqb count 7) (reads (entryOf s)))))) b
-          ∙ ap (λ (t : Bool). refuse 13 t (refuse 14 (getD marks (quantityOf (at s 1)) false) (refuse 15 (eqb count 7) (reads (entryOf s))))) c
-          ∙ ap (λ (k : ℕ). refuse 14 (getD marks k false) (refuse 15 (eqb count 7) (reads (entryOf s)))) (sym eq);
+          ap (λ (t : Bool). refuse 11 t (refuse 12 (wrongDigit s) (refuse 13 (wrongTime s) (refuse 14 (getD marks (quantityOf (at s 1)) false) (refuse 15 (eqb count 7) (reads (sizeOf s))))))) a
+          ∙ ap (λ (t : Bool). refuse 12 t (refuse 13 (wrongTime s) (refuse 14 (getD marks (quantityOf (at s 1)) false) (refuse 15 (eqb count 7) (reads (sizeOf s)))))) b
+          ∙ ap (λ (t : Bool). refuse 13 t (refuse 14 (getD marks (quantityOf (at s 1)) false) (refuse 15 (eqb count 7) (reads (sizeOf s))))) c
+          ∙ ap (λ (k : ℕ). refuse 14 (getD marks k false) (refuse 15 (eqb count 7) (reads (sizeOf s)))) (sym eq);
     }
 
-    go : (a b c : Bool) → unfit s ≡ a → wrongDigit s ≡ b → wrongTime s ≡ c → triedShown (refuse 11 a (refuse 12 b (refuse 13 c (reads (entryOf s))))) ≡ Tried.Passed q w → Passing s marks count q w
+    go : (a b c : Bool) → unfit s ≡ a → wrongDigit s ≡ b → wrongTime s ≡ c → triedShown (refuse 11 a (refuse 12 b (refuse 13 c (reads (sizeOf s))))) ≡ Tried.Passed q w → Passing s marks count q w
     go true b c ea eb ec e = let z : _≡_ {A = ℕ} 0 1 = cc in absurd (omega arith)
     go false true c ea eb ec e = let z : _≡_ {A = ℕ} 0 1 = cc in absurd (omega arith)
     go false false true ea eb ec e = let z : _≡_ {A = ℕ} 0 1 = cc in absurd (omega arith)
@@ -275,7 +281,7 @@ quantity-few u =
 -- reading entries is reading the next one, by marks for the entries so far, and then the others
 entries-step : (left b : ℕ) (s : List ℕ) (done : List Entry) (marks : List Bool) → seen (quantityOf (at (b ∷ s) 1)) done ≡ getD marks (quantityOf (at (b ∷ s) 1)) false
     → readEntries (suc left) (b ∷ s) done
-    ≡ follow (nextOf (b ∷ s) marks (length done)) (λ (e : Entry). readEntries left (drop (entryWidth (b ∷ s)) (b ∷ s)) (done ++ (e ∷ [])))
+    ≡ follow (nextOf (b ∷ s) marks (length done)) (λ (z : Size). readEntries left (drop (entryWidth (b ∷ s)) (b ∷ s)) (done ++ (entryOf (b ∷ s) ∷ [])))
 unfolding readEntries
 entries-step left b s done marks link = rw link (sym (simp follow-refuse))
 
@@ -310,7 +316,7 @@ module _ {rest : List ℕ} {at count : ℕ} {marks : List Bool} {entries : List 
 
   walked-step : at < length rest
       → readEntries 8 (map byteOf rest) []
-      ≡ follow (nextOf here marks count) (λ (e : Entry). readEntries (7 - count) (drop (entryWidth here) here) (take count entries ++ (e ∷ [])))
+      ≡ follow (nextOf here marks count) (λ (z : Size). readEntries (7 - count) (drop (entryWidth here) here) (take count entries ++ (entryOf here ∷ [])))
   walked-step h =
       let more : 8 - count ≡ suc (7 - count) = omega (arith, w .few) in
       let begins : map byteOf (drop at rest) ≡ byteOf (Lists.at rest at) ∷ map byteOf (drop (suc at) rest) = ap (map byteOf) (drop-cons rest at 0 h) in
@@ -318,22 +324,22 @@ module _ {rest : List ℕ} {at count : ℕ} {marks : List Bool} {entries : List 
       ∙ ap₂ (λ (n : ℕ) (s : List ℕ). readEntries n s (take count entries)) more begins
       ∙ entries-step (7 - count) (byteOf (Lists.at rest at)) (map byteOf (drop (suc at) rest)) (take count entries) marks
       (sym (w .link _ (quantity-few _)))
-      ∙ ap₂ (λ (n : ℕ) (s : List ℕ). follow (nextOf s marks n) (λ (e : Entry). readEntries (7 - count) (drop (entryWidth s) s) (take count entries ++ (e ∷ [])))) length-done (sym begins)
+      ∙ ap₂ (λ (n : ℕ) (s : List ℕ). follow (nextOf s marks n) (λ (z : Size). readEntries (7 - count) (drop (entryWidth s) s) (take count entries ++ (entryOf s ∷ [])))) length-done (sym begins)
 
   pub walked-refused : at < length rest → (n : ℕ) → nextOf here marks count ≡ refusal n → readEntries 8 (map byteOf rest) [] ≡ refusal n
   walked-refused h n e =
-      walked-step h ∙ ap (λ (a : Answer Entry). follow a (λ (e : Entry). readEntries (7 - count) (drop (entryWidth here) here) (take count entries ++ (e ∷ [])))) e
+      walked-step h ∙ ap (λ (a : Answer Size). follow a (λ (z : Size). readEntries (7 - count) (drop (entryWidth here) here) (take count entries ++ (entryOf here ∷ [])))) e
 
-next-reads : (s : List ℕ) (marks : List Bool) (count : ℕ) (e : Entry) → nextOf s marks count ≡ reads e → (e ≡ entryOf s) × (unfit s ≡ false) × (eqb count 7 ≡ false)
-next-reads s marks count e = go (unfit s) (wrongDigit s) (wrongTime s) (getD marks (quantityOf (at s 1)) false) (eqb count 7)
+next-reads : (s : List ℕ) (marks : List Bool) (count : ℕ) (z : Size) → nextOf s marks count ≡ reads z → (unfit s ≡ false) × (eqb count 7 ≡ false)
+next-reads s marks count z = go (unfit s) (wrongDigit s) (wrongTime s) (getD marks (quantityOf (at s 1)) false) (eqb count 7)
   where
-    go : (a b c d f : Bool) → refuse 11 a (refuse 12 b (refuse 13 c (refuse 14 d (refuse 15 f (reads (entryOf s)))))) ≡ reads e → (e ≡ entryOf s) × (a ≡ false) × (f ≡ false)
+    go : (a b c d f : Bool) → refuse 11 a (refuse 12 b (refuse 13 c (refuse 14 d (refuse 15 f (reads (sizeOf s)))))) ≡ reads z → (a ≡ false) × (f ≡ false)
     go true b c d f q = let z : _≡_ {A = ℕ} 0 1 = cc in absurd (omega arith)
     go false true c d f q = let z : _≡_ {A = ℕ} 0 1 = cc in absurd (omega arith)
     go false false true d f q = let z : _≡_ {A = ℕ} 0 1 = cc in absurd (omega arith)
     go false false false true f q = let z : _≡_ {A = ℕ} 0 1 = cc in absurd (omega arith)
     go false false false false true q = let z : _≡_ {A = ℕ} 0 1 = cc in absurd (omega arith)
-    go false false false false false q = (cc, refl, refl)
+    go false false false false false q = (refl, refl)
 
 -- one more entry is marked
 mark-more : (marks : List Bool) (done : List Entry) (e : Entry) → length marks ≡ 8 → ((q : ℕ) → q < 8 → getD marks q false ≡ seen q done)
@@ -357,36 +363,34 @@ one-less count entries h e =
     let k : 7 - count ≡ suc (7 - (count + 1)) = omega arith in
     sym (drop-drop 1 count entries) ∙ ap (drop 1) (e ∙ ap (λ (n : ℕ). replicate n blankEntry) k)
 
-module _ {rest : List ℕ} {at count : ℕ} {marks : List Bool} {entries : List Entry} (w : Walked rest at count marks entries) (h : at < length rest) (e : Entry)
-    (q : nextOf (map byteOf (drop at rest)) marks count ≡ reads e) where
-  past : entryWidth (map byteOf (drop at rest)) ≡ 2 + widthOf (e .structure)
-  past = ap (λ (x : Entry). 2 + widthOf (x .structure)) (sym (next-reads (map byteOf (drop at rest)) marks count e q .0))
+module _ {rest : List ℕ} {at count : ℕ} {marks : List Bool} {entries : List Entry} (w : Walked rest at count marks entries) (h : at < length rest) (z : Size)
+    (q : nextOf (map byteOf (drop at rest)) marks count ≡ reads z) where
+  abbrev now : List ℕ
+  now = map byteOf (drop at rest)
 
-  taken : take (count + 1) (set entries count e) ≡ take count entries ++ (e ∷ [])
-  taken = rw add-one (take-suc-set entries count e (omega (arith, w .held, eqb-false count 7 (next-reads (map byteOf (drop at rest)) marks count e q .2), w .few)))
+  taken : take (count + 1) (set entries count (entryOf now)) ≡ take count entries ++ (entryOf now ∷ [])
+  taken = rw add-one (take-suc-set entries count (entryOf now) (omega (arith, w .held, eqb-false count 7 (next-reads now marks count z q .1), w .few)))
 
   pub walked-below : count < 7
-  walked-below = let n : count ≡ 7 → ⊥ = eqb-false count 7 (next-reads (map byteOf (drop at rest)) marks count e q .2) in omega (arith, w .few)
+  walked-below = let n : count ≡ 7 → ⊥ = eqb-false count 7 (next-reads now marks count z q .1) in omega (arith, w .few)
 
-  pub walked-inside : at + (2 + widthOf (e .structure)) ≤ length rest
-  walked-inside =
-      omega (arith, fit-inside (drop at rest) (next-reads (map byteOf (drop at rest)) marks count e q .1), past, length-drop at rest)
+  pub walked-inside : at + entryWidth now ≤ length rest
+  walked-inside = omega (arith, fit-inside (drop at rest) (next-reads now marks count z q .0), length-drop at rest)
 
-  pub walked-next : Walked rest (at + (2 + widthOf (e .structure))) (count + 1) (set marks (quantityOf (e .unit)) true) (set entries count e)
+  pub walked-next : Walked rest (at + entryWidth now) (count + 1) (set marks (quantityOf (Lists.at now 1)) true) (set entries count (entryOf now))
   walked-next = record {
     inside = walked-inside;
     few = omega (arith, walked-below);
-    held = length-set entries count e ∙ w .held;
-    blanks = drop-set-lt (count + 1) entries count e (omega arith) ∙ one-less count entries walked-below (w .blanks);
-    marked = length-set marks (quantityOf (e .unit)) true ∙ w .marked;
-    link = rw taken (mark-more marks (take count entries) e (w .marked) (w .link));
+    held = length-set entries count (entryOf now) ∙ w .held;
+    blanks = drop-set-lt (count + 1) entries count (entryOf now) (omega arith) ∙ one-less count entries walked-below (w .blanks);
+    marked = length-set marks (quantityOf (Lists.at now 1)) true ∙ w .marked;
+    link = rw taken (mark-more marks (take count entries) (entryOf now) (w .marked) (w .link));
     so =
         rw taken
-        (ap₂ (λ (n : ℕ) (s : List ℕ). readEntries n s (take count entries ++ (e ∷ [])))
+        (ap₂ (λ (n : ℕ) (s : List ℕ). readEntries n s (take count entries ++ (entryOf now ∷ [])))
         (omega arith)
-        (sym (ap (λ (n : ℕ). drop n (map byteOf (drop at rest))) past ∙ sym (map-drop byteOf (2 + widthOf (e .structure)) (drop at rest))
-        ∙ ap (map byteOf) (drop-drop (2 + widthOf (e .structure)) at rest)))
-        ∙ sym (walked-step w h ∙ ap (λ (a : Answer Entry). follow a (λ (x : Entry). readEntries (7 - count) (drop (entryWidth (map byteOf (drop at rest))) (map byteOf (drop at rest))) (take count entries ++ (x ∷ [])))) q));
+        (sym (sym (map-drop byteOf (entryWidth now) (drop at rest)) ∙ ap (map byteOf) (drop-drop (entryWidth now) at rest)))
+        ∙ sym (walked-step w h ∙ ap (λ (a : Answer Size). follow a (λ (y : Size). readEntries (7 - count) (drop (entryWidth now) now) (take count entries ++ (entryOf now ∷ [])))) q));
   }
 
 module _ {rest : List ℕ} {at count : ℕ} {marks : List Bool} {entries : List Entry} (w : Walked rest at count marks entries) where
@@ -405,8 +409,8 @@ module _ {rest : List ℕ} {at count : ℕ} {marks : List Bool} {entries : List 
   pub walked-missing : length rest ≤ at → unmarked marks ≡ true → readEntries 8 (map byteOf rest) [] ≡ refusal 16
   walked-missing h e = walked-all h ∙ ap (λ (t : Bool). refuse 16 t (reads (take count entries))) e
 
-  pub walked-accepted : length rest ≤ at → unmarked marks ≡ false → outcomeOf (readEntries 8 (map byteOf rest) []) ≡ Accepted
-  walked-accepted h e = ap outcomeOf (walked-all h ∙ ap (λ (t : Bool). refuse 16 t (reads (take count entries))) e)
+  pub walked-accepted : length rest ≤ at → unmarked marks ≡ false → outcomeShown (alone (readEntries 8 (map byteOf rest) [])) ≡ Accepted
+  walked-accepted h e = ap (λ (a : Answer (List Entry)). outcomeShown (alone a)) (walked-all h ∙ ap (λ (t : Bool). refuse 16 t (reads (take count entries))) e)
 
   pub walked-whole : length rest ≤ at → unmarked marks ≡ false
       → _≡_ {A = Entries} (record { outcome = Accepted; count = count; entries = entries }) (entriesShown (readEntries 8 (map byteOf rest) []))
@@ -418,11 +422,11 @@ module _ {rest : List ℕ} {at count : ℕ} {marks : List Bool} {entries : List 
 
 -- what the answer about the next entry says
 pub next-passed : (s : List ℕ) (marks : List Bool) (count q w : ℕ) → triedShown (nextOf s marks count) ≡ Tried.Passed q w
-    → (nextOf s marks count ≡ reads (entryOf s)) × (q ≡ quantityOf (at s 1)) × (w ≡ widthOf (at s 0)) × (unfit s ≡ false)
+    → (nextOf s marks count ≡ reads (sizeOf s)) × (q ≡ quantityOf (at s 1)) × (w ≡ widthOf (at s 0)) × (unfit s ≡ false)
 next-passed s marks count q w = go (unfit s) (wrongDigit s) (wrongTime s) (getD marks (quantityOf (at s 1)) false) (eqb count 7)
   where
-    go : (a b c d f : Bool) → triedShown (refuse 11 a (refuse 12 b (refuse 13 c (refuse 14 d (refuse 15 f (reads (entryOf s))))))) ≡ Tried.Passed q w
-        → (refuse 11 a (refuse 12 b (refuse 13 c (refuse 14 d (refuse 15 f (reads (entryOf s)))))) ≡ reads (entryOf s)) × (q ≡ quantityOf (at s 1)) × (w ≡ widthOf (at s 0)) × (a ≡ false)
+    go : (a b c d f : Bool) → triedShown (refuse 11 a (refuse 12 b (refuse 13 c (refuse 14 d (refuse 15 f (reads (sizeOf s))))))) ≡ Tried.Passed q w
+        → (refuse 11 a (refuse 12 b (refuse 13 c (refuse 14 d (refuse 15 f (reads (sizeOf s)))))) ≡ reads (sizeOf s)) × (q ≡ quantityOf (at s 1)) × (w ≡ widthOf (at s 0)) × (a ≡ false)
     go true b c d f e = let z : _≡_ {A = ℕ} 0 1 = cc in absurd (omega arith)
     go false true c d f e = let z : _≡_ {A = ℕ} 0 1 = cc in absurd (omega arith)
     go false false true d f e = let z : _≡_ {A = ℕ} 0 1 = cc in absurd (omega arith)
@@ -430,7 +434,7 @@ next-passed s marks count q w = go (unfit s) (wrongDigit s) (wrongTime s) (getD 
     go false false false false true e = let z : _≡_ {A = ℕ} 0 1 = cc in absurd (omega arith)
     go false false false false false e = (refl, cc, cc, refl)
 
-pub next-refused : (a : Answer Entry) (n : ℕ) → triedShown a ≡ Tried.Refused n → a ≡ refusal n
+pub next-refused : (a : Answer Size) (n : ℕ) → triedShown a ≡ Tried.Refused n → a ≡ refusal n
 next-refused (refusal m) n q = cc
 next-refused (reads x) n q = let z : _≡_ {A = ℕ} 0 1 = cc in absurd (omega arith)
 
@@ -456,12 +460,12 @@ module _ {rest : List ℕ} {at count : ℕ} {marks : List Bool} {entries : List 
   turned {q} {v} p =
       let n = next-passed (map byteOf (drop at rest)) marks count q v (told ∙ p) in
       record {
-        below = walked-below w h (entryOf (map byteOf (drop at rest))) (n .0);
+        below = walked-below w h (sizeOf (map byteOf (drop at rest))) (n .0);
         few = rw (n .1) (quantity-few _);
-        narrow = rw (n .2) (width-few _);
-        inside = rw (n .2) (walked-inside w h (entryOf (map byteOf (drop at rest))) (n .0));
+        narrow = rw (n .2) (width-most _);
+        inside = rw (n .2) (walked-inside w h (sizeOf (map byteOf (drop at rest))) (n .0));
         fit = rw (rest-cut rest at) (n .3);
-        next = rw (rest-cut rest at, n .1, n .2) (walked-next w h (entryOf (map byteOf (drop at rest))) (n .0));
+        next = rw (rest-cut rest at, n .1, n .2) (walked-next w h (sizeOf (map byteOf (drop at rest))) (n .0));
       }
 
   pub halted : {n : ℕ} → x ≡ Tried.Refused n → readEntries 8 (map byteOf rest) [] ≡ refusal n

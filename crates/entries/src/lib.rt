@@ -5,11 +5,11 @@ ghost use mathlib.Core.List.{[], map};
 ghost use Prim.Native.Nat.{_+_, _≤_};
 ghost use lib.ListN.{length};
 ghost use Rattle.format.specs.Lists.{at};
-ghost use Rattle.format.specs.Answers.{refusal};
+ghost use Rattle.format.specs.Answers.{refusal, alone};
 ghost use Rattle.format.specs.Characters.{byteOf};
 ghost use Rattle.format.specs.Quantities.{isTime};
 ghost use Rattle.format.specs.Entries.{entryOf, entryWidth, unfit, valueOf, readEntries};
-ghost use Rattle.format.specs.Telegrams.{blankEntry, outcomeOf};
+ghost use Rattle.format.specs.Telegrams.{blankEntry, outcomeShown};
 ghost use Rattle.entries.specs.Walking.{Other, tried, triedShown, nextOf, entriesShown, unmarked};
 use format::Decimal;
 use format::Entry;
@@ -176,7 +176,7 @@ fn any_missing(marks: [bool; 8]) -> bool
 
 // What 11 to 16 say of the entries of the rest, from the left.
 pub fn check_entries(rest: &[u16]) -> Outcome
-    ensures { λ r. ⌜ r ≡ outcomeOf (readEntries 8 (map byteOf (now (rest .entry))) []) ⌝ }
+    ensures { λ r. ⌜ r ≡ outcomeShown (alone (readEntries 8 (map byteOf (now (rest .entry))) [])) ⌝ }
 {
     let mut marks = [false; 8];
     let mut count: usize = 0;

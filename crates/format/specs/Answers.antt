@@ -16,6 +16,10 @@ abbrev pub within : {A B : Type 0} → (A → B) → Answer A → Answer B
 within f (refusal n) = refusal n
 within f (reads a) = reads (f a)
 
+-- The number of a refusal, and nothing beside acceptance.
+abbrev pub alone : {A : Type 0} → Answer A → Answer (Unit {0})
+alone {A} = within (λ (a : A). tt)
+
 -- After an answer, the next rule: a refusal stays what it is, and a value is handed on.
 abbrev pub follow : {A B : Type 0} → Answer A → (A → Answer B) → Answer B
 follow (refusal n) next = refusal n

@@ -1,29 +1,14 @@
 -- The refusal chain 1 to 8, form by form.
 use Prim.Native.Nat.{ℕ, _+_, _-_, _%_}
 use mathlib.Core.Bool.{Bool, true, false, cond, not, _&&_, _||_}
-use mathlib.Core.List.{List, map}
-use mathlib.Core.Path.{_≡_, refl, sym, ap, _∙_}
+use mathlib.Core.List.{List}
+use mathlib.Core.Path.{_≡_, refl}
 use borrow.Author.Tests.{eq-eqb, ne-eqb}
 use lib.Dec.{ltb, eqb}
 use lib.ListN.{length, take, drop}
-use Rattle.format.specs.Lists.{at, any, total}
-use Rattle.format.specs.Characters.{over, odd, byteOf}
-use Rattle.format.specs.Answers.{Answer, reads, refusal, refuse, follow}
-use Rattle.format.specs.AnswerLaws.{follow-refuse, reads-same}
-use Rattle.format.specs.Tests.{passed}
-use Rattle.format.specs.Lines.{isAck, isShort, isLong, wrongStart, wrongCount, wrongLengths, wrongEnd, wrongSum, readFrame, readWith}
-
--- the body rules come after all others
-pub body-last : {A : Type 0} (body : List ℕ → Answer A) (s : List ℕ) → readWith body s ≡ follow (readWith reads s) body
-body-last body s = sym (simp follow-refuse)
-
--- a line that 1 to 8 leave is handed on as its bytes
-pub framed-bytes : (s b : List ℕ) → readWith reads s ≡ reads b → b ≡ map byteOf s
-framed-bytes s b e =
-    let f = map byteOf s in
-    let p3 = passed 3 (any odd s) _ b (passed 2 (any over s) _ b (passed 1 (eqb (length s) 0) _ b e .1) .1) .1 in
-    let p6 = passed 6 (wrongLengths f) _ b (passed 5 (wrongCount f) _ b (passed 4 (wrongStart f) _ b p3 .1) .1) .1 in
-    sym (reads-same (passed 8 (wrongSum f) _ b (passed 7 (wrongEnd f) _ b p6 .1) .1))
+use Rattle.format.specs.Lists.{at, total}
+use Rattle.format.specs.Answers.{Answer, reads, refusal, refuse}
+use Rattle.format.specs.Lines.{readFrame}
 
 module _ {A : Type 0} (body : List ℕ → Answer A) (b : List ℕ) where
   pub after-ack : at b 0 ≡ 0xE5 → readFrame body b ≡ refuse 5 (not (eqb (length b) 1)) (body b)

@@ -2,6 +2,7 @@
 -- decimal 0.
 use Prim.Native.Nat.{ℕ, _-_}
 use mathlib.Core.List.{List, [], _++_}
+use mathlib.Core.Path.{_≡_, refl}
 use lib.ListN.{length, replicate}
 use Rattle.format.specs.declared.Kind.{Kind}
 use Rattle.format.specs.declared.Kind.the-variants.{Ack, Read, Enter, Leave, Data}
@@ -50,10 +51,16 @@ dataOf a h done = record {
 abbrev pub blank : Telegram
 blank = ack
 
--- The outcome of each answer: accepted, or the number.
-abbrev pub outcomeOf : {A : Type 0} → Answer A → Outcome
-outcomeOf (refusal n) = Refused n
-outcomeOf (reads a) = Accepted
+-- The program's answer where only the number of a refusal is asked: accepted, or the number.
+abbrev pub outcomeShown : Answer (Unit {0}) → Outcome
+outcomeShown (refusal n) = Refused n
+outcomeShown (reads u) = Accepted
+
+pub outcomeShown-same : (a b : Answer (Unit {0})) → outcomeShown a ≡ outcomeShown b → a ≡ b
+outcomeShown-same (refusal m) (refusal n) e = cc
+outcomeShown-same (refusal m) (reads v) e = cc
+outcomeShown-same (reads u) (refusal n) e = cc
+outcomeShown-same (reads u) (reads v) e = refl
 
 -- The program's answer for each answer of reading: the number alone, or the telegram.
 abbrev pub shown : Answer Telegram → Reading

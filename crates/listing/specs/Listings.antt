@@ -13,7 +13,7 @@ use Rattle.format.specs.declared.View.{View}
 use Rattle.format.specs.declared.View.the-variants.{Refused, Ack, Asks, Data}
 use Rattle.clock.specs.Wakes.{wakeCharacter, outside}
 use Rattle.bundle.specs.declared.Row.{Row}
-use Rattle.bundle.specs.Bodies.{charactersOf}
+use Rattle.format.specs.Host.{chars}
 use Rattle.bundle.specs.Bundles.{contentsOf, checkOf}
 use Rattle.listing.specs.Texts.{text, decimal}
 
@@ -55,7 +55,7 @@ abbrev pub bodyIn : List ℕ → Row → List ℕ
 bodyIn b r = take (r .length) (drop (r .offset) b)
 
 abbrev pub lineFor : List ℕ → Row → List ℕ
-lineFor b r = rowText (r .position) (r .direction) (r .time) (wordOf (charactersOf (bodyIn b r)))
+lineFor b r = rowText (r .position) (r .direction) (r .time) (wordOf (chars (bodyIn b r)))
 
 -- the rows in order
 unfoldable pub linesFor : List ℕ → List Row → List ℕ

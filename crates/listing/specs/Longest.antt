@@ -25,7 +25,7 @@ use Rattle.format.specs.Views.{viewOf, viewed}
 use Rattle.bundle.specs.declared.Row.{Row}
 use Rattle.bundle.specs.Numbers.{number}
 use Rattle.bundle.specs.Rows.{mostRows, wrongRows, wrongPlaces, bodiesEnd, firstOffset, rowOf, blankRow, row-at, length-rows}
-use Rattle.bundle.specs.Bodies.{charactersOf}
+use Rattle.format.specs.Host.{chars}
 use Rattle.bundle.specs.Bundles.{mostBytes, countOf, contentsOf, bodiesOf, checkOf}
 use Rattle.bundle.specs.Accepted.{Sound, accepted-sound}
 use Rattle.listing.specs.Texts.{text, digitsIn, decimal, lastDigit}
@@ -115,7 +115,7 @@ check-small b =
     (tried 34 (wrongRows 0 (contentsOf b)) (omega arith)
     (tried 35 (wrongPlaces (length b) first (contentsOf b)) (omega arith)
     (tried 36 (ltb (bodiesEnd first (contentsOf b)) (length b)) (omega arith)
-    (tried 37 (any over (charactersOf (bodiesOf b))) (omega arith) (value (countOf b)))))))))
+    (tried 37 (any over (chars (bodiesOf b))) (omega arith) (value (countOf b)))))))))
 
 -- ---- the words
 refused-short : (n : ℕ) → n < 100 → length (refusedText n) ≤ 10
@@ -187,8 +187,8 @@ longest b bytes = go refl (check-small b)
         let s = accepted-sound b n e in
         let lower : i < countOf b = omega (arith, length-rows (countOf b) (drop 2 b)) in
         let r : Row = getD (contentsOf b) i blankRow in
-        row-short (r .position) (r .direction) (r .time) (wordOf (charactersOf (bodyIn b r)))
-        (omega (arith, row-range b i (s .0) lower .0)) (time i lower) (line-short (charactersOf (bodyIn b r)))
+        row-short (r .position) (r .direction) (r .time) (wordOf (chars (bodyIn b r)))
+        (omega (arith, row-range b i (s .0) lower .0)) (time i lower) (line-short (chars (bodyIn b r)))
 
     go : {a : Answer ℕ} → checkOf b ≡ a → Small a → length (listed b a) ≤ 15901
     go e (low n h) = omega (arith, length-append (refusedText n) (text "\n"), refused-short n h)

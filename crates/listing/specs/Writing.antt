@@ -7,7 +7,8 @@ use native.Mathlib.Omega.{arith}
 use lib.ListN.{length, take, drop, set, replicate, length-set, length-append}
 use lib.Seq.{take-at, take-suc, take-all, take-suc-set, length-take-le}
 use Rattle.format.specs.Lists.{at}
-use Rattle.bundle.specs.Bodies.{charactersOf, length-characters, character-at}
+use Rattle.format.specs.Host.{chars}
+use Rattle.bundle.specs.Bodies.{length-characters, character-at}
 use Rattle.listing.specs.declared.texts.Line.{Line}
 
 -- bytes stand from a place on
@@ -35,7 +36,7 @@ pub record Taken (body : List ℕ) (i : ℕ) (line : List ℕ) : Type 0 where
   pub inside : i ≤ length body / 2
   pub room : length body ≤ 1004
   pub same : length line ≡ 502
-  pub so : take i line ≡ take i (charactersOf body)
+  pub so : take i line ≡ take i (chars body)
 
 pub taken-none : (body : List ℕ) → length body ≤ 1004 → Taken body 0 (replicate 502 0)
 taken-none body h = record { inside = zero-le; room = h; same = refl; so = refl }
@@ -49,10 +50,10 @@ module _ {body : List ℕ} {i : ℕ} {line : List ℕ} where
     so =
         rw (add-one i, take-suc-set line i (at body (2 * i) + 256 * at body (2 * i + 1)) (omega (arith, g .room, g .same)))
         (ap₂ (λ (l : List ℕ) (c : ℕ). l ++ (c ∷ [])) (g .so) (sym (character-at body i h))
-        ∙ sym (take-suc (charactersOf body) i 0 (omega (arith, length-characters body))));
+        ∙ sym (take-suc (chars body) i 0 (omega (arith, length-characters body))));
   }
 
-  pub taken-all : Taken body i line → length body / 2 ≤ i → take (length body / 2) line ≡ charactersOf body
+  pub taken-all : Taken body i line → length body / 2 ≤ i → take (length body / 2) line ≡ chars body
   taken-all g h =
       let all : i ≡ length body / 2 = omega (arith, g .inside) in
-      rw (← all) (g .so ∙ take-all i (charactersOf body) (omega (arith, length-characters body)))
+      rw (← all) (g .so ∙ take-all i (chars body) (omega (arith, length-characters body)))

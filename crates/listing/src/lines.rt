@@ -4,7 +4,7 @@ ghost use mathlib.Core.List.{_++_};
 ghost use Prim.Native.Nat.{_+_, _*_, _/_, _≤_};
 ghost use lib.ListN.{length, take, drop};
 ghost use Rattle.format.specs.Answers.{reads};
-ghost use Rattle.bundle.specs.Bodies.{charactersOf};
+ghost use Rattle.format.specs.Host.{chars};
 ghost use Rattle.bundle.specs.Bundles.{contentsOf, checkOf};
 ghost use Rattle.bundle.specs.Rows.{rowIn};
 ghost use Rattle.listing.specs.Texts.{text};
@@ -29,7 +29,7 @@ use views::view_of;
 // The characters of a body, in the first places.
 fn characters(body: &[u8]) -> [u16; 502]
     requires { ⌜ length (now body) ≤ 1004 ⌝ }
-    ensures { λ r. ⌜ (length r ≡ 502) × (take (length (now (body .entry)) / 2) r ≡ charactersOf (now (body .entry))) ⌝ }
+    ensures { λ r. ⌜ (length r ≡ 502) × (take (length (now (body .entry)) / 2) r ≡ chars (now (body .entry))) ⌝ }
 {
     let mut line = [0u16; 502];
     for i in 0..body.len() / 2 {
@@ -115,7 +115,7 @@ fn line_of(position: u8, direction: u8, time: u32, word: Line) -> Line
 // The word for a body.
 fn word_in(body: &[u8]) -> Line
     requires { ⌜ length (now body) ≤ 1004 ⌝ }
-    ensures { λ r. ⌜ Holds 18 r (wordOf (charactersOf (now (body .entry)))) ⌝ }
+    ensures { λ r. ⌜ Holds 18 r (wordOf (chars (now (body .entry)))) ⌝ }
 {
     let count = body.len() / 2;
     let line = characters(body);

@@ -18,22 +18,22 @@ use Rattle.format.specs.declared.Reading.{Reading}
 use Rattle.format.specs.Lists.{at, any}
 use Rattle.format.specs.ListLaws.{map-take, map-drop}
 use Rattle.format.specs.Characters.{over, odd, byteOf}
-use Rattle.format.specs.Answers.{Answer, reads, refusal, refuse, within, follow}
+use Rattle.format.specs.Answers.{Answer, reads, refusal, refuse, within, follow, alone}
 use Rattle.format.specs.AnswerLaws.{follow-refuse, reads-same}
 use Rattle.format.specs.Headers.{headerOf, wrongHeader}
 use Rattle.format.specs.Entries.{readEntries}
-use Rattle.format.specs.Telegrams.{ack, dataOf, shown, outcomeOf}
+use Rattle.format.specs.Telegrams
+use Rattle.format.specs.Telegrams.{dataOf, shown, outcomeShown}
 use Rattle.format.specs.Host.{lineNumber}
 use Rattle.format.specs.Tests.{passed}
 use Rattle.format.specs.Lines.{isAck, isShort, isLong, isData, wrongStart, wrongCount, wrongLengths, wrongEnd, wrongSum, readData, readShort, readLong, readBody, readFrame, readWith, readLine}
 use Rattle.format.specs.Frames
-use Rattle.format.specs.Frames.{Form, form}
 use Rattle.format.specs.LineCode.{framed}
 use Rattle.entries.specs.Walking.{entriesShown, rest-cut}
 use Rattle.entries.specs.declared.Entries.{Entries}
 use Rattle.reading.specs.declared.frame.Frame.{Frame}
 use Rattle.reading.specs.declared.frame.Frame.the-variants.{Ack, Short, Long, Refused}
-use Rattle.reading.specs.Forms.{frameShown, pick, line-is}
+use Rattle.reading.specs.Forms.{ack, short, long, form, frameShown, pick, line-is}
 
 -- ---- the data telegram
 
@@ -86,8 +86,12 @@ module _ (a : ℕ) (part : List ℕ) (x : Entries) (e : x ≡ entriesShown (read
 
 -- ---- past 8, by the form
 
-frame-last : (b : List ℕ) → readFrame readBody b ≡ follow (readFrame reads b) readBody
-frame-last b = sym (simp follow-refuse)
+frame-last : {A : Type 0} (body : List ℕ → Answer A) (b : List ℕ) → readFrame body b ≡ follow (readFrame reads b) body
+frame-last body b = sym (simp follow-refuse)
+
+-- what is shown of a line, by what 4 to 8 say of it
+shown-last : (b : List ℕ) {x : Answer (List ℕ)} → readFrame reads b ≡ x → frameShown (readFrame form b) ≡ frameShown (follow x form)
+shown-last b e = ap frameShown (frame-last form b) ∙ ap (λ (a : Answer (List ℕ)). frameShown (follow a form)) e
 
 -- what 4 to 8 leave is handed on as it is
 handed-on : (b x : List ℕ) → readFrame reads b ≡ reads x → b ≡ x
@@ -102,35 +106,38 @@ view b = go (readFrame reads b) refl
     go (refusal n) e = inl (n, e)
     go (reads x) e = inr (e ∙ ap reads (sym (handed-on b x e)))
 
-pub frame-refused : (b : List ℕ) (n : ℕ) → frameShown (readFrame reads b) ≡ Refused n → readFrame readBody b ≡ refusal n
-frame-refused b n e = frame-last b ∙ go (view b)
+abbrev formBy : Bool → Bool → Frame
+formBy t u = frameShown (reads (cond t ack (cond u short long)))
+
+pub frame-refused : (b : List ℕ) (n : ℕ) → frameShown (readFrame form b) ≡ Refused n → readFrame readBody b ≡ refusal n
+frame-refused b n e = frame-last readBody b ∙ go (view b)
   where
-    never : (t u : Bool) → cond t Ack (cond u Short Long) ≡ Refused n → ⊥
+    never : (t u : Bool) → formBy t u ≡ Refused n → ⊥
     never true u q = let z : _≡_ {A = ℕ} 0 1 = cc in omega arith
     never false true q = let z : _≡_ {A = ℕ} 0 1 = cc in omega arith
     never false false q = let z : _≡_ {A = ℕ} 0 1 = cc in omega arith
 
     go : ((m : ℕ) × (readFrame reads b ≡ refusal m)) ⊎ (readFrame reads b ≡ reads b) → follow (readFrame reads b) readBody ≡ refusal n
-    go (inl r) = let q : Refused (r .0) ≡ Refused n = sym (ap frameShown (r .1)) ∙ e in let z : r .0 ≡ n = cc in ap (λ (a : Answer (List ℕ)). follow a readBody) (r .1) ∙ ap refusal z
-    go (inr r) = absurd (never (isAck b) (isShort b) (sym (ap frameShown r) ∙ e))
+    go (inl r) = let q : Refused (r .0) ≡ Refused n = sym (shown-last b (r .1)) ∙ e in let z : r .0 ≡ n = cc in ap (λ (a : Answer (List ℕ)). follow a readBody) (r .1) ∙ ap refusal z
+    go (inr r) = absurd (never (isAck b) (isShort b) (sym (shown-last b r) ∙ e))
 
 -- a form that 4 to 8 leave
-module _ (b : List ℕ) (f : Frame) (left : (n : ℕ) → Refused n ≡ f → ⊥) (e : frameShown (readFrame reads b) ≡ f) where
+module _ (b : List ℕ) (f : Frame) (left : (n : ℕ) → Refused n ≡ f → ⊥) (e : frameShown (readFrame form b) ≡ f) where
   kept : readFrame reads b ≡ reads b
   kept = go (view b)
     where
       go : ((m : ℕ) × (readFrame reads b ≡ refusal m)) ⊎ (readFrame reads b ≡ reads b) → readFrame reads b ≡ reads b
-      go (inl r) = absurd (left (r .0) (sym (ap frameShown (r .1)) ∙ e))
+      go (inl r) = absurd (left (r .0) (sym (shown-last b (r .1)) ∙ e))
       go (inr r) = r
 
   body-is : readFrame readBody b ≡ readBody b
-  body-is = frame-last b ∙ ap (λ (a : Answer (List ℕ)). follow a readBody) kept
+  body-is = frame-last readBody b ∙ ap (λ (a : Answer (List ℕ)). follow a readBody) kept
 
-  form-is : cond (isAck b) Ack (cond (isShort b) Short Long) ≡ f
-  form-is = sym (ap frameShown kept) ∙ e
+  form-is : formBy (isAck b) (isShort b) ≡ f
+  form-is = sym (shown-last b kept) ∙ e
 
-  bytes-are : Form (isAck b) (isShort b) b
-  bytes-are = form b (framed reads b b kept)
+  bytes-are : Frames.Form (isAck b) (isShort b) b
+  bytes-are = Frames.form b (framed reads b b kept)
 
 no-ack : (n : ℕ) → Refused n ≡ Ack → ⊥
 no-ack n q = let z : _≡_ {A = ℕ} 0 1 = cc in omega arith
@@ -141,26 +148,26 @@ no-short n q = let z : _≡_ {A = ℕ} 0 1 = cc in omega arith
 no-long : (n : ℕ) → Refused n ≡ Long → ⊥
 no-long n q = let z : _≡_ {A = ℕ} 0 1 = cc in omega arith
 
-pub frame-ack : (b : List ℕ) → frameShown (readFrame reads b) ≡ Ack → readFrame readBody b ≡ reads ack
+pub frame-ack : (b : List ℕ) → frameShown (readFrame form b) ≡ Ack → readFrame readBody b ≡ reads Telegrams.ack
 unfolding readBody
 frame-ack b e = body-is b Ack no-ack e ∙ rw (isAck-is (isAck b) (isShort b) (form-is b Ack no-ack e))
   where
-    isAck-is : (t u : Bool) → cond t Ack (cond u Short Long) ≡ Ack → t ≡ true
+    isAck-is : (t u : Bool) → formBy t u ≡ Ack → t ≡ true
     isAck-is true u q = refl
     isAck-is false true q = let z : _≡_ {A = ℕ} 0 1 = cc in absurd (omega arith)
     isAck-is false false q = let z : _≡_ {A = ℕ} 0 1 = cc in absurd (omega arith)
 
-isShort-is : (t u : Bool) → cond t Ack (cond u Short Long) ≡ Short → (t ≡ false) × (u ≡ true)
+isShort-is : (t u : Bool) → formBy t u ≡ Short → (t ≡ false) × (u ≡ true)
 isShort-is true u q = let z : _≡_ {A = ℕ} 0 1 = cc in absurd (omega arith)
 isShort-is false true q = (refl, refl)
 isShort-is false false q = let z : _≡_ {A = ℕ} 0 1 = cc in absurd (omega arith)
 
-isLong-is : (t u : Bool) → cond t Ack (cond u Short Long) ≡ Long → (t ≡ false) × (u ≡ false)
+isLong-is : (t u : Bool) → formBy t u ≡ Long → (t ≡ false) × (u ≡ false)
 isLong-is true u q = let z : _≡_ {A = ℕ} 0 1 = cc in absurd (omega arith)
 isLong-is false true q = let z : _≡_ {A = ℕ} 0 1 = cc in absurd (omega arith)
 isLong-is false false q = (refl, refl)
 
-pub frame-short : (s : List ℕ) → frameShown (readFrame reads (map byteOf s)) ≡ Short
+pub frame-short : (s : List ℕ) → frameShown (readFrame form (map byteOf s)) ≡ Short
     → (length s ≡ 5) × (readFrame readBody (map byteOf s) ≡ readShort (map byteOf (take 2 (drop 1 s))))
 unfolding readBody
 frame-short s e =
@@ -172,7 +179,7 @@ frame-short s e =
     let bytes : Frames.Short b = rw (t .0, t .1) at (bytes-are b Short no-short e) in
     (sym (length-map s byteOf) ∙ bytes .count, body-is b Short no-short e ∙ rw (t .0, t .1, long, cut))
 
-pub frame-long : (s : List ℕ) → frameShown (readFrame reads (map byteOf s)) ≡ Long
+pub frame-long : (s : List ℕ) → frameShown (readFrame form (map byteOf s)) ≡ Long
     → (6 ≤ length s) × (readFrame readBody (map byteOf s) ≡ readLong (map byteOf (take (length s - 2 - 4) (drop 4 s))))
 unfolding readBody
 frame-long s e =
@@ -196,32 +203,32 @@ picked : (n : ℕ) (t : Bool) {x f : Frame} → ((m : ℕ) → Refused m ≡ f �
 picked n true left e = absurd (left n e)
 picked n false left e = (refl, e)
 
-past-three : (s : List ℕ) (f : Frame) → ((m : ℕ) → Refused m ≡ f → ⊥) → frameShown (readWith reads s) ≡ f
-    → (readLine s ≡ readFrame readBody (map byteOf s)) × (frameShown (readFrame reads (map byteOf s)) ≡ f)
+past-three : (s : List ℕ) (f : Frame) → ((m : ℕ) → Refused m ≡ f → ⊥) → frameShown (readWith form s) ≡ f
+    → (readLine s ≡ readFrame readBody (map byteOf s)) × (frameShown (readFrame form (map byteOf s)) ≡ f)
 past-three s f left e =
     let one = picked 1 (eqb (length s) 0) left (sym (line-is s) ∙ e) in
     let two = picked 2 (any over s) left (one .1) in
     let three = picked 3 (any odd s) left (two .1) in
     (sound-line s (one .0) (two .0) (three .0), three .1)
 
-pub line-refused : (s : List ℕ) (n : ℕ) → frameShown (readWith reads s) ≡ Refused n → readLine s ≡ refusal n
+pub line-refused : (s : List ℕ) (n : ℕ) → frameShown (readWith form s) ≡ Refused n → readLine s ≡ refusal n
 unfolding readLine
 line-refused s n e = go (eqb (length s) 0) (any over s) (any odd s) (sym (line-is s) ∙ e)
   where
-    go : (a b c : Bool) → pick 1 a (pick 2 b (pick 3 c (frameShown (readFrame reads (map byteOf s))))) ≡ Refused n
+    go : (a b c : Bool) → pick 1 a (pick 2 b (pick 3 c (frameShown (readFrame form (map byteOf s))))) ≡ Refused n
         → refuse 1 a (refuse 2 b (refuse 3 c (readFrame readBody (map byteOf s)))) ≡ refusal n
     go true b c q = let z : _≡_ {A = ℕ} 1 n = cc in ap refusal z
     go false true c q = let z : _≡_ {A = ℕ} 2 n = cc in ap refusal z
     go false false true q = let z : _≡_ {A = ℕ} 3 n = cc in ap refusal z
     go false false false q = frame-refused (map byteOf s) n q
 
-pub line-ack : (s : List ℕ) → frameShown (readWith reads s) ≡ Ack → readLine s ≡ reads ack
+pub line-ack : (s : List ℕ) → frameShown (readWith form s) ≡ Ack → readLine s ≡ reads Telegrams.ack
 line-ack s e = let p = past-three s Ack no-ack e in p .0 ∙ frame-ack (map byteOf s) (p .1)
 
-pub line-short : (s : List ℕ) → frameShown (readWith reads s) ≡ Short → (length s ≡ 5) × (readLine s ≡ readShort (map byteOf (take 2 (drop 1 s))))
+pub line-short : (s : List ℕ) → frameShown (readWith form s) ≡ Short → (length s ≡ 5) × (readLine s ≡ readShort (map byteOf (take 2 (drop 1 s))))
 line-short s e = let p = past-three s Short no-short e in let q = frame-short s (p .1) in (q .0, p .0 ∙ q .1)
 
-pub line-long : (s : List ℕ) → frameShown (readWith reads s) ≡ Long → (6 ≤ length s) × (readLine s ≡ readLong (map byteOf (take (length s - 2 - 4) (drop 4 s))))
+pub line-long : (s : List ℕ) → frameShown (readWith form s) ≡ Long → (6 ≤ length s) × (readLine s ≡ readLong (map byteOf (take (length s - 2 - 4) (drop 4 s))))
 line-long s e = let p = past-three s Long no-long e in let q = frame-long s (p .1) in (q .0, p .0 ∙ q .1)
 
 -- ---- the data telegram in the long form
@@ -244,7 +251,7 @@ abbrev dataNumber : Outcome → ℕ
 dataNumber the-variants.Accepted = 5
 dataNumber (the-variants.Refused n) = 256 + n
 
-number-entries : (a : ℕ) (h : Header) (ans : Answer (List Entry)) → lineNumber (within (dataOf a h) ans) ≡ dataNumber (outcomeOf ans)
+number-entries : (a : ℕ) (h : Header) (ans : Answer (List Entry)) → lineNumber (within (dataOf a h) ans) ≡ dataNumber (outcomeShown (alone ans))
 number-entries a h (refusal n) = refl
 number-entries a h (reads done) = refl
 
@@ -252,9 +259,9 @@ pub header-number : (a : ℕ) (part : List ℕ) → wrongHeader (map byteOf part
 header-number a part e = rw e
 
 pub data-number : (a : ℕ) (part : List ℕ) {x y : Outcome} → wrongHeader (map byteOf part) ≡ false
-    → x ≡ outcomeOf (readEntries 8 (map byteOf (take (length part - 12) (drop 12 part))) []) → x ≡ y
+    → x ≡ outcomeShown (alone (readEntries 8 (map byteOf (take (length part - 12) (drop 12 part))) [])) → x ≡ y
     → dataNumber y ≡ lineNumber (readData a (map byteOf part))
 data-number a part {x} {y} good e o =
-    ap dataNumber (sym o ∙ e ∙ ap (λ (s : List ℕ). outcomeOf (readEntries 8 s [])) (entries-cut part))
+    ap dataNumber (sym o ∙ e ∙ ap (λ (s : List ℕ). outcomeShown (alone (readEntries 8 s []))) (entries-cut part))
     ∙ sym (number-entries a (headerOf (map byteOf part)) (readEntries 8 (drop 12 (map byteOf part)) []))
     ∙ ap (λ (t : Bool). lineNumber (refuse 10 t (within (dataOf a (headerOf (map byteOf part))) (readEntries 8 (drop 12 (map byteOf part)) [])))) (sym good)

@@ -17,33 +17,61 @@ use Rattle.format.specs.Chain.{after-ack, after-short, after-long, after-other}
 use Rattle.reading.specs.declared.frame.Frame.{Frame}
 use Rattle.reading.specs.declared.frame.Frame.the-variants.{Ack, Short, Long, Refused}
 
--- The program's answer about a frame: the form of the bytes that 1 to 8 leave, or the number.
-abbrev pub frameShown : Answer (List ℕ) → Frame
+-- The three forms: E5 alone, short after 10, long after 68.
+pub data Form : Type 0 where
+  ack : Form
+  short : Form
+  long : Form
+
+-- in the place of a body: the form alone of the bytes that 1 to 8 leave
+abbrev pub form : List ℕ → Answer Form
+form b = reads (cond (isAck b) ack (cond (isShort b) short long))
+
+-- The program's answer for each answer about a frame.
+abbrev pub frameShown : Answer Form → Frame
 frameShown (refusal n) = Refused n
-frameShown (reads b) = cond (isAck b) Ack (cond (isShort b) Short Long)
+frameShown (reads ack) = Ack
+frameShown (reads short) = Short
+frameShown (reads long) = Long
+
+-- what a frame tells, back again
+abbrev told : Frame → Answer Form
+told (Refused n) = refusal n
+told Ack = reads ack
+told Short = reads short
+told Long = reads long
+
+told-shown : (a : Answer Form) → told (frameShown a) ≡ a
+told-shown (refusal n) = refl
+told-shown (reads ack) = refl
+told-shown (reads short) = refl
+told-shown (reads long) = refl
+
+pub frameShown-same : (a b : Answer Form) → frameShown a ≡ frameShown b → a ≡ b
+frameShown-same a b e = sym (told-shown a) ∙ ap told e ∙ told-shown b
 
 abbrev pub pick : ℕ → Bool → Frame → Frame
 pick n test next = cond test (Refused n) next
 
-shown-refuse : (n : ℕ) (test : Bool) (a : Answer (List ℕ)) → frameShown (refuse n test a) ≡ pick n test (frameShown a)
+shown-refuse : (n : ℕ) (test : Bool) (a : Answer Form) → frameShown (refuse n test a) ≡ pick n test (frameShown a)
 shown-refuse n true a = refl
 shown-refuse n false a = refl
 
 -- the rules 4 to 8 of each form, on the line's characters
-pub ack-is : (s : List ℕ) → at (map byteOf s) 0 ≡ 0xE5 → frameShown (readFrame reads (map byteOf s)) ≡ pick 5 (not (eqb (length s) 1)) Ack
-ack-is s e = rw (after-ack reads (map byteOf s) e, shown-refuse, length-map s byteOf, e)
+pub ack-is : (s : List ℕ) → at (map byteOf s) 0 ≡ 0xE5 → frameShown (readFrame form (map byteOf s)) ≡ pick 5 (not (eqb (length s) 1)) Ack
+ack-is s e = rw (after-ack form (map byteOf s) e, shown-refuse, length-map s byteOf, e)
 
 pub short-is : (s : List ℕ) → at (map byteOf s) 0 ≡ 0x10
-    → frameShown (readFrame reads (map byteOf s))
+    → frameShown (readFrame form (map byteOf s))
     ≡ pick 5 (not (eqb (length s) 5))
     (pick 7 (not (eqb (at (map byteOf s) (length s - 1)) 0x16))
     (pick 8 (not (eqb (at (map byteOf s) (length s - 2)) (total (map byteOf (take 2 (drop 1 s))) % 256)))
     Short))
 short-is s e =
-    rw (after-short reads (map byteOf s) e, shown-refuse, shown-refuse, shown-refuse, length-map s byteOf, map-take byteOf 2 (drop 1 s), map-drop byteOf 1 s, e)
+    rw (after-short form (map byteOf s) e, shown-refuse, shown-refuse, shown-refuse, length-map s byteOf, map-take byteOf 2 (drop 1 s), map-drop byteOf 1 s, e)
 
 pub long-is : (s : List ℕ) → at (map byteOf s) 0 ≡ 0x68
-    → frameShown (readFrame reads (map byteOf s))
+    → frameShown (readFrame form (map byteOf s))
     ≡ pick 5 (ltb (length s) 6 || not (eqb (length s) (at (map byteOf s) 1 + 6)))
     (pick 6 (not (eqb (at (map byteOf s) 1) (at (map byteOf s) 2)) || not (eqb (at (map byteOf s) 3) 0x68))
     (pick 7 (not (eqb (at (map byteOf s) (length s - 1)) 0x16))
@@ -51,24 +79,24 @@ pub long-is : (s : List ℕ) → at (map byteOf s) 0 ≡ 0x68
     Long)))
 long-is s e =
     let six : length s - 6 ≡ length s - 2 - 4 = omega arith in
-    rw (after-long reads (map byteOf s) e, shown-refuse, shown-refuse, shown-refuse, shown-refuse, length-map s byteOf, six, map-take byteOf (length s - 2 - 4) (drop 4 s), map-drop byteOf 4 s, e)
+    rw (after-long form (map byteOf s) e, shown-refuse, shown-refuse, shown-refuse, shown-refuse, length-map s byteOf, six, map-take byteOf (length s - 2 - 4) (drop 4 s), map-drop byteOf 4 s, e)
 
 pub other-is : (s : List ℕ) → (at (map byteOf s) 0 ≡ 0xE5 → ⊥) → (at (map byteOf s) 0 ≡ 0x10 → ⊥) → (at (map byteOf s) 0 ≡ 0x68 → ⊥)
-    → frameShown (readFrame reads (map byteOf s)) ≡ Refused 4
-other-is s n m k = ap frameShown (after-other reads (map byteOf s) n m k)
+    → frameShown (readFrame form (map byteOf s)) ≡ Refused 4
+other-is s n m k = ap frameShown (after-other form (map byteOf s) n m k)
 
 -- ---- the rules 4 and 5 by themselves
 
 -- What 4 and 5 say, by the first two bytes and the count.
-abbrev pub startShown : ℕ → ℕ → ℕ → Frame
-startShown first second count =
-    cond (eqb first 0xE5) (pick 5 (not (eqb count 1)) Ack)
-    (cond (eqb first 0x10) (pick 5 (not (eqb count 5)) Short)
-    (cond (eqb first 0x68) (pick 5 (ltb count 6 || not (eqb count (second + 6))) Long)
-    (Refused 4)))
+abbrev pub startOf : ℕ → ℕ → ℕ → Answer Form
+startOf first second count =
+    cond (eqb first 0xE5) (refuse 5 (not (eqb count 1)) (reads ack))
+    (cond (eqb first 0x10) (refuse 5 (not (eqb count 5)) (reads short))
+    (cond (eqb first 0x68) (refuse 5 (ltb count 6 || not (eqb count (second + 6))) (reads long))
+    (refusal 4)))
 
-abbrev pub startOf : List ℕ → Frame
-startOf s = startShown (at (map byteOf s) 0) (at (map byteOf s) 1) (length s)
+abbrev pub startShown : ℕ → ℕ → ℕ → Frame
+startShown first second count = frameShown (startOf first second count)
 
 -- what is known of a line of each form that 4 and 5 leave
 pub record ShortCount (s : List ℕ) : Type 0 where
@@ -82,25 +110,26 @@ pub record LongCount (s : List ℕ) : Type 0 where
 
 -- what 4 and 5 leave open, by what they said
 abbrev pub Left : List ℕ → Frame → Type 0
-Left s Ack = frameShown (readFrame reads (map byteOf s)) ≡ Ack
+Left s Ack = frameShown (readFrame form (map byteOf s)) ≡ Ack
 Left s Short = ShortCount s
 Left s Long = LongCount s
-Left s (Refused n) = frameShown (readFrame reads (map byteOf s)) ≡ Refused n
+Left s (Refused n) = frameShown (readFrame form (map byteOf s)) ≡ Refused n
 
-left-pick : (s : List ℕ) (t : Bool) (form : Frame) → (t ≡ true → frameShown (readFrame reads (map byteOf s)) ≡ Refused 5) → (t ≡ false → Left s form) → Left s (pick 5 t form)
-left-pick s true form e f = e refl
-left-pick s false form e f = f refl
+left-pick : (s : List ℕ) (t : Bool) (f : Form) → (t ≡ true → frameShown (readFrame form (map byteOf s)) ≡ Refused 5) → (t ≡ false → Left s (frameShown (reads f)))
+    → Left s (frameShown (refuse 5 t (reads f)))
+left-pick s true f e g = e refl
+left-pick s false f e g = g refl
 
-pub start-left : (s : List ℕ) → Left s (startOf s)
+pub start-left : (s : List ℕ) → Left s (startShown (at (map byteOf s) 0) (at (map byteOf s) 1) (length s))
 start-left s =
     by-test (eqb (at (map byteOf s) 0) 0xE5)
-    (λ e. (let first = eqb-true (at (map byteOf s) 0) 0xE5 e in rw e (left-pick s (not (eqb (length s) 1)) Ack (λ t. ack-is s first ∙ rw t) (λ t. ack-is s first ∙ rw t))))
+    (λ e. (let first = eqb-true (at (map byteOf s) 0) 0xE5 e in rw e (left-pick s (not (eqb (length s) 1)) ack (λ t. ack-is s first ∙ rw t) (λ t. ack-is s first ∙ rw t))))
     (λ n. by-test (eqb (at (map byteOf s) 0) 0x10)
     (λ e. (let first = eqb-true (at (map byteOf s) 0) 0x10 e in
-    rw (n, e) (left-pick s (not (eqb (length s) 5)) Short (λ t. short-is s first ∙ rw t) (λ t. record { first = first; five = not-different (length s) 5 t }))))
+    rw (n, e) (left-pick s (not (eqb (length s) 5)) short (λ t. short-is s first ∙ rw t) (λ t. record { first = first; five = not-different (length s) 5 t }))))
     (λ m. by-test (eqb (at (map byteOf s) 0) 0x68)
     (λ e. (let first = eqb-true (at (map byteOf s) 0) 0x68 e in
-    rw (n, m, e) (left-pick s (ltb (length s) 6 || not (eqb (length s) (at (map byteOf s) 1 + 6))) Long (λ t. long-is s first ∙ rw t)
+    rw (n, m, e) (left-pick s (ltb (length s) 6 || not (eqb (length s) (at (map byteOf s) 1 + 6))) long (λ t. long-is s first ∙ rw t)
     (λ t. (let both = neither (ltb (length s) 6) (not (eqb (length s) (at (map byteOf s) 1 + 6))) t in
     record { first = first; six = ltb-false (length s) 6 (both .0); count = not-different (length s) (at (map byteOf s) 1 + 6) (both .1) })))))
     (λ k. rw (n, m, k) (other-is s (eqb-false _ _ n) (eqb-false _ _ m) (eqb-false _ _ k)))))
@@ -112,14 +141,14 @@ started s {u} {v} {x} {f} eu ev e o =
 
 -- the rules 6 to 8 of each form
 pub short-rest : {s : List ℕ} → ShortCount s
-    → frameShown (readFrame reads (map byteOf s))
+    → frameShown (readFrame form (map byteOf s))
     ≡ pick 7 (not (eqb (at (map byteOf s) (length s - 1)) 0x16))
     (pick 8 (not (eqb (at (map byteOf s) (length s - 2)) (total (map byteOf (take 2 (drop 1 s))) % 256)))
     Short)
 short-rest {s} h = short-is s (h .first) ∙ rw (eq-eqb (length s) 5 (h .five))
 
 pub long-rest : {s : List ℕ} → LongCount s
-    → frameShown (readFrame reads (map byteOf s))
+    → frameShown (readFrame form (map byteOf s))
     ≡ pick 6 (not (eqb (at (map byteOf s) 1) (at (map byteOf s) 2)) || not (eqb (at (map byteOf s) 3) 0x68))
     (pick 7 (not (eqb (at (map byteOf s) (length s - 1)) 0x16))
     (pick 8 (not (eqb (at (map byteOf s) (length s - 2)) (total (map byteOf (take (length s - 2 - 4) (drop 4 s))) % 256)))
@@ -128,5 +157,5 @@ long-rest {s} h = long-is s (h .first) ∙ rw (le-ltb (length s) 6 (h .six), eq-
 
 -- the rules 1 to 3, and then those of the form
 pub line-is : (s : List ℕ)
-    → frameShown (readWith reads s) ≡ pick 1 (eqb (length s) 0) (pick 2 (any over s) (pick 3 (any odd s) (frameShown (readFrame reads (map byteOf s)))))
+    → frameShown (readWith form s) ≡ pick 1 (eqb (length s) 0) (pick 2 (any over s) (pick 3 (any odd s) (frameShown (readFrame form (map byteOf s)))))
 line-is s = simp shown-refuse

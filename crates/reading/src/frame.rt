@@ -2,9 +2,9 @@
 ghost use mathlib.Core.Path.{_≡_};
 ghost use mathlib.Core.List.{map};
 ghost use Rattle.format.specs.Characters.{byteOf};
-ghost use Rattle.format.specs.Answers.{reads};
+ghost use Rattle.format.specs.Answers.{refuse};
 ghost use Rattle.format.specs.Lines.{readFrame, readWith};
-ghost use Rattle.reading.specs.Forms.{ShortCount, LongCount, startShown, frameShown};
+ghost use Rattle.reading.specs.Forms.{ShortCount, LongCount, form, startOf, frameShown};
 use crate::scan::any_odd;
 use crate::scan::any_over;
 use crate::scan::sum_of;
@@ -20,7 +20,7 @@ pub enum Frame {
 
 // The rules 4 and 5, which look at the first two bytes and the count.
 pub fn start_of(first: u8, second: u8, count: usize) -> Frame
-    ensures { λ r. ⌜ r ≡ startShown first second count ⌝ }
+    ensures { λ r. ⌜ r ≡ frameShown (startOf first second count) ⌝ }
 {
     if first == 0xE5 {
         if count == 1 {
@@ -47,7 +47,7 @@ pub fn start_of(first: u8, second: u8, count: usize) -> Frame
 // After 10, with the right count: 7 and 8.
 fn short_frame(line: &[u16]) -> Frame
     requires { ⌜ ShortCount (now line) ⌝ }
-    ensures { λ r. ⌜ r ≡ frameShown (readFrame reads (map byteOf (now (line .entry)))) ⌝ }
+    ensures { λ r. ⌜ r ≡ frameShown (readFrame form (map byteOf (now (line .entry)))) ⌝ }
 {
     let n = line.len();
     let end = byte_at(line, n - 1);
@@ -65,7 +65,7 @@ fn short_frame(line: &[u16]) -> Frame
 // After 68, with the right count: 6, 7 and 8.
 fn long_frame(line: &[u16]) -> Frame
     requires { ⌜ LongCount (now line) ⌝ }
-    ensures { λ r. ⌜ r ≡ frameShown (readFrame reads (map byteOf (now (line .entry)))) ⌝ }
+    ensures { λ r. ⌜ r ≡ frameShown (readFrame form (map byteOf (now (line .entry)))) ⌝ }
 {
     let n = line.len();
     let second = byte_at(line, 1);
@@ -86,12 +86,15 @@ fn long_frame(line: &[u16]) -> Frame
     Frame::Long
 }
 
-// The rules 4 to 8, in this order.
-pub fn form_of(line: &[u16]) -> Frame
-    ensures { λ r. ⌜ r ≡ frameShown (readFrame reads (map byteOf (now (line .entry)))) ⌝ }
+// The rules 3 to 8, in this order, where the parities were gathered before.
+fn sound_form(line: &[u16], odd: bool) -> Frame
+    ensures { λ r. ⌜ r ≡ frameShown (refuse 3 odd (readFrame form (map byteOf (now (line .entry))))) ⌝ }
 {
     let first = byte_at(line, 0);
     let second = byte_at(line, 1);
+    if odd {
+        return Frame::Refused(3);
+    }
     let start = start_of(first, second, line.len());
     match start {
         Frame::Refused(n) => Frame::Refused(n),
@@ -101,9 +104,16 @@ pub fn form_of(line: &[u16]) -> Frame
     }
 }
 
+// The rules 4 to 8, in this order.
+pub fn form_of(line: &[u16]) -> Frame
+    ensures { λ r. ⌜ r ≡ frameShown (readFrame form (map byteOf (now (line .entry)))) ⌝ }
+{
+    sound_form(line, false)
+}
+
 // The rules 1 to 8, in this order.
 pub fn frame_of(line: &[u16]) -> Frame
-    ensures { λ r. ⌜ r ≡ frameShown (readWith reads (now (line .entry))) ⌝ }
+    ensures { λ r. ⌜ r ≡ frameShown (readWith form (now (line .entry))) ⌝ }
 {
     if line.len() == 0 {
         return Frame::Refused(1);
@@ -111,8 +121,6 @@ pub fn frame_of(line: &[u16]) -> Frame
     if any_over(line) {
         return Frame::Refused(2);
     }
-    if any_odd(line) {
-        return Frame::Refused(3);
-    }
-    form_of(line)
+    let odd = any_odd(line);
+    sound_form(line, odd)
 }

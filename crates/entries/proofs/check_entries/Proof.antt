@@ -9,7 +9,8 @@ use mathlib.Core.Logic.{⊎-elim}
 use mathlib.Core.Path.{_≡_, refl, sym, ap, _∙_}
 use Rattle.format.specs.declared.Entry.{Entry}
 use Rattle.format.specs.declared.Outcome.the-variants.{Accepted}
-use Rattle.format.specs.Telegrams.{blankEntry, outcomeOf}
+use Rattle.format.specs.Answers.{Answer, alone}
+use Rattle.format.specs.Telegrams.{blankEntry, outcomeShown}
 use Rattle.entries.specs.Walking.Ended.{whole, refused}
 use Rattle.entries.specs.Walking.{Walked, walked-none, walked-missing, walked-accepted, Turn, turned, halted, Ended, ended-refused, ended-whole}
 use Rattle.entries.proofs.check_entries.Statement.{statement}
@@ -79,7 +80,7 @@ enum-known-outcome : tie.Need-enum-known-outcome Inv-loop μ-loop
 enum-known-outcome c = search needs
 
 returns : tie.Need-returns Inv-loop μ-loop
-returns c = ap outcomeOf (sym (ended-refused (ends (c .before .before .before)) _ (c .before .outcome .given .1)))
+returns c = ap (λ (a : Answer (List Entry)). outcomeShown (alone a)) (sym (ended-refused (ends (c .before .before .before)) _ (c .before .outcome .given .1)))
 
 enum-told : tie.Need-enum-told Inv-loop μ-loop
 enum-told c = search needs
@@ -88,7 +89,7 @@ any-missing-requires : tie.Need-any-missing-requires Inv-loop μ-loop
 any-missing-requires c κs = search needs
 
 returns-2 : tie.Need-returns-2 Inv-loop μ-loop
-returns-2 c = ap outcomeOf (sym (walked-missing (c .before .before .before .before .before .loop .inv .0 .1) (ended-whole (ends (c .before .before .before .before)) (c .before .before .enum-told .given .1)) (sym (c .before .any-missing .ensures) ∙ c .if1 .taken)))
+returns-2 c = ap (λ (a : Answer (List Entry)). outcomeShown (alone a)) (sym (walked-missing (c .before .before .before .before .before .loop .inv .0 .1) (ended-whole (ends (c .before .before .before .before)) (c .before .before .enum-told .given .1)) (sym (c .before .any-missing .ensures) ∙ c .if1 .taken)))
 
 returns-3 : tie.Need-returns-3 Inv-loop μ-loop
 returns-3 c = sym (walked-accepted (c .before .before .before .before .before .loop .inv .0 .1) (ended-whole (ends (c .before .before .before .before)) (c .before .before .enum-told .given .1)) (sym (c .before .any-missing .ensures) ∙ c .if1 .left))

@@ -8,7 +8,8 @@ use denote.Ref.{now}
 use lib.ListN.{length-take, drop}
 use Rattle.format.specs.Quantities.{widthOf}
 use Rattle.format.specs.Characters.{byteOf}
-use Rattle.entries.specs.Walking.{width-few, fit-inside, value-cut, entry-built}
+use Rattle.format.specs.LengthLaws.{width-most}
+use Rattle.entries.specs.Walking.{fit-inside, value-cut, entry-built}
 use Rattle.entries.proofs.entry_of.Statement.{statement}
 use Rattle.entries.proofs.entry_of.Tie as tie
 
@@ -22,7 +23,7 @@ width-of-requires : tie.Need-width-of-requires
 width-of-requires c κs = search needs
 
 add-value-of : tie.Need-add-value-of
-add-value-of c = omega (arith, c .width-of .ensures, width-few (c .before .before .byte-at .result))
+add-value-of c = omega (arith, c .width-of .ensures, width-most (c .before .before .byte-at .result))
 
 sub-value-of : tie.Need-sub-value-of
 sub-value-of c = search needs
@@ -34,7 +35,7 @@ part-value-of-end : tie.Need-part-value-of-end
 part-value-of-end c = rw (c .width-of .ensures, c .before .before .byte-at .ensures) (fit-inside (now (c .before .before .before .before .args .rest)) (c .before .before .before .before .pre))
 
 value-of-requires : tie.Need-value-of-requires
-value-of-requires c κs = omega (arith, c .before .width-of .ensures, width-few (c .before .before .before .byte-at .result), length-take (2 + c .before .width-of .result - 2) (drop 2 (now (c .before .before .before .before .before .args .rest))))
+value-of-requires c κs = omega (arith, c .before .width-of .ensures, width-most (c .before .before .before .byte-at .result), length-take (2 + c .before .width-of .result - 2) (drop 2 (now (c .before .before .before .before .before .args .rest))))
 
 returns : tie.Need-returns
 returns c = let rest = now (c .before .before .before .before .before .before .args .rest) in

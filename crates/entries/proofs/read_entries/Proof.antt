@@ -9,7 +9,7 @@ use mathlib.Core.Logic.{⊎-elim}
 use mathlib.Core.Path.{_≡_, refl, sym, ap, _∙_}
 use Rattle.format.specs.declared.Entry.{Entry}
 use Rattle.format.specs.declared.Outcome.the-variants.{Accepted}
-use Rattle.format.specs.Telegrams.{blankEntry, outcomeOf}
+use Rattle.format.specs.Telegrams.{blankEntry}
 use Rattle.entries.specs.Walking.Ended.{whole, refused}
 use Rattle.entries.specs.Walking.{entriesShown, Walked, walked-none, walked-missing, walked-whole, Turn, turned, halted, Ended, ended-refused, ended-whole}
 use Rattle.entries.proofs.read_entries.Statement.{statement}

@@ -5,12 +5,13 @@ use native.Mathlib.Omega.{arith}
 use denote.Ref.{now}
 use Rattle.format.specs.Characters.{over}
 use Rattle.format.specs.ListLaws.{Gathered, gathered-none}
-use Rattle.bundle.specs.Bodies.{charactersOf, high-next, high-all}
+use Rattle.format.specs.Host.{chars}
+use Rattle.bundle.specs.Bodies.{high-next, high-all}
 use Rattle.bundle.proofs.checking.any_over.Statement.{statement}
 use Rattle.bundle.proofs.checking.any_over.Tie as tie
 
 abbrev Inv-loop : tie.InvT-loop
-Inv-loop bodies found₀ i₀ i-end found i = Gathered over (charactersOf bodies) i found
+Inv-loop bodies found₀ i₀ i-end found i = Gathered over (chars bodies) i found
 
 abbrev μ-loop : tie.MeasureT-loop
 μ-loop bodies found₀ i₀ i-end found i = i-end - i

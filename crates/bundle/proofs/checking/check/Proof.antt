@@ -11,7 +11,7 @@ use lib.Seq.{take-all}
 use Rattle.format.specs.Lists.{any}
 use Rattle.format.specs.Characters.{over}
 use Rattle.format.specs.Answers.{reads, refuse}
-use Rattle.bundle.specs.Bodies.{charactersOf}
+use Rattle.format.specs.Host.{chars}
 use Rattle.bundle.specs.Bundles.{checkOf}
 use Rattle.bundle.proofs.checking.check.Statement.{statement}
 use Rattle.bundle.proofs.checking.check.Tie as tie
@@ -22,17 +22,17 @@ chain : (c : tie.After-walk-bodies)
     ≡ refuse 34 (c .before .wrong-rows .result)
     (refuse 35 (c .walk-bodies .result .wrong)
     (refuse 36 (ltb (c .walk-bodies .result .end) (length (now (c .before .before .before .before .before .before .before .before .args .bundle))))
-    (refuse 37 (any over (charactersOf (drop (2 + 12 * c .before .before .before .before .two .result) (now (c .before .before .before .before .before .before .before .before .args .bundle)))))
+    (refuse 37 (any over (chars (drop (2 + 12 * c .before .before .before .before .two .result) (now (c .before .before .before .before .before .before .before .before .args .bundle)))))
     (reads (c .before .before .before .before .two .result)))))
 unfolding checkOf
 chain c = rw (c .before .before .before .before .before .before .if1 .left, c .before .before .before .before .before .if2 .left, ← c .before .before .before .before .two .ensures, c .before .before .before .if3 .left, c .before .before .if4 .left, c .before .wrong-rows .ensures, c .walk-bodies .ensures .0, c .walk-bodies .ensures .1)
 
 -- the bodies as they were lent are all bytes behind the contents
-wide : (c : tie.After-any-over) → c .any-over .result ≡ any over (charactersOf (drop (2 + 12 * c .before .before .before .before .before .before .before .before .before .before .two .result) (now (c .before .before .before .before .before .before .before .before .before .before .before .before .before .before .args .bundle))))
+wide : (c : tie.After-any-over) → c .any-over .result ≡ any over (chars (drop (2 + 12 * c .before .before .before .before .before .before .before .before .before .before .two .result) (now (c .before .before .before .before .before .before .before .before .before .before .before .before .before .before .args .bundle))))
 wide c =
     let b = now (c .before .before .before .before .before .before .before .before .before .before .before .before .before .before .args .bundle) in
     let first = 2 + 12 * c .before .before .before .before .before .before .before .before .before .before .two .result in
-    c .any-over .ensures ∙ ap (λ (l : List ℕ). any over (charactersOf l)) (take-all (length b - first) (drop first b) (omega (arith, length-drop first b)))
+    c .any-over .ensures ∙ ap (λ (l : List ℕ). any over (chars l)) (take-all (length b - first) (drop first b) (omega (arith, length-drop first b)))
 
 returns : tie.Need-returns
 unfolding checkOf

@@ -1,7 +1,7 @@
 -- `listing::lines::row_line` meets its contract. Assumes nothing.
 use Rattle.listing.specs.Listings.{lineFor}
 use Rattle.bundle.specs.Rows.{rowIn}
-use Rattle.bundle.specs.Bodies.{charactersOf}
+use Rattle.format.specs.Host.{chars}
 use Prim.Native.Nat.{ℕ}
 use Prim.Native.Nat.{_≤_, _+_, _-_}
 use mathlib.Core.Path.{_≡_, sym, ap, _∙_}
@@ -57,7 +57,7 @@ returns c =
       so =
           c .line-of .ensures .so
           ∙ ap (rowText (r .position) (r .direction) (r .time))
-          (c .before .word-in .ensures .so ∙ ap (λ (n : ℕ). wordOf (charactersOf (take n (drop (r .offset) (a .bundle .now))))) size)
+          (c .before .word-in .ensures .so ∙ ap (λ (n : ℕ). wordOf (chars (take n (drop (r .offset) (a .bundle .now))))) size)
           ∙ ap (lineFor (a .bundle .now)) (c .before .before .before .before .before .unchecked-row .ensures);
     }
 
