@@ -365,32 +365,32 @@ one-less count entries h e =
 
 module _ {rest : List ℕ} {at count : ℕ} {marks : List Bool} {entries : List Entry} (w : Walked rest at count marks entries) (h : at < length rest) (z : Size)
     (q : nextOf (map byteOf (drop at rest)) marks count ≡ reads z) where
-  abbrev now : List ℕ
-  now = map byteOf (drop at rest)
+  abbrev there : List ℕ
+  there = map byteOf (drop at rest)
 
-  taken : take (count + 1) (set entries count (entryOf now)) ≡ take count entries ++ (entryOf now ∷ [])
-  taken = rw add-one (take-suc-set entries count (entryOf now) (omega (arith, w .held, eqb-false count 7 (next-reads now marks count z q .1), w .few)))
+  taken : take (count + 1) (set entries count (entryOf there)) ≡ take count entries ++ (entryOf there ∷ [])
+  taken = rw add-one (take-suc-set entries count (entryOf there) (omega (arith, w .held, eqb-false count 7 (next-reads there marks count z q .1), w .few)))
 
   pub walked-below : count < 7
-  walked-below = let n : count ≡ 7 → ⊥ = eqb-false count 7 (next-reads now marks count z q .1) in omega (arith, w .few)
+  walked-below = let n : count ≡ 7 → ⊥ = eqb-false count 7 (next-reads there marks count z q .1) in omega (arith, w .few)
 
-  pub walked-inside : at + entryWidth now ≤ length rest
-  walked-inside = omega (arith, fit-inside (drop at rest) (next-reads now marks count z q .0), length-drop at rest)
+  pub walked-inside : at + entryWidth there ≤ length rest
+  walked-inside = omega (arith, fit-inside (drop at rest) (next-reads there marks count z q .0), length-drop at rest)
 
-  pub walked-next : Walked rest (at + entryWidth now) (count + 1) (set marks (quantityOf (Lists.at now 1)) true) (set entries count (entryOf now))
+  pub walked-next : Walked rest (at + entryWidth there) (count + 1) (set marks (quantityOf (Lists.at there 1)) true) (set entries count (entryOf there))
   walked-next = record {
     inside = walked-inside;
     few = omega (arith, walked-below);
-    held = length-set entries count (entryOf now) ∙ w .held;
-    blanks = drop-set-lt (count + 1) entries count (entryOf now) (omega arith) ∙ one-less count entries walked-below (w .blanks);
-    marked = length-set marks (quantityOf (Lists.at now 1)) true ∙ w .marked;
-    link = rw taken (mark-more marks (take count entries) (entryOf now) (w .marked) (w .link));
+    held = length-set entries count (entryOf there) ∙ w .held;
+    blanks = drop-set-lt (count + 1) entries count (entryOf there) (omega arith) ∙ one-less count entries walked-below (w .blanks);
+    marked = length-set marks (quantityOf (Lists.at there 1)) true ∙ w .marked;
+    link = rw taken (mark-more marks (take count entries) (entryOf there) (w .marked) (w .link));
     so =
         rw taken
-        (ap₂ (λ (n : ℕ) (s : List ℕ). readEntries n s (take count entries ++ (entryOf now ∷ [])))
+        (ap₂ (λ (n : ℕ) (s : List ℕ). readEntries n s (take count entries ++ (entryOf there ∷ [])))
         (omega arith)
-        (sym (sym (map-drop byteOf (entryWidth now) (drop at rest)) ∙ ap (map byteOf) (drop-drop (entryWidth now) at rest)))
-        ∙ sym (walked-step w h ∙ ap (λ (a : Answer Size). follow a (λ (y : Size). readEntries (7 - count) (drop (entryWidth now) now) (take count entries ++ (entryOf now ∷ [])))) q));
+        (sym (sym (map-drop byteOf (entryWidth there) (drop at rest)) ∙ ap (map byteOf) (drop-drop (entryWidth there) at rest)))
+        ∙ sym (walked-step w h ∙ ap (λ (a : Answer Size). follow a (λ (y : Size). readEntries (7 - count) (drop (entryWidth there) there) (take count entries ++ (entryOf there ∷ [])))) q));
   }
 
 module _ {rest : List ℕ} {at count : ℕ} {marks : List Bool} {entries : List Entry} (w : Walked rest at count marks entries) where
