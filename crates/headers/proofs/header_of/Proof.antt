@@ -43,7 +43,7 @@ returns c = let part = now (c .before .before .before .before .before .before .b
     let e : c .before .before .before .before .before .digits-of .result ≡ digitsOf (take 4 (map byteOf part)) =
     c .before .before .before .before .before .digits-of .ensures
     ∙ ap (λ (l : List ℕ). digitsOf (counted l)) (c .before .before .before .before .before .before .number-part .ensures) ∙ number-counted part in
-    cc
+    rw (e, c .before .before .before .before .maker-of .ensures, c .before .before .before .byte-at .ensures, c .before .before .byte-at2 .ensures, c .before .byte-at3 .ensures, c .byte-at4 .ensures)
 
 pub header-of-spec : {M : Type 1} → statement M
 header-of-spec =

@@ -25,7 +25,7 @@ add-year : tie.Need-add-year
 add-year c = search needs
 
 returns : tie.Need-returns
-returns c = cc
+returns c = rw (c .before .before .before .before .byte-at .ensures, c .before .before .before .byte-at2 .ensures, c .before .before .byte-at3 .ensures, c .before .byte-at4 .ensures, c .byte-at5 .ensures)
 
 pub moment-of-spec : {M : Type 1} → statement M
 moment-of-spec =

@@ -16,7 +16,7 @@ byte-at-requires-4 : tie.Need-byte-at-requires-4
 byte-at-requires-4 c κs = search needs
 
 returns : tie.Need-returns
-returns c = cc
+returns c = rw (c .before .before .before .byte-at .ensures, c .before .before .byte-at2 .ensures, c .before .byte-at3 .ensures, c .byte-at4 .ensures)
 
 pub spare-bits-spec : {M : Type 1} → statement M
 spare-bits-spec =
