@@ -1,7 +1,7 @@
 -- 01, "The exchange": start and the three steps. Each takes the exchange as it stood and gives the exchange as it then stands.
 use Prim.Native.Nat.{ℕ, _+_, _≤_, _<_}
 use mathlib.Core.Bool.{Bool, true, false, cond, not, true≢false}
-use mathlib.Core.Path.{_≡_, refl, sym}
+use mathlib.Core.Path.{_≡_, refl, sym, ap, ap₂, _∙_}
 use native.Mathlib.Omega.{arith}
 use lib.Dec.{ltb}
 use borrow.Author.Tests.{ltb-true, ltb-false, le-ltb, not-false}
@@ -143,11 +143,27 @@ shownStep-same (refusal m) (reads y) e = cc
 shownStep-same (reads x) (refusal n) e = cc
 shownStep-same (reads x) (reads y) e = cc
 
--- the whole answer for a line heard, from its parts
-pub heard-parts : (x : Exchange) (reading : Answer Telegram) (t : Clock) (s : Stepped) (well : Bool) (r : Telegram)
+-- the answer of a tick and of a line heard, from its parts
+module _ (x : Exchange) (t : Clock) {called silent : Bool} {state : State} {next : Exchange} {s : Stepped} (c : called ≡ waits (x .state)) (p : silent ≡ past x t)
+    (n : next ≡ moved x state t) (e : s ≡ shownStep (step x t called next)) where
+  moved-parts : {after : State} → state ≡ after → s ≡ shownStep (step x t (waits (x .state)) (moved x after t))
+  moved-parts q = e ∙ ap₂ (λ (b : Bool) (y : Exchange). shownStep (step x t b y)) c (n ∙ ap (λ (z : State). moved x z t) q)
+
+  pub tick-parts : state ≡ afterTick (x .sends) silent → s ≡ shownStep (tickIn x t)
+  tick-parts q = moved-parts (q ∙ ap (afterTick (x .sends)) p)
+
+  pub line-parts : (view : View) → state ≡ afterLine (x .request) (x .sends) silent view → s ≡ shownStep (heardIn x view t)
+  line-parts view q = moved-parts (q ∙ ap (λ (b : Bool). afterLine (x .request) (x .sends) b view) p)
+
+-- the whole answer for a line heard: the step, and the reply
+pub heard-parts : (x : Exchange) (reading : Answer Telegram) (t : Clock) {s : Stepped} {well : Bool} {r : Telegram}
     → s ≡ shownStep (heardIn x (viewed reading) t) → endsWell s ≡ well → r ≡ cond well (shown reading .telegram) blank
     → _≡_ {A = Heard} (record { stepped = s; reply = r }) (heardOf x reading t)
-heard-parts x reading t s well r e w q = cc
+heard-parts x reading t e w q =
+    λ i. record {
+      stepped = e i;
+      reply = (q ∙ ap (λ (b : Bool). cond b (shown reading .telegram) blank) (sym w ∙ ap endsWell e)) i;
+    }
 
 -- a resend is asked for only before the third send
 pub asks-few : (state : State) (sends : ℕ) → asksResend state sends ≡ true → sends < mostSends

@@ -14,9 +14,9 @@ use format::Kind;
 use format::Outcome;
 use format::Reading;
 use format::Telegram;
+use headers::header_of;
+use headers::wrong_header;
 use parts::bytes::byte_at;
-use parts::headers::header_of;
-use parts::headers::wrong_header;
 
 // A telegram without header and entries.
 fn bare(kind: Kind, address: u8, method: u8) -> Telegram

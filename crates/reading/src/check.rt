@@ -13,8 +13,8 @@ use crate::frame::Frame;
 use crate::frame::form_of;
 use entries::check_entries;
 use format::Outcome;
+use headers::wrong_header;
 use parts::bytes::byte_at;
-use parts::headers::wrong_header;
 
 // The short form.
 fn check_short(field: &[u16]) -> u32

@@ -4,7 +4,8 @@ use borrow.Author.Needs.{needs}
 use denote.Ref.{now}
 use Rattle.format.specs.declared.Reading.{Reading}
 use Rattle.format.specs.Lines.{readLine}
-use Rattle.format.specs.Views.{viewed, view-shown}
+use Rattle.format.specs.declared.View.{View}
+use Rattle.format.specs.Views.{viewed, viewIn, view-shown}
 use Rattle.exchange.specs.Steps.{heardIn, shownStep, heard-parts}
 use Rattle.exchange.proofs.Exchange.heard.Statement.{statement}
 use Rattle.exchange.proofs.Exchange.heard.Tie as tie
@@ -25,12 +26,14 @@ ends-well-requires c κs = search needs
 step-is : (c : tie.After-seen)
     → c .seen .result
     ≡ shownStep (heardIn (c .before .before .before .before .args .self) (viewed (readLine (now (c .before .before .before .before .args .line)))) (c .before .before .before .before .args .t))
-step-is c = cc (view-shown (readLine (now (c .before .before .before .before .args .line))))
+step-is c =
+    let a = c .before .before .before .before .args in
+    c .seen .ensures ∙ ap (λ (v : View). shownStep (heardIn (a .self) v (a .t))) (c .before .view-of .ensures ∙ ap (λ (r : Reading). viewIn (r .outcome) (r .telegram)) (c .before .before .read-line .ensures) ∙ view-shown (readLine (now (a .line))))
 
 returns : tie.Need-returns
 returns c =
     let a = c .before .before .before .before .before .before .before .args in
-    heard-parts (a .self) (readLine (now (a .line))) (a .t) _ _ _ (step-is (c .before .before .before))
+    heard-parts (a .self) (readLine (now (a .line))) (a .t) (step-is (c .before .before .before))
     (sym (c .before .before .ends-well .ensures) ∙ c .before .if1 .taken)
     (ap (λ (r : Reading). r .telegram) (c .before .before .before .before .before .read-line .ensures))
 
@@ -40,7 +43,7 @@ plain-requires c κs = search needs
 returns-2 : tie.Need-returns-2
 returns-2 c =
     let a = c .before .before .before .before .before .before .before .before .args in
-    heard-parts (a .self) (readLine (now (a .line))) (a .t) _ _ _ (step-is (c .before .before .before .before))
+    heard-parts (a .self) (readLine (now (a .line))) (a .t) (step-is (c .before .before .before .before))
     (sym (c .before .before .before .ends-well .ensures) ∙ c .before .before .if1 .left)
     (ap (λ (r : Reading). r .telegram) (c .before .plain .ensures))
 

@@ -1,5 +1,6 @@
 -- `Exchange::seen` meets its contract: the parts of the next exchange put together.
 use borrow.Author.Needs.{needs}
+use Rattle.exchange.specs.Steps.{line-parts}
 use Rattle.exchange.proofs.Exchange.seen.Statement.{statement}
 use Rattle.exchange.proofs.Exchange.seen.Tie as tie
 
@@ -19,7 +20,9 @@ step-requires : tie.Need-step-requires
 step-requires c κs = search needs
 
 returns : tie.Need-returns
-returns c = cc
+returns c =
+    let a = c .before .before .before .before .before .before .args in
+    line-parts (a .self) (a .t) (c .before .before .before .before .before .waits .ensures) (c .before .before .before .late .ensures) (c .before .moved .ensures) (c .step .ensures) (a .view) (c .before .before .after-line .ensures)
 
 pub seen-spec : {M : Type 1} → statement M
 seen-spec =

@@ -1,5 +1,6 @@
 -- `Exchange::tick` meets its contract: the parts of the next exchange put together.
 use borrow.Author.Needs.{needs}
+use Rattle.exchange.specs.Steps.{tick-parts}
 use Rattle.exchange.proofs.Exchange.tick.Statement.{statement}
 use Rattle.exchange.proofs.Exchange.tick.Tie as tie
 
@@ -19,7 +20,9 @@ step-requires : tie.Need-step-requires
 step-requires c κs = search needs
 
 returns : tie.Need-returns
-returns c = cc
+returns c =
+    let a = c .before .before .before .before .before .before .args in
+    tick-parts (a .self) (a .t) (c .before .before .before .before .before .waits .ensures) (c .before .before .before .late .ensures) (c .before .moved .ensures) (c .step .ensures) (c .before .before .after-tick .ensures)
 
 pub tick-spec : {M : Type 1} → statement M
 tick-spec =
