@@ -6,7 +6,7 @@ ghost use Rattle.capture.specs.SearchLaws.{allowedAt};
 use format::Outcome;
 use parts::bytes::byte_at;
 use reading::read_line;
-use reading::scan::is_odd;
+use scan::is_odd;
 
 // Where the first accepted line of a capture begins, and its length.
 pub enum Found {

@@ -17,9 +17,9 @@ use Rattle.format.specs.Answers.{reads, refusal}
 use Rattle.format.specs.Host.{chars, lineNumber, hostNumber}
 use Rattle.format.specs.Lines.{readBody, readFrame, readLine}
 use Rattle.format.specs.Telegrams.{ack}
-use Rattle.reading.specs.declared.frame.Frame.{Frame}
-use Rattle.reading.specs.declared.frame.Frame.the-variants.{Ack, Refused}
-use Rattle.reading.specs.Forms.{ShortCount, LongCount, Left, startShown, started}
+use Rattle.frame.specs.declared.Frame.{Frame}
+use Rattle.frame.specs.declared.Frame.the-variants.{Ack, Refused}
+use Rattle.frame.specs.Forms.{ShortCount, LongCount, Left, startShown, started}
 use Rattle.reading.specs.Bodies.{sound-line, frame-refused, frame-ack}
 
 pub length-chars : (b : List ℕ) → length (chars b) ≡ length b / 2

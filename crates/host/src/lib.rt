@@ -8,12 +8,12 @@ ghost use Rattle.format.specs.Lists.{at, any};
 ghost use Rattle.format.specs.Characters.{over, odd, byteOf};
 ghost use Rattle.format.specs.Host.{chars, lineNumber, hostNumber};
 ghost use Rattle.format.specs.Lines.{readBody, readFrame};
-ghost use Rattle.reading.specs.Forms.{ShortCount, LongCount};
+ghost use Rattle.frame.specs.Forms.{ShortCount, LongCount};
+use frame::Frame;
+use frame::start_of;
 use reading::check::check_form;
-use reading::frame::Frame;
-use reading::frame::start_of;
-use reading::scan::counts_odd;
-use reading::scan::is_odd;
+use scan::counts_odd;
+use scan::is_odd;
 
 // The character at a place: two bytes, low byte first.
 fn char_at(bytes: &[u8], i: usize) -> u16

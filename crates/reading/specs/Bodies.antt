@@ -31,9 +31,9 @@ use Rattle.format.specs.Frames
 use Rattle.format.specs.LineCode.{framed}
 use Rattle.entries.specs.Walking.{entriesShown, rest-cut}
 use Rattle.entries.specs.declared.Entries.{Entries}
-use Rattle.reading.specs.declared.frame.Frame.{Frame}
-use Rattle.reading.specs.declared.frame.Frame.the-variants.{Ack, Short, Long, Refused}
-use Rattle.reading.specs.Forms.{ack, short, long, form, frameShown, pick, line-is}
+use Rattle.frame.specs.declared.Frame.{Frame}
+use Rattle.frame.specs.declared.Frame.the-variants.{Ack, Short, Long, Refused}
+use Rattle.frame.specs.Forms.{ack, short, long, form, frameShown, pick, line-is}
 
 -- ---- the data telegram
 

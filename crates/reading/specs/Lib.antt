@@ -1,4 +1,2 @@
 -- What the functions of this crate answer in between.
-pub mod Forms
 pub mod Bodies
-pub mod Parity

@@ -9,10 +9,10 @@ ghost use Rattle.format.specs.Host.{lineNumber};
 ghost use Rattle.format.specs.Lines.{commandOf, readShort, readLong, readData, readBody, readFrame};
 use crate::body::is_command;
 use crate::body::is_data;
-use crate::frame::Frame;
-use crate::frame::form_of;
 use entries::check_entries;
 use format::Outcome;
+use frame::Frame;
+use frame::form_of;
 use headers::wrong_header;
 use parts::bytes::byte_at;
 

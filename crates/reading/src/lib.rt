@@ -13,8 +13,6 @@ use frame::frame_of;
 
 pub mod body;
 pub mod check;
-pub mod frame;
-pub mod scan;
 
 // The whole answer of reading a line: the number of a refusal, or the telegram.
 pub fn read_line(line: &[u16]) -> Reading
