@@ -1,89 +1,136 @@
 /*
  * One position of a bench, from the wake-up to the error on the certificate, with a simulated meter in place of a real one.
  *
- * The line loses the first answer, so the enter is sent again; and an answer that was left in the driver's buffer comes up
- * before the second read has ended, and must not count. Everything sent and heard goes into a run bundle, which is listed.
+ * The line loses the first answer, so the enter is sent twice. An answer that was left in the driver's buffer turns up at the
+ * second read; it began before that read had ended, and does not count. What is sent and heard goes into a run bundle.
  */
 #include <skarrowith.h>
 
-#include <stdint.h>
 #include <stdio.h>
 #include <stdlib.h>
 
-enum { POSITION = 7, BROADCAST = 0xFE, START_STOP = 0x90, CHARACTER = 11, PATIENCE = 450, WAKE_UP = 480 };
+enum { POSITION = 7, OWN_ADDRESS = 5, BROADCAST = 0xFE, START_STOP = 0x90 };
+enum { WAKE_UP = 480, CHARACTER = 11, REPLY_AFTER = 60, WINDOW = 450 };
 
-static uint8_t bundle[SKARROWITH_BUNDLE_MOST];
-static size_t filled = 2; /* an empty bundle is two bytes of 0 */
+static uint8_t bundle[SKARROWITH_BUNDLE_MOST]; /* two bytes of 0 are an empty one */
+static size_t filled = 2;
 static struct skarrowith_meter meter;
 static uint64_t now; /* in bit times of 1/2400 s */
 
-/* Ends the program with the words of a refusal that should not have happened. */
-static uint32_t done(const char *what, uint32_t answer)
+/* Hands on an answer; a refusal, which a bench that keeps the rules does not see, ends the program with its words. */
+static uint32_t expect(const char *what, uint32_t answer)
 {
-    uint8_t words[256];
+    char words[256];
     if (answer < SKARROWITH_REFUSED)
         return answer;
     uint32_t length = skarrowith_refusal_text(answer, words, sizeof words);
-    fprintf(stderr, "%s: %.*s\n", what, (int)length, (const char *)words);
+    printf("%s: refused %lu, %.*s\n", what, (unsigned long)(answer - SKARROWITH_REFUSED), (int)(length % 256), words);
     exit(1);
 }
 
+/* Records a line; on x86-64 its characters stand in memory as a body has them, two bytes each, low byte first. */
 static void record(uint8_t direction, uint64_t time, const uint16_t *line, size_t count)
 {
-    /* two bytes for each character, low byte first: as they stand in memory on x86-64 */
-    done("record", skarrowith_bundle_add(bundle, sizeof bundle, &filled, POSITION, direction, (uint32_t)time,
-                                         (const uint8_t *)line, 2 * count));
+    expect("record", skarrowith_bundle_add(bundle, sizeof bundle, &filled, POSITION, direction, (uint32_t)time,
+                                           (const uint8_t *)line, 2 * count));
 }
 
-/* Sends a line: its time is that of the first character, and it ends 11 bit times a character later. */
 static void send(const uint16_t *line, size_t count)
 {
     record(SKARROWITH_SENT, now, line, count);
     now += CHARACTER * count;
 }
 
-/* What the meter answers to a line that has been sent, in `answer`; its length, 0 for silence. */
-static size_t meter_says(const uint16_t *line, size_t count, uint16_t *answer)
+/* What the meter answers to a line whose send has just ended: the characters of its answer, 0 for silence. */
+static size_t meter_answers(const uint16_t *line, size_t count, uint16_t *answer)
 {
     struct skarrowith_telegram telegram;
-    if (done("meter", skarrowith_meter_heard(&meter, sizeof meter, line, count, now, &telegram, sizeof telegram)) == 0)
+    uint32_t said = skarrowith_meter_heard(&meter, sizeof meter, line, count, now, &telegram, sizeof telegram);
+    if (expect("meter", said) == SKARROWITH_SILENCE)
         return 0;
-    return done("answer", skarrowith_write_line(&telegram, sizeof telegram, answer, SKARROWITH_LINE_MOST));
+    return expect("answer", skarrowith_write_line(&telegram, sizeof telegram, answer, SKARROWITH_LINE_MOST));
 }
 
-/* Sends a request until the exchange has ended; the line loses the first `lost` answers. */
-static void ask(uint8_t kind, uint8_t method, int lost, const uint16_t *left_over, size_t left_count,
-                struct skarrowith_telegram *reply)
+/* One exchange: sends the request until a fitting answer has come, which the line loses so many times. */
+static void ask(uint8_t kind, uint8_t method, int lost, const uint16_t *left_over, size_t left, struct skarrowith_telegram *reply)
 {
     struct skarrowith_exchange exchange;
     uint16_t request[SKARROWITH_LINE_MOST], answer[SKARROWITH_LINE_MOST];
-    uint32_t length = done("request", skarrowith_write_request(kind, BROADCAST, method, request, SKARROWITH_LINE_MOST));
-    uint64_t begins = now;
-    uint32_t state = 0;
+    size_t length = expect("request", skarrowith_write_request(kind, BROADCAST, method, request, SKARROWITH_LINE_MOST));
+    uint64_t began = now;
+    send(request, length);
+    uint32_t state = expect("start", skarrowith_exchange_start(&exchange, sizeof exchange, kind, BROADCAST, method, now));
+    if (left != 0) {
+        record(SKARROWITH_HEARD, began, left_over, left);
+        uint32_t said = skarrowith_exchange_heard(&exchange, sizeof exchange, left_over, left, began, reply, sizeof *reply);
+        printf("left-over answer: %s\n", said == SKARROWITH_REFUSED + 40 ? "refused by 40, it does not count" : "taken");
+    }
     while (state != SKARROWITH_WELL) {
-        send(request, length);
-        if (state == 0)
-            state = done("start", skarrowith_exchange_start(&exchange, sizeof exchange, kind, BROADCAST, method, now));
-        else
-            state = done("sent", skarrowith_exchange_sent(&exchange, sizeof exchange, now));
-        if (left_count != 0) {
-            /* the driver hands over what it still had: it began before the send ended, and is refused by 40 */
-            uint32_t taken = skarrowith_exchange_heard(&exchange, sizeof exchange, left_over, left_count, begins, reply, sizeof *reply);
-            printf("left-over answer: %s\n", taken == SKARROWITH_REFUSED + 40 ? "refused, it began before the send had ended" : "TAKEN");
-        }
-        size_t count = meter_says(request, length, answer);
-        now += 60;
+        size_t count = meter_answers(request, length, answer);
         if (lost-- > 0) {
-            now += PATIENCE;
-            state = done("tick", skarrowith_exchange_tick(&exchange, sizeof exchange, now));
+            now += WINDOW + 1;
+            state = expect("tick", skarrowith_exchange_tick(&exchange, sizeof exchange, now));
+            printf("no answer: send again\n");
+            send(request, length);
+            state = expect("sent", skarrowith_exchange_sent(&exchange, sizeof exchange, now));
         } else {
+            now += REPLY_AFTER;
             record(SKARROWITH_HEARD, now, answer, count);
-            state = done("heard", skarrowith_exchange_heard(&exchange, sizeof exchange, answer, count, now, reply, sizeof *reply));
+            state = expect("heard", skarrowith_exchange_heard(&exchange, sizeof exchange, answer, count, now, reply, sizeof *reply));
             now += CHARACTER * count;
         }
-        if (state == SKARROWITH_FAILED) {
-            fprintf(stderr, "no answer after three sends\n");
-            exit(1);
-        }
     }
+    now += 100;
+}
+
+static void wake_up(void)
+{
+    uint16_t line[WAKE_UP];
+    expect("wake-up", skarrowith_write_wake(WAKE_UP, line, WAKE_UP));
+    send(line, WAKE_UP);
+    uint64_t end = now;
+    now += 100;
+    expect("gap", skarrowith_gap(end, now));
+}
+
+/* The volume that an answer gives, a count of its last digit. */
+static uint64_t volume_in(const struct skarrowith_telegram *answer)
+{
+    for (uint64_t i = 0; i < answer->count; i++)
+        if (answer->entries[i].unit >= 0x10 && answer->entries[i].unit <= 0x17)
+            return answer->entries[i].value.number;
+    return 0;
+}
+
+int main(void)
+{
+    static const struct skarrowith_telegram template = {
+        .kind = SKARROWITH_DATA, .number = 12345678, .maker = 0x4E89, .version = 1, .meter_type = 4, .access = 3, .count = 5,
+        .entries = {
+            {.structure = 0x0C, .unit = 0x03, .value.number = 96712345},
+            {.structure = 0x0C, .unit = 0x11, .value.number = 12345678},
+            {.structure = 0x0B, .unit = 0x59, .value.number = 7812},
+            {.structure = 0x0B, .unit = 0x5D, .value.number = 6534},
+            {.structure = 0x06, .unit = 0x6D, .sort = SKARROWITH_TIME, .value.time = {.year = 18, .month = 7, .day = 23, .hour = 15, .minute = 51, .second = 28}},
+        },
+    };
+    struct skarrowith_telegram ack, first, second;
+    uint16_t left_over[SKARROWITH_LINE_MOST];
+    static uint8_t listing[SKARROWITH_LISTING_MOST];
+    size_t written;
+    int64_t tenths;
+
+    expect("set-up", skarrowith_meter_set_up(&meter, sizeof meter, OWN_ADDRESS, &template, sizeof template));
+    wake_up();
+    ask(SKARROWITH_ENTER, START_STOP, 1, NULL, 0, &ack);
+    ask(SKARROWITH_READ, 0, 0, NULL, 0, &first);
+    size_t left = expect("left over", skarrowith_write_line(&first, sizeof first, left_over, SKARROWITH_LINE_MOST));
+    expect("measure", skarrowith_meter_measure(&meter, sizeof meter, 10005, 40000, now));
+    ask(SKARROWITH_READ, 0, 0, left_over, left, &second);
+    ask(SKARROWITH_LEAVE, 0, 0, NULL, 0, &ack);
+
+    expect("error", skarrowith_error(volume_in(&first), volume_in(&second), 0, 10000, &tenths));
+    printf("error of indication: %c%ld.%ld %%\n", tenths < 0 ? '-' : '+', labs((long)tenths) / 10, labs((long)tenths) % 10);
+    expect("listing", skarrowith_bundle_list(bundle, filled, listing, sizeof listing, &written));
+    return fwrite(listing, 1, written, stdout) == written ? 0 : 1;
 }
