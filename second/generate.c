@@ -1282,10 +1282,9 @@ int main(int argc, char **argv)
         const char *name;
         void (*generate)(void);
     } capabilities[] = {
-        {"read", generate_read},   {"write", generate_write}, {"find", generate_find},
-        {"wake", generate_wake},   {"gap", generate_gap},     {"error", generate_error},
-        {"exchange", generate_exchange}, {"meter", generate_meter}, {"check", generate_check},
-        {"row", generate_row},     {"body", generate_body},   {"add", generate_add},
+        {"read", generate_read},   {"write", generate_write}, {"find", generate_find},         {"wake", generate_wake},
+        {"gap", generate_gap},     {"error", generate_error}, {"exchange", generate_exchange}, {"meter", generate_meter},
+        {"check", generate_check}, {"row", generate_row},     {"body", generate_body},         {"add", generate_add},
         {"list", generate_list},
     };
     if (argc != 4)
