@@ -3,7 +3,7 @@ use Prim.Native.Nat.{ℕ, _+_, _-_, _≤_}
 use mathlib.Core.Bool.{Bool, true, false, cond, _&&_, and-eq-true-iff}
 use lib.Dec.{leb, eqb}
 use mathlib.Core.List.{List, [], map}
-use mathlib.Core.Path.{_≡_, refl, sym, ap, subst, _∙_}
+use mathlib.Core.Path.{_≡_, refl, sym, ap, ap₂, subst, _∙_}
 use mathlib.Core.Logic.{_⊎_, inl, inr}
 use borrow.Author.Tests.{eqb-true, eq-eqb, leb-true}
 use native.Mathlib.Omega.{arith}
@@ -26,7 +26,7 @@ use Rattle.format.specs.Telegrams
 use Rattle.format.specs.Telegrams.{dataOf, shown, outcomeShown}
 use Rattle.format.specs.Host.{lineNumber}
 use Rattle.format.specs.Tests.{passed}
-use Rattle.format.specs.Lines.{isAck, isShort, isLong, isData, wrongStart, wrongCount, wrongLengths, wrongEnd, wrongSum, readData, readShort, readLong, readBody, readFrame, readWith, readLine}
+use Rattle.format.specs.Lines.{field, isAck, isShort, isLong, isData, wrongStart, wrongCount, wrongLengths, wrongEnd, wrongSum, readData, readShort, readLong, readBody, readFrame, readWith, readLine}
 use Rattle.format.specs.Frames
 use Rattle.format.specs.LineCode.{framed}
 use Rattle.entries.specs.Walking.{entriesShown, rest-cut}
@@ -109,17 +109,20 @@ view b = go (readFrame reads b) refl
 abbrev formBy : Bool → Bool → Frame
 formBy t u = frameShown (reads (cond t ack (cond u short long)))
 
+never-refused : (t u : Bool) (n : ℕ) → formBy t u ≡ Refused n → ⊥
+never-refused true u n q = let z : _≡_ {A = ℕ} 0 1 = cc in omega arith
+never-refused false true n q = let z : _≡_ {A = ℕ} 0 1 = cc in omega arith
+never-refused false false n q = let z : _≡_ {A = ℕ} 0 1 = cc in omega arith
+
+one-number : {m n : ℕ} → Refused m ≡ Refused n → m ≡ n
+one-number q = cc
+
 pub frame-refused : (b : List ℕ) (n : ℕ) → frameShown (readFrame form b) ≡ Refused n → readFrame readBody b ≡ refusal n
 frame-refused b n e = frame-last readBody b ∙ go (view b)
   where
-    never : (t u : Bool) → formBy t u ≡ Refused n → ⊥
-    never true u q = let z : _≡_ {A = ℕ} 0 1 = cc in omega arith
-    never false true q = let z : _≡_ {A = ℕ} 0 1 = cc in omega arith
-    never false false q = let z : _≡_ {A = ℕ} 0 1 = cc in omega arith
-
     go : ((m : ℕ) × (readFrame reads b ≡ refusal m)) ⊎ (readFrame reads b ≡ reads b) → follow (readFrame reads b) readBody ≡ refusal n
-    go (inl r) = let q : Refused (r .0) ≡ Refused n = sym (shown-last b (r .1)) ∙ e in let z : r .0 ≡ n = cc in ap (λ (a : Answer (List ℕ)). follow a readBody) (r .1) ∙ ap refusal z
-    go (inr r) = absurd (never (isAck b) (isShort b) (sym (shown-last b r) ∙ e))
+    go (inl r) = ap (λ (a : Answer (List ℕ)). follow a readBody) (r .1) ∙ ap refusal (one-number (sym (shown-last b (r .1)) ∙ e))
+    go (inr r) = absurd (never-refused (isAck b) (isShort b) n (sym (shown-last b r) ∙ e))
 
 -- a form that 4 to 8 leave
 module _ (b : List ℕ) (f : Frame) (left : (n : ℕ) → Refused n ≡ f → ⊥) (e : frameShown (readFrame form b) ≡ f) where
@@ -148,14 +151,10 @@ no-short n q = let z : _≡_ {A = ℕ} 0 1 = cc in omega arith
 no-long : (n : ℕ) → Refused n ≡ Long → ⊥
 no-long n q = let z : _≡_ {A = ℕ} 0 1 = cc in omega arith
 
-pub frame-ack : (b : List ℕ) → frameShown (readFrame form b) ≡ Ack → readFrame readBody b ≡ reads Telegrams.ack
-unfolding readBody
-frame-ack b e = body-is b Ack no-ack e ∙ rw (isAck-is (isAck b) (isShort b) (form-is b Ack no-ack e))
-  where
-    isAck-is : (t u : Bool) → formBy t u ≡ Ack → t ≡ true
-    isAck-is true u q = refl
-    isAck-is false true q = let z : _≡_ {A = ℕ} 0 1 = cc in absurd (omega arith)
-    isAck-is false false q = let z : _≡_ {A = ℕ} 0 1 = cc in absurd (omega arith)
+isAck-is : (t u : Bool) → formBy t u ≡ Ack → t ≡ true
+isAck-is true u q = refl
+isAck-is false true q = let z : _≡_ {A = ℕ} 0 1 = cc in absurd (omega arith)
+isAck-is false false q = let z : _≡_ {A = ℕ} 0 1 = cc in absurd (omega arith)
 
 isShort-is : (t u : Bool) → formBy t u ≡ Short → (t ≡ false) × (u ≡ true)
 isShort-is true u q = let z : _≡_ {A = ℕ} 0 1 = cc in absurd (omega arith)
@@ -167,30 +166,57 @@ isLong-is true u q = let z : _≡_ {A = ℕ} 0 1 = cc in absurd (omega arith)
 isLong-is false true q = let z : _≡_ {A = ℕ} 0 1 = cc in absurd (omega arith)
 isLong-is false false q = (refl, refl)
 
+-- the body, by the form
+abbrev bodyBy : List ℕ → Bool → Bool → Answer Telegram
+bodyBy b t u = cond t (reads Telegrams.ack) (cond u (readShort (field b)) (readLong (field b)))
+
+body-by : (b : List ℕ) {t u : Bool} → isAck b ≡ t → isShort b ≡ u → readBody b ≡ bodyBy b t u
+unfolding readBody
+body-by b e f = ap₂ (bodyBy b) e f
+
+field-by : (b : List ℕ) {l : Bool} → isLong b ≡ l → field b ≡ cond l (take (length b - 6) (drop 4 b)) (take 2 (drop 1 b))
+field-by b e = ap (λ (l : Bool). cond l (take (length b - 6) (drop 4 b)) (take 2 (drop 1 b))) e
+
+bytes-by : (b : List ℕ) {t u : Bool} → isAck b ≡ t → isShort b ≡ u → Frames.Form (isAck b) (isShort b) b → Frames.Form t u b
+bytes-by b {t} {u} e f g = subst (λ (x : Bool). Frames.Form t x b) f (subst (λ (x : Bool). Frames.Form x (isShort b) b) e g)
+
+pub frame-ack : (b : List ℕ) → frameShown (readFrame form b) ≡ Ack → readFrame readBody b ≡ reads Telegrams.ack
+frame-ack b e = body-is b Ack no-ack e ∙ body-by b (isAck-is (isAck b) (isShort b) (form-is b Ack no-ack e)) refl
+
+not-long : (n : ℕ) → eqb n 0x10 ≡ true → eqb n 0x68 ≡ false
+not-long n e = ap (λ (k : ℕ). eqb k 0x68) (eqb-true n 0x10 e)
+
 pub frame-short : (s : List ℕ) → frameShown (readFrame form (map byteOf s)) ≡ Short
     → (length s ≡ 5) × (readFrame readBody (map byteOf s) ≡ readShort (map byteOf (take 2 (drop 1 s))))
-unfolding readBody
 frame-short s e =
     let b = map byteOf s in
     let t = isShort-is (isAck b) (isShort b) (form-is b Short no-short e) in
-    let first : at b 0 ≡ 0x10 = eqb-true (at b 0) 0x10 (t .1) in
-    let long : isLong b ≡ false = rw first in
     let cut : map byteOf (take 2 (drop 1 s)) ≡ take 2 (drop 1 b) = map-take byteOf 2 (drop 1 s) ∙ ap (take 2) (map-drop byteOf 1 s) in
-    let bytes : Frames.Short b = rw (t .0, t .1) at (bytes-are b Short no-short e) in
-    (sym (length-map s byteOf) ∙ bytes .count, body-is b Short no-short e ∙ rw (t .0, t .1, long, cut))
+    let bytes : Frames.Short b = bytes-by b (t .0) (t .1) (bytes-are b Short no-short e) in (
+      sym (length-map s byteOf) ∙ bytes .count,
+      body-is b Short no-short e ∙ body-by b (t .0) (t .1) ∙ ap readShort (field-by b (not-long (at b 0) (t .1)) ∙ sym cut),
+    )
+
+-- the length of a long form's field, as the code cuts it out
+long-six : (n m : ℕ) → n ≡ m → n - 6 ≡ m - 2 - 4
+long-six n m e = omega arith
+
+long-least : (n m k : ℕ) → n ≡ m → n ≡ k + 6 → 6 ≤ m
+long-least n m k e f = omega arith
 
 pub frame-long : (s : List ℕ) → frameShown (readFrame form (map byteOf s)) ≡ Long
     → (6 ≤ length s) × (readFrame readBody (map byteOf s) ≡ readLong (map byteOf (take (length s - 2 - 4) (drop 4 s))))
-unfolding readBody
 frame-long s e =
     let b = map byteOf s in
     let t = isLong-is (isAck b) (isShort b) (form-is b Long no-long e) in
-    let bytes : Frames.Long b = rw (t .0, t .1) at (bytes-are b Long no-long e) in
-    let long : isLong b ≡ true = eq-eqb (at b 0) 0x68 (bytes .start) in
-    let six : length b - 6 ≡ length s - 2 - 4 = omega (arith, length-map s byteOf) in
+    let bytes : Frames.Long b = bytes-by b (t .0) (t .1) (bytes-are b Long no-long e) in
+    let six : length b - 6 ≡ length s - 2 - 4 = long-six (length b) (length s) (length-map s byteOf) in
     let cut : map byteOf (take (length s - 2 - 4) (drop 4 s)) ≡ take (length s - 2 - 4) (drop 4 b) =
-    map-take byteOf (length s - 2 - 4) (drop 4 s) ∙ ap (take (length s - 2 - 4)) (map-drop byteOf 4 s) in
-    (omega (arith, length-map s byteOf, bytes .count), body-is b Long no-long e ∙ rw (t .0, t .1, long, six, cut))
+    map-take byteOf (length s - 2 - 4) (drop 4 s) ∙ ap (take (length s - 2 - 4)) (map-drop byteOf 4 s) in (
+      long-least (length b) (length s) (at b 1) (length-map s byteOf) (bytes .count),
+      body-is b Long no-long e ∙ body-by b (t .0) (t .1)
+          ∙ ap readLong (field-by b (eq-eqb (at b 0) 0x68 (bytes .start)) ∙ ap (λ (n : ℕ). take n (drop 4 b)) six ∙ sym cut),
+    )
 
 -- ---- the line: 1 to 3, and then its form
 
