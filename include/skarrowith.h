@@ -39,6 +39,62 @@ extern "C" {
  */
 uint32_t skarrowith_check_line(const uint8_t *bytes, size_t len);
 
+/*
+ * The run bundle
+ *
+ * Each function answers 0, or SKARROWITH_REFUSED plus the number of the refusal table; then everything that was lent is
+ * as it was. What one call is lent for writing overlaps nothing else that it is lent. A bundle is at most 65,536 bytes;
+ * numbers in it are low byte first whatever the machine, and rows count from 0.
+ *
+ * Refusals of a bundle, lowest first over the whole: 30 too long; 31 under two bytes; 32 count over 512; 33 contents cut;
+ * 34 a position, direction or length out of its range, or a time below the row before; 35 an offset wrong or a body past
+ * the end; 36 bytes left over; 37 a character over 511.
+ */
+
+/* The direction of a row. */
+#define SKARROWITH_SENT 0u
+#define SKARROWITH_HEARD 1u
+
+/* The most bytes of a bundle, and of a listing. */
+#define SKARROWITH_BUNDLE_MOST 65536u
+#define SKARROWITH_LISTING_MOST 15901u
+
+/*
+ * Checks a bundle.
+ *
+ * bundle, len: its bytes. With length 0 the pointer may be null.
+ * rows:        takes the count of rows, 0 to 512.
+ *
+ * Refuses by 30 to 37.
+ */
+uint32_t skarrowith_bundle_check(const uint8_t *bundle, size_t len, size_t *rows);
+
+/*
+ * Adds a row, last, to the bundle that fills the first bytes of a buffer; the bodies move by 12 and the bytes past the new
+ * end stay. An empty bundle to begin with is two bytes of 0.
+ *
+ * buffer, len: all bytes of the buffer.
+ * filled:      how many of them the bundle fills; takes how many it then fills.
+ * position, direction, time: those of the new row; no time is below the last row's.
+ * body, body_len: its characters, two bytes each, low byte first.
+ *
+ * Refuses by 30 if the bundle fills more than the buffer has, and by 30 to 37 if the check refuses the old bundle; then for
+ * the new row by 34 and 37; then by 38 if there are 512 rows, or the new bundle exceeds the buffer or 65,536 bytes.
+ */
+uint32_t skarrowith_bundle_add(uint8_t *buffer, size_t len, size_t *filled, uint8_t position, uint8_t direction,
+                               uint32_t time, const uint8_t *body, size_t body_len);
+
+/*
+ * Lists a bundle as text: a line "position,direction,time,line" and a line for each row, such as "7,heard,0,ack". A bundle
+ * that is refused is listed as a line "refused 31", with its number; that is an answer and no refusal of this function.
+ *
+ * out, out_len: takes the text in its first bytes, and nothing beyond. SKARROWITH_LISTING_MOST bytes are always enough.
+ * written:      takes how many bytes the text has; no zero byte ends it.
+ *
+ * Refuses by 21 if there are fewer bytes than the text has. The function needs 27,000 bytes of stack.
+ */
+uint32_t skarrowith_bundle_list(const uint8_t *bundle, size_t len, uint8_t *out, size_t out_len, size_t *written);
+
 #ifdef __cplusplus
 }
 #endif

@@ -1,0 +1,47 @@
+-- `host_bundle::skarrowith_bundle_check` meets its contract, by the two cases of the check. Assumes nothing.
+use borrow.Author.Needs.{needs}
+use mathlib.Core.Path.{sym, _∙_}
+use denote.Ref.{now}
+use Rattle.format.specs.Answers.{reads, refusal}
+use Rattle.bundle.specs.Bundles.{checkOf}
+use Rattle.bundle.specs.Shown.{shownChecked-same}
+use Rattle.host_bundle.specs.Lent.{gives-value, gives-number}
+use Rattle.host_bundle.proofs.skarrowith_bundle_check.Statement.{statement}
+use Rattle.host_bundle.proofs.skarrowith_bundle_check.Tie as tie
+
+check-requires : tie.Need-check-requires
+check-requires c κs = search needs
+
+enum-known-count : tie.Need-enum-known-count
+enum-known-count c = search needs
+
+enum-known-number : tie.Need-enum-known-number
+enum-known-number c = search needs
+
+cast-result : tie.Need-cast-result
+cast-result c = search needs
+
+add-result : tie.Need-add-result
+add-result c = search needs
+
+returns : tie.Need-returns
+returns c =
+    let b = now (c .before .before .before .before .before .args .bundle) in
+    gives-value (shownChecked-same (checkOf b) (reads (c .before .count .given .0 .0)) (sym (c .before .before .before .check .ensures) ∙ c .before .count .given .1))
+
+returns-2 : tie.Need-returns-2
+returns-2 c =
+    let b = now (c .before .before .before .before .before .args .bundle) in
+    gives-number (shownChecked-same (checkOf b) (refusal (c .before .number .given .0 .0)) (sym (c .before .before .before .check .ensures) ∙ c .before .number .given .1))
+
+pub skarrowith-bundle-check-spec : {M : Type 1} → statement M
+skarrowith-bundle-check-spec =
+    tie.close
+    (tie.spec
+    check-requires
+    enum-known-count
+    enum-known-number
+    cast-result
+    add-result
+    returns
+    returns-2)

@@ -1,0 +1,60 @@
+// The run bundle for the bench host, a C program: include/skarrowith.h says how its functions are called.
+ghost use Rattle.bundle.specs.Bundles.{checkOf};
+ghost use Rattle.adding.specs.Adding.{recorded};
+ghost use Rattle.host_bundle.specs.Lent.{Gives};
+ghost use Rattle.host_bundle.specs.Bundled.{AddsIn, ListsIn};
+use adding::Added;
+use adding::add;
+use bundle::Checked;
+use bundle::checking::check;
+use listing::Listed;
+use listing::list;
+
+// 0 and the count of rows, or 256 plus 30 to 37.
+#[no_mangle]
+pub extern "C" fn skarrowith_bundle_check(bundle: &[u8], rows: &mut usize) -> u32
+    ensures { λ r. ⌜ Gives (checkOf (now (bundle .entry))) (now (rows .entry)) r (now (rows .exit)) ⌝ }
+{
+    match check(bundle) {
+        Checked::Rows(count) => {
+            *rows = count;
+            0
+        },
+        Checked::Refused(number) => 256 + number as u32,
+    }
+}
+
+// 0, the row added and how many bytes the bundle then fills, or 256 plus 30 to 38.
+#[no_mangle]
+pub extern "C" fn skarrowith_bundle_add(
+    buffer: &mut [u8],
+    filled: &mut usize,
+    position: u8,
+    direction: u8,
+    time: u32,
+    body: &[u8],
+) -> u32
+    ensures { λ r. ⌜ AddsIn (now (buffer .entry)) (now (filled .entry)) (recorded position direction time (now (body .entry))) r (now (buffer .exit)) (now (filled .exit)) ⌝ }
+{
+    match add(buffer, *filled, position, direction, time, body) {
+        Added::Filled(bytes) => {
+            *filled = bytes;
+            0
+        },
+        Added::Refused(number) => 256 + number as u32,
+    }
+}
+
+// 0, the listing in the first places and how many bytes it has, or 256 plus 21.
+#[no_mangle]
+pub extern "C" fn skarrowith_bundle_list(bundle: &[u8], out: &mut [u8], written: &mut usize) -> u32
+    ensures { λ r. ⌜ ListsIn (now (bundle .entry)) (now (out .entry)) (now (written .entry)) r (now (out .exit)) (now (written .exit)) ⌝ }
+{
+    match list(bundle, out) {
+        Listed::Written(bytes) => {
+            *written = bytes;
+            0
+        },
+        Listed::Refused(number) => 256 + number as u32,
+    }
+}
