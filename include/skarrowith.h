@@ -69,7 +69,15 @@ uint32_t skarrowith_refusal_text(uint32_t number, char *out, size_t len);
  * the end; 36 bytes left over; 37 a character over 511.
  */
 
-/* The direction of a row. */
+/* One row. Its body is the `length` bytes from `offset` on of the bundle that was lent, two for each character. */
+struct skarrowith_row {
+    uint32_t time;     /* the start of its first character, in bit times */
+    uint32_t offset;
+    uint16_t length;   /* even, 2 to 1,004 */
+    uint8_t position;  /* 1 to 48 */
+    uint8_t direction; /* SKARROWITH_SENT or SKARROWITH_HEARD */
+};
+
 #define SKARROWITH_SENT 0u
 #define SKARROWITH_HEARD 1u
 
@@ -86,6 +94,16 @@ uint32_t skarrowith_refusal_text(uint32_t number, char *out, size_t len);
  * Refuses by 30 to 37.
  */
 uint32_t skarrowith_bundle_check(const uint8_t *bundle, size_t len, size_t *rows);
+
+/*
+ * Reads one row. To hand on its body is to hand on bundle + row->offset with row->length bytes: nothing is copied.
+ *
+ * i:         which row; the first is 0.
+ * row, size: takes the row; size is sizeof(struct skarrowith_row), and any other is refused by 101, before all others.
+ *
+ * Refuses by 30 to 37, and then by 39 if there is no such row. The whole bundle is checked at each call.
+ */
+uint32_t skarrowith_bundle_row(const uint8_t *bundle, size_t len, size_t i, struct skarrowith_row *row, size_t size);
 
 /*
  * Adds a row, last, to the bundle that fills the first bytes of a buffer; the bodies move by 12 and the bytes past the new

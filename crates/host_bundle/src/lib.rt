@@ -2,13 +2,21 @@
 ghost use Rattle.bundle.specs.Bundles.{checkOf};
 ghost use Rattle.adding.specs.Adding.{recorded};
 ghost use Rattle.host_bundle.specs.Lent.{Gives};
+ghost use Rattle.host_bundle.specs.Rows.{rowInto, GivesRow};
 ghost use Rattle.host_bundle.specs.Bundled.{AddsIn, ListsIn};
 use adding::Added;
 use adding::add;
 use bundle::Checked;
+use bundle::RowFound;
 use bundle::checking::check;
+use bundle::reading::row;
 use listing::Listed;
 use listing::list;
+use records::store;
+use rows::ROW_BYTES;
+use rows::record_of;
+
+mod rows;
 
 // 0 and the count of rows, or 256 plus 30 to 37.
 #[no_mangle]
@@ -21,6 +29,25 @@ pub extern "C" fn skarrowith_bundle_check(bundle: &[u8], rows: &mut usize) -> u3
             0
         },
         Checked::Refused(number) => 256 + number as u32,
+    }
+}
+
+// 0 and the record of row i, or 256 plus 101, 30 to 37 or 39.
+#[no_mangle]
+pub extern "C" fn skarrowith_bundle_row(bundle: &[u8], i: usize, out: &mut [u8]) -> u32
+    ensures { λ r. ⌜ GivesRow (rowInto (now (bundle .entry)) i (now (out .entry))) (now (out .entry)) r (now (out .exit)) ⌝ }
+{
+    let other = out.len() != ROW_BYTES;
+    if other {
+        return 256 + 101;
+    }
+    match row(bundle, i) {
+        RowFound::Fields(fields) => {
+            let bytes = record_of(fields);
+            store(&bytes, out);
+            0
+        },
+        RowFound::Refused(number) => 256 + number as u32,
     }
 }
 

@@ -1,0 +1,73 @@
+-- A row as a record for C: the fields of struct skarrowith_row, numbers low byte first.
+use Prim.Native.Nat.{ℕ, _+_, _^_, _<_}
+use mathlib.Core.Bool.{true, false, not}
+use mathlib.Core.List.{List, [], _∷_, _++_}
+use mathlib.Core.Path.{_≡_, refl, sym, _∙_}
+use native.Mathlib.Omega.{arith}
+use borrow.Author.Tests.{le-ltb}
+use lib.Dec.{ltb, eqb}
+use lib.ListN.{length, take, drop}
+use Rattle.format.specs.Lists.{at}
+use Rattle.format.specs.Tests.{not-different}
+use Rattle.format.specs.Answers.{Answer, reads, refusal, refuse}
+use Rattle.low_first.specs.Numbers.{number, bytesOf, number-bytes}
+use Rattle.records.specs.Lent.{stored, needs}
+use Rattle.records.specs.Recorded.{noRecord}
+use Rattle.bundle.specs.declared.Row.{Row}
+use Rattle.bundle.specs.declared.RowFound.{RowFound}
+use Rattle.bundle.specs.declared.RowFound.the-variants.{Fields, Refused}
+use Rattle.bundle.specs.Bundles.{rowAt}
+use Rattle.bundle.specs.Shown.{shownRow, shownRow-same}
+use Rattle.host_bundle.specs.Lent.{done}
+
+-- time 4 bytes; offset 4; body length 2; position; direction
+abbrev pub rowRecord : Row → List ℕ
+rowRecord r = bytesOf 4 (r .time) ++ (bytesOf 4 (r .offset) ++ (bytesOf 2 (r .length) ++ (r .position ∷ (r .direction ∷ []))))
+
+-- a record of another size is refused by 101, before all others
+abbrev pub rowInto : List ℕ → ℕ → List ℕ → Answer Row
+rowInto b i out = refuse noRecord (not (eqb (length out) 12)) (rowAt b i)
+
+-- 0, and the row's record in the places lent for it; or 256 plus the refusal number, and they are as they were.
+pub record GivesRow (a : Answer Row) (before : List ℕ) (r : ℕ) (after : List ℕ) : Type 0 where
+  pub number : r ≡ done a
+  pub places : after ≡ stored rowRecord before a
+
+-- Laws: the record's size; a record of another size, and the two cases of the row.
+pub length-record : (r : Row) → length (rowRecord r) ≡ 12
+unfolding bytesOf
+length-record r = refl
+
+-- What C reads at the places of struct skarrowith_row are the row's fields.
+pub record FieldsRead (r : Row) (s : List ℕ) : Type 0 where
+  pub time : number (take 4 s) ≡ r .time
+  pub offset : number (take 4 (drop 4 s)) ≡ r .offset
+  pub size : number (take 2 (drop 8 s)) ≡ r .length
+  pub position : at s 10 ≡ r .position
+  pub direction : at s 11 ≡ r .direction
+
+pub fields-read : (r : Row) → r .time < 256 ^ 4 → r .offset < 256 ^ 4 → r .length < 256 ^ 2 → FieldsRead r (rowRecord r)
+unfolding bytesOf
+fields-read r t o l = record {
+  time = number-bytes 4 (r .time) t;
+  offset = number-bytes 4 (r .offset) o;
+  size = number-bytes 2 (r .length) l;
+  position = refl;
+  direction = refl;
+}
+
+module _ (b : List ℕ) (i : ℕ) (out : List ℕ) where
+  pub row-other : not (eqb (length out) 12) ≡ true → GivesRow (rowInto b i out) out (256 + noRecord) out
+  row-other e = record { number = rw e; places = rw e }
+
+  module _ {s : RowFound} (e : not (eqb (length out) 12) ≡ false) (f : s ≡ shownRow (rowAt b i)) where
+    pub row-number : {n : ℕ} → s ≡ Refused n → GivesRow (rowInto b i out) out (256 + n) out
+    row-number {n} g = let a : rowAt b i ≡ refusal n = shownRow-same (rowAt b i) (refusal n) (sym f ∙ g) in record { number = rw (e, a); places = rw (e, a) }
+
+    pub row-value : {r : Row} {x after : List ℕ} → s ≡ Fields r → x ≡ rowRecord r → after ≡ stored (λ w. w) out (needs (length x) out (reads x))
+        → GivesRow (rowInto b i out) out 0 after
+    row-value {r} {x} {after} g h k =
+        let a : rowAt b i ≡ reads r = shownRow-same (rowAt b i) (reads r) (sym f ∙ g) in
+        let enough : ltb (length out) (length (rowRecord r)) ≡ false = le-ltb (length out) (length (rowRecord r)) (omega (arith, length-record r, not-different (length out) 12 e)) in
+        let there : after ≡ stored (λ w. w) out (needs (length (rowRecord r)) out (reads (rowRecord r))) = rw h at k in
+        record { number = rw (e, a); places = rw (e, a) (there ∙ rw enough) }

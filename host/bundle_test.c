@@ -1,0 +1,217 @@
+/* Calls the bundle's functions as a bench host does: document 01's example, each refusal 30 to 39, and lent memory untouched by
+   every refusal. */
+#include "skarrowith.h"
+
+#include <stdio.h>
+#include <string.h>
+
+/* Document 01's example: position 7, heard, time 0, an ack. */
+static const uint8_t example[16] = {1, 0, 7, 1, 0, 0, 0, 0, 14, 0, 0, 0, 2, 0, 0xE5, 1};
+static const uint8_t ack[2] = {0xE5, 1};
+static const char listed[] = "position,direction,time,line\n7,heard,0,ack\n";
+
+/* All that is lent for writing, and what it was before a call. */
+static struct lent {
+    size_t number;
+    struct skarrowith_row row;
+    uint8_t bytes[SKARROWITH_BUNDLE_MOST + 64];
+} lent, before;
+
+static unsigned long right, wrong;
+
+static void expect(const char *name, uint32_t got, uint32_t answer)
+{
+    if (got == answer) {
+        right++;
+        return;
+    }
+    printf("bundle test: %s: %lu, and not %lu\n", name, (unsigned long)got, (unsigned long)answer);
+    wrong++;
+}
+
+static void remember(void)
+{
+    memcpy(&before, &lent, sizeof lent);
+}
+
+/* The answer is a refusal, and all that was lent is as it was. */
+static void refused(const char *name, uint32_t got, unsigned number)
+{
+    expect(name, got, SKARROWITH_REFUSED + number);
+    expect("lent memory after a refusal", memcmp(&before, &lent, sizeof lent) != 0, 0);
+}
+
+static uint32_t row_at(const uint8_t *bundle, size_t len, size_t i)
+{
+    return skarrowith_bundle_row(bundle, len, i, &lent.row, sizeof lent.row);
+}
+
+static uint32_t add_ack(size_t room, uint8_t position, uint32_t time)
+{
+    return skarrowith_bundle_add(lent.bytes, room, &lent.number, position, SKARROWITH_HEARD, time, ack, sizeof ack);
+}
+
+static void begin(const uint8_t *bundle, size_t len)
+{
+    memset(&lent, 0xA5, sizeof lent);
+    memcpy(lent.bytes, bundle, len);
+    lent.number = len;
+    remember();
+}
+
+/* A bundle that is refused is refused by every function but the listing, which says so. */
+static void refused_bundle(const char *name, unsigned number, const uint8_t *bundle, size_t len)
+{
+    char text[16];
+    int size = sprintf(text, "refused %u\n", number);
+    begin(bundle, len);
+    refused(name, skarrowith_bundle_check(bundle, len, &lent.number), number);
+    refused(name, row_at(bundle, len, 0), number);
+    refused(name, row_at(bundle, len, 600), number);
+    refused(name, add_ack(sizeof lent.bytes, 0, 0), number);
+    expect(name, skarrowith_bundle_list(bundle, len, lent.bytes, sizeof lent.bytes, &lent.number), 0);
+    expect("its text's length", (uint32_t)lent.number, (uint32_t)size);
+    expect("its text", memcmp(lent.bytes, text, (size_t)size) != 0, 0);
+    expect("nothing beyond", memcmp(lent.bytes + size, before.bytes + size, sizeof lent.bytes - (size_t)size) != 0, 0);
+}
+
+static void test_example(void)
+{
+    struct skarrowith_row same = {0, 14, 2, 7, SKARROWITH_HEARD};
+    size_t size = sizeof listed - 1;
+    begin(example, sizeof example);
+    expect("the example", skarrowith_bundle_check(example, sizeof example, &lent.number), 0);
+    expect("its count of rows", (uint32_t)lent.number, 1);
+    expect("its row", row_at(example, sizeof example, 0), 0);
+    expect("its fields", memcmp(&lent.row, &same, sizeof same) != 0, 0);
+    expect("its body", memcmp(example + lent.row.offset, ack, lent.row.length) != 0, 0);
+    remember();
+    refused("no second row", row_at(example, sizeof example, 1), 39);
+    refused("no last row", row_at(example, sizeof example, SIZE_MAX), 39);
+    refused("a record a byte short", skarrowith_bundle_row(example, sizeof example, 0, &lent.row, sizeof lent.row - 1), 101);
+    refused("a record a byte long", skarrowith_bundle_row(example, sizeof example, 0, &lent.row, sizeof lent.row + 1), 101);
+    refused("a record's size first", skarrowith_bundle_row(example, 1, 9, &lent.row, 0), 101);
+    refused("a place too few", skarrowith_bundle_list(example, sizeof example, lent.bytes, size - 1, &lent.number), 21);
+    refused("no place", skarrowith_bundle_list(example, sizeof example, NULL, 0, &lent.number), 21);
+    expect("its listing", skarrowith_bundle_list(example, sizeof example, lent.bytes, size, &lent.number), 0);
+    expect("its length", (uint32_t)lent.number, (uint32_t)size);
+    expect("its text", memcmp(lent.bytes, listed, size) != 0, 0);
+    expect("nothing beyond", memcmp(lent.bytes + size, before.bytes + size, sizeof lent.bytes - size) != 0, 0);
+}
+
+static void test_refusals(void)
+{
+    static const struct {
+        const char *name;
+        unsigned number;
+        size_t len, at;
+        uint8_t byte;
+    } damaged[] = {
+        {"one byte", 31, 1, 0, 1},
+        {"count 513", 32, 16, 1, 2},
+        {"contents cut", 33, 13, 0, 1},
+        {"position 0", 34, 16, 2, 0},
+        {"position 49", 34, 16, 2, 49},
+        {"direction 2", 34, 16, 3, 2},
+        {"length 0", 34, 16, 12, 0},
+        {"length 3", 34, 16, 12, 3},
+        {"length 1,026", 34, 16, 13, 4},
+        {"offset 15", 35, 16, 8, 15},
+        {"offset 65,550", 35, 16, 10, 1},
+        {"a body past the end", 35, 16, 12, 4},
+        {"a byte left over", 36, 17, 16, 0},
+        {"a character over 511", 37, 16, 15, 2},
+    };
+    static uint8_t bytes[SKARROWITH_BUNDLE_MOST + 1];
+    memcpy(bytes, example, sizeof example);
+    refused_bundle("65,537 bytes", 30, bytes, sizeof bytes);
+    refused_bundle("65,536 bytes", 36, bytes, sizeof bytes - 1);
+    refused_bundle("no bytes", 31, bytes, 0);
+    for (size_t i = 0; i < sizeof damaged / sizeof damaged[0]; i++) {
+        memcpy(bytes, example, sizeof example);
+        bytes[damaged[i].at] = damaged[i].byte;
+        refused_bundle(damaged[i].name, damaged[i].number, bytes, damaged[i].len);
+        bytes[damaged[i].at] = 0;
+    }
+    begin(bytes, 0);
+    refused("no bytes at a null pointer", skarrowith_bundle_check(NULL, 0, &lent.number), 31);
+    refused("its row", row_at(NULL, 0, 0), 31);
+    refused("a buffer of no bytes", skarrowith_bundle_add(NULL, 0, &lent.number, 7, 1, 0, ack, sizeof ack), 31);
+}
+
+static void test_adding(void)
+{
+    static const uint8_t none[2] = {0, 0};
+    static const uint8_t wide[2] = {0, 2};
+    static const uint8_t two[30] = {2, 0, 7, 1, 0, 0, 0, 0, 26, 0, 0, 0, 2, 0, 48, 1, 0x78, 0x56, 0x34, 0x12, 28, 0, 0, 0, 2, 0, 0xE5, 1, 0xE5, 1};
+    uint8_t falls[30];
+    begin(none, sizeof none);
+    expect("the first row", add_ack(16, 7, 0), 0);
+    expect("the bytes filled", (uint32_t)lent.number, 16);
+    expect("the example made", memcmp(lent.bytes, example, 16) != 0, 0);
+    expect("nothing beyond", memcmp(lent.bytes + 16, before.bytes + 16, sizeof lent.bytes - 16) != 0, 0);
+    expect("a second row", add_ack(sizeof lent.bytes, 48, 0x12345678), 0);
+    expect("the bytes filled", (uint32_t)lent.number, 30);
+    expect("both rows", memcmp(lent.bytes, two, 30) != 0, 0);
+    expect("nothing beyond", memcmp(lent.bytes + 30, before.bytes + 30, sizeof lent.bytes - 30) != 0, 0);
+    expect("row 1", row_at(lent.bytes, 30, 1), 0);
+    expect("its time", lent.row.time, 0x12345678);
+    expect("its offset", lent.row.offset, 28);
+    expect("its position", lent.row.position, 48);
+    remember();
+    refused("an earlier time", add_ack(sizeof lent.bytes, 7, 0x12345677), 34);
+    refused("position 0", add_ack(sizeof lent.bytes, 0, 0x12345678), 34);
+    refused("a field before a character", skarrowith_bundle_add(lent.bytes, 30, &lent.number, 7, 2, 0x12345678, wide, 2), 34);
+    refused("no body", skarrowith_bundle_add(lent.bytes, 30, &lent.number, 7, 0, 0x12345678, NULL, 0), 34);
+    refused("a character over 511", skarrowith_bundle_add(lent.bytes, 30, &lent.number, 7, 0, 0x12345678, wide, 2), 37);
+    refused("a byte too few", add_ack(43, 7, 0x12345678), 38);
+    refused("more than the buffer has", add_ack(29, 7, 0x12345678), 30);
+    memcpy(falls, two, sizeof falls);
+    falls[4] = 0x79;
+    falls[5] = 0x56;
+    falls[6] = 0x34;
+    falls[7] = 0x12;
+    refused_bundle("a time that falls", 34, falls, sizeof falls);
+}
+
+/* 38 at 512 rows, and where the new bundle would have more than 65,536 bytes though the buffer has room. */
+static void test_full(void)
+{
+    static const uint8_t none[2] = {0, 0};
+    static uint8_t body[1004];
+    begin(none, sizeof none);
+    for (uint32_t i = 0; i < 512; i++)
+        expect("one of 512 rows", add_ack(sizeof lent.bytes, 1, i), 0);
+    expect("their bytes", (uint32_t)lent.number, 2 + 512 * 14);
+    remember();
+    refused("513 rows", add_ack(sizeof lent.bytes, 1, 512), 38);
+    expect("the last row", row_at(lent.bytes, 2 + 512 * 14, 511), 0);
+    expect("its time", lent.row.time, 511);
+    remember();
+    refused("no row 512", row_at(lent.bytes, 2 + 512 * 14, 512), 39);
+    begin(none, sizeof none);
+    for (uint32_t i = 0; i < 64; i++)
+        expect("one of 64 rows", skarrowith_bundle_add(lent.bytes, sizeof lent.bytes, &lent.number, 1, 0, i, body, 1004), 0);
+    expect("their bytes", (uint32_t)lent.number, 2 + 64 * 1016);
+    remember();
+    refused("65,538 bytes", skarrowith_bundle_add(lent.bytes, sizeof lent.bytes, &lent.number, 1, 0, 64, body, 500), 38);
+    expect("65,536 bytes", skarrowith_bundle_add(lent.bytes, sizeof lent.bytes, &lent.number, 1, 0, 64, body, 498), 0);
+    expect("their bytes", (uint32_t)lent.number, SKARROWITH_BUNDLE_MOST);
+    remember();
+    refused("one row more", add_ack(sizeof lent.bytes, 1, 64), 38);
+    lent.number = SKARROWITH_BUNDLE_MOST + 1;
+    remember();
+    refused("65,537 bytes filled", add_ack(sizeof lent.bytes, 1, 64), 30);
+}
+
+int main(void)
+{
+    expect("the row's size", sizeof(struct skarrowith_row), 12);
+    test_example();
+    test_refusals();
+    test_adding();
+    test_full();
+    if (wrong == 0)
+        printf("bundle test: %lu answers are right\n", right);
+    return wrong != 0;
+}
