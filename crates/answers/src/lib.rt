@@ -59,7 +59,7 @@ pub fn put_four(out: &mut [u8; 4096], at: usize, n: u16) -> usize {
 }
 
 // A character: three hexadecimal digits behind a space, four above FFF.
-fn put_character(out: &mut [u8; 4096], at: usize, c: u16) -> usize {
+pub fn put_character(out: &mut [u8; 4096], at: usize, c: u16) -> usize {
     if c > 0xFFF {
         return put_four(out, at, c);
     }

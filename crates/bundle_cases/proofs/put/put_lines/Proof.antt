@@ -1,0 +1,28 @@
+-- `bundle_cases::put::put_lines` is safe and ends.
+use Prim.Native.Nat.{_≤_, _-_}
+use mathlib.Core.Path.{_≡_}
+use lib.ListN.{length}
+use borrow.Author.Needs.{needs}
+use Rattle.bundle_cases.proofs.put.put_lines.Statement.{statement}
+use Rattle.bundle_cases.proofs.put.put_lines.Tie as tie
+
+abbrev Inv-loop : tie.InvT-loop
+Inv-loop out₀ at text size next₀ i₀ i-end out next i = (i ≤ i-end) × (i-end ≡ length text)
+
+abbrev μ-loop : tie.MeasureT-loop
+μ-loop out₀ at text size next₀ i₀ i-end out next i = i-end - i
+
+pub put-lines-spec : {M : Type 1} → statement M
+put-lines-spec =
+    tie.close
+    (tie.spec
+    Inv-loop
+    μ-loop
+    (λ c. search needs)
+    (λ c. search needs)
+    (λ c κs. search needs)
+    (λ c. search needs)
+    (λ c. search needs)
+    (λ c. search needs)
+    (λ c. search needs)
+    (λ c. search needs))
