@@ -2,6 +2,7 @@
 #include "skarrowith.h"
 
 #include <stdio.h>
+#include <string.h>
 
 struct value {
     const char *name;
@@ -28,6 +29,7 @@ static const uint8_t data_bytes[63] = {
     0x3B, 0x78, 0x56, 0x34, 0x12, 0x06, 0x6D, 0x1C, 0x33, 0x0F, 0x57, 0x27, 0x00, 0x02, 0x16};
 
 static int wrong;
+static unsigned long right;
 
 static void expect(const char *name, uint32_t answer, const uint8_t *bytes, size_t len)
 {
@@ -35,6 +37,45 @@ static void expect(const char *name, uint32_t answer, const uint8_t *bytes, size
     if (got != answer) {
         printf("test: %s: %lu, and not %lu\n", name, (unsigned long)got, (unsigned long)answer);
         wrong = 1;
+    } else {
+        right++;
+    }
+}
+
+/* The words for a number, given so many places: what they hold, and nothing beyond. */
+static void expect_words(uint32_t number, size_t places, uint32_t answer, const char *words)
+{
+    char out[260], whole[260];
+    uint32_t got;
+    memset(out, '#', sizeof out);
+    memset(whole, '#', sizeof whole);
+    memcpy(whole, words, strlen(words));
+    got = skarrowith_refusal_text(number, places == 0 ? NULL : out, places);
+    if (got != answer || memcmp(out, whole, sizeof out) != 0) {
+        printf("test: words for %lu: %lu, and not %lu: %.40s\n", (unsigned long)number, (unsigned long)got, (unsigned long)answer, out);
+        wrong = 1;
+    } else {
+        right++;
+    }
+}
+
+/* Document 01 has words for these numbers and no others. */
+static int has_words(uint32_t n)
+{
+    return (n >= 1 && n <= 21 && n != 19) || (n >= 30 && n <= 42) || (n >= 50 && n <= 52) || (n >= 60 && n <= 62) || (n >= 70 && n <= 72);
+}
+
+static void expect_all_words(void)
+{
+    char out[256];
+    for (uint32_t n = 0; n < 1000; n++) {
+        uint32_t got = skarrowith_refusal_text(n, out, sizeof out), asked = n < SKARROWITH_REFUSED ? n : n - SKARROWITH_REFUSED;
+        int fine = has_words(asked) ? got > 0 && got < SKARROWITH_REFUSED && memchr(out, '\n', got) == NULL
+                                    : got == SKARROWITH_REFUSED + SKARROWITH_NO_SUCH_NUMBER;
+        if (!fine) {
+            printf("test: words for %lu: %lu\n", (unsigned long)n, (unsigned long)got);
+            wrong = 1;
+        }
     }
 }
 
@@ -76,7 +117,16 @@ int main(void)
     expect("the same, four flips", SKARROWITH_DATA, data, sizeof data);
     data[2 * 16] ^= 1;
     expect("the same, five flips", SKARROWITH_REFUSED + 3, data, sizeof data);
+    expect_words(1, 260, 17, "the line is empty");
+    expect_words(8, 14, 14, "checksum wrong");
+    expect_words(SKARROWITH_REFUSED + 8, 14, 14, "checksum wrong");
+    expect_words(8, 13, SKARROWITH_REFUSED + 21, "");
+    expect_words(8, 0, SKARROWITH_REFUSED + 21, "");
+    expect_words(72, 260, 83, "meter: set up with data the writer refuses, or energy or volume not in structure 0C");
+    expect_words(19, 260, SKARROWITH_REFUSED + SKARROWITH_NO_SUCH_NUMBER, "");
+    expect_words(4294967295u, 260, SKARROWITH_REFUSED + SKARROWITH_NO_SUCH_NUMBER, "");
+    expect_all_words();
     if (!wrong)
-        printf("test: %lu answers are right\n", (unsigned long)count + 3);
+        printf("test: %lu answers are right\n", right);
     return wrong;
 }

@@ -1,10 +1,16 @@
 /*
  * Skarrowith: line checking for a heat-meter verification bench.
  *
- * The functions are proved against document 01's rules for every input, of any length: they read only the bytes that
- * they are lent, keep no state, call nothing and always return. They may be called from any thread.
+ * The functions are proved against document 01's rules for every input, of any length: they read and write only the
+ * memory that they are lent, keep no state, call nothing but memcpy and memset, and always return. They may be called
+ * from any thread.
  *
- * Build the archive with `rt staticlib host`, and link target/staticlib/libhost.a into an x86-64 program.
+ * Answers. Every function answers one number. Below 256 it is the answer; SKARROWITH_REFUSED plus n is refusal n of
+ * document 01. On a refusal nothing that was lent has changed. Output that is lent (a pointer and the number of places)
+ * and too short for what is to be written is refused by 21; a longer one is changed in its first places alone. With
+ * length 0 a pointer may be null.
+ *
+ * Build the archive target/staticlib/libskarrowith.a with `make -C host archive`, and link it into an x86-64 program.
  */
 #ifndef SKARROWITH_H
 #define SKARROWITH_H
@@ -16,6 +22,15 @@
 extern "C" {
 #endif
 
+/* A refusal: this plus its number in document 01, or plus one of the numbers below, which are neither 01's nor 02's. */
+#define SKARROWITH_REFUSED 256u
+
+/* There are no words for this number. */
+#define SKARROWITH_NO_SUCH_NUMBER 100u
+
+/* What is lent for a record has another size. */
+#define SKARROWITH_NO_RECORD 101u
+
 /* What skarrowith_check_line answers for a line that is accepted. */
 #define SKARROWITH_ACK 1u
 #define SKARROWITH_READ 2u
@@ -23,28 +38,33 @@ extern "C" {
 #define SKARROWITH_LEAVE 4u
 #define SKARROWITH_DATA 5u
 
-/* A line that is refused: this plus the number of document 01's refusal table, 1 to 17. */
-#define SKARROWITH_REFUSED 256u
-
 /*
  * Checks a line that was received.
  *
  * bytes: two for each character, low byte first. A character is the byte received, with the parity bit received as
  *        bit 8; so the first of the two is the byte, and the second is 0 or 1. They are not changed.
- * len:   the number of bytes. An odd number is refused by 17. With length 0, which is the empty line and refused by 1,
- *        bytes may be a null pointer.
+ * len:   the number of bytes. An odd number is refused by 17. Length 0 is the empty line and refused by 1.
  *
- * Answers SKARROWITH_ACK to SKARROWITH_DATA, or SKARROWITH_REFUSED plus the lowest refusal number that applies (11 to 15
- * are tried entry by entry from the left).
+ * Answers SKARROWITH_ACK to SKARROWITH_DATA, or SKARROWITH_REFUSED plus the lowest refusal number that applies, 1 to 17
+ * (11 to 15 are tried entry by entry from the left).
  */
 uint32_t skarrowith_check_line(const uint8_t *bytes, size_t len);
 
 /*
+ * Writes the words of document 01 for a refusal, for an operator to read.
+ *
+ * number: a refusal number of document 01, 1 to 72, or SKARROWITH_REFUSED plus one, as it was answered.
+ * out:    len places. The words are ASCII, in one piece, without a zero behind them, and shorter than 256 bytes.
+ *
+ * Answers how many bytes were written, or SKARROWITH_REFUSED plus 21 (len is too small) or SKARROWITH_NO_SUCH_NUMBER.
+ */
+uint32_t skarrowith_refusal_text(uint32_t number, char *out, size_t len);
+
+/*
  * The run bundle
  *
- * Each function answers 0, or SKARROWITH_REFUSED plus the number of the refusal table; then everything that was lent is
- * as it was. What one call is lent for writing overlaps nothing else that it is lent. A bundle is at most 65,536 bytes;
- * numbers in it are low byte first whatever the machine, and rows count from 0.
+ * These functions answer 0 when they are done. What a call is lent for writing must not overlap with anything else that it
+ * is lent. A bundle is at most 65,536 bytes. Rows count from 0.
  *
  * Refusals of a bundle, lowest first over the whole: 30 too long; 31 under two bytes; 32 count over 512; 33 contents cut;
  * 34 a position, direction or length out of its range, or a time below the row before; 35 an offset wrong or a body past
@@ -70,7 +90,7 @@ struct skarrowith_row {
 /*
  * Checks a bundle.
  *
- * bundle, len: its bytes. With length 0 the pointer may be null.
+ * bundle, len: its bytes.
  * rows:        takes the count of rows, 0 to 512.
  *
  * Refuses by 30 to 37.
@@ -81,9 +101,10 @@ uint32_t skarrowith_bundle_check(const uint8_t *bundle, size_t len, size_t *rows
  * Reads one row. To hand on its body is to hand on bundle + row->offset with row->length bytes: nothing is copied.
  *
  * i:         which row; the first is 0.
- * row, size: takes the row; size is sizeof(struct skarrowith_row), and any other is refused by 101, before all others.
+ * row, size: takes the row; size is sizeof(struct skarrowith_row).
  *
- * Refuses by 30 to 37, and then by 39 if there is no such row. The whole bundle is checked at each call.
+ * Refuses by SKARROWITH_NO_RECORD if size is another; then by 30 to 37, and by 39 if there is no such row. The whole bundle
+ * is checked at each call.
  */
 uint32_t skarrowith_bundle_row(const uint8_t *bundle, size_t len, size_t i, struct skarrowith_row *row, size_t size);
 

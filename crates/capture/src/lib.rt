@@ -6,7 +6,7 @@ ghost use Rattle.capture.specs.SearchLaws.{allowedAt};
 use format::Outcome;
 use parts::bytes::byte_at;
 use reading::read_line;
-use reading::scan::is_odd;
+use reading::scan::counts_odd;
 
 // Where the first accepted line of a capture begins, and its length.
 pub enum Found {
@@ -26,16 +26,21 @@ fn allowed_at(rest: &[u16]) -> usize
         let end = byte_at(rest, 4);
         return if end == 0x16 { 5 } else { 0 };
     }
+    if first != 0x68 {
+        return 0;
+    }
     let second = byte_at(rest, 1);
     let third = byte_at(rest, 2);
+    if second != third {
+        return 0;
+    }
     let fourth = byte_at(rest, 3);
+    if fourth != 0x68 {
+        return 0;
+    }
     let length = second as usize + 6;
     let end = byte_at(rest, length - 1);
-    if (first == 0x68) & (second == third) & (fourth == 0x68) & (end == 0x16) {
-        length
-    } else {
-        0
-    }
+    if end == 0x16 { length } else { 0 }
 }
 
 // Reading accepts the line.
@@ -65,7 +70,7 @@ pub fn find_line(capture: &[u16]) -> Found
             let mut i: usize = 0;
             while i < length {
                 let c = rest[i];
-                if (511 < c) | is_odd(c) {
+                if (511 < c) | counts_odd(c) {
                     break;
                 }
                 i += 1;

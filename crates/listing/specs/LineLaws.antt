@@ -18,7 +18,8 @@ use Rattle.bundle.specs.Rows.{wrongField, wrongRow, timeOf, blankRow, rowIn, le
 use Rattle.bundle.specs.Bundles.{countOf, contentsOf, checkOf}
 use Rattle.bundle.specs.Accepted.{Sound, accepted-sound, body-inside, row-there}
 use Rattle.listing.specs.declared.texts.Line.{Line}
-use Rattle.listing.specs.Texts.{text, decimal}
+use Rattle.words.specs.Words.{text}
+use Rattle.listing.specs.Texts.{decimal}
 use Rattle.listing.specs.Listings.{directionText, rowText, lineFor, linesFor, refusedText, firstLine, listingOf}
 use Rattle.listing.specs.Writing.{pasted, textOf, Holds, take-pasted}
 

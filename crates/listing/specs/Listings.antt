@@ -15,7 +15,8 @@ use Rattle.clock.specs.Wakes.{wakeCharacter, outside}
 use Rattle.bundle.specs.declared.Row.{Row}
 use Rattle.bundle.specs.Bodies.{charactersOf}
 use Rattle.bundle.specs.Bundles.{contentsOf, checkOf}
-use Rattle.listing.specs.Texts.{text, decimal}
+use Rattle.words.specs.Words.{text}
+use Rattle.listing.specs.Texts.{decimal}
 
 -- wake: 459–502 characters, all 55 with parity 0
 abbrev pub noWake : ℕ → Bool

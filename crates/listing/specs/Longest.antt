@@ -28,7 +28,8 @@ use Rattle.bundle.specs.Rows.{mostRows, wrongRows, wrongPlaces, bodiesEnd, firs
 use Rattle.bundle.specs.Bodies.{charactersOf}
 use Rattle.bundle.specs.Bundles.{mostBytes, countOf, contentsOf, bodiesOf, checkOf}
 use Rattle.bundle.specs.Accepted.{Sound, accepted-sound}
-use Rattle.listing.specs.Texts.{text, digitsIn, decimal, lastDigit}
+use Rattle.words.specs.Words.{text}
+use Rattle.listing.specs.Texts.{digitsIn, decimal, lastDigit}
 use Rattle.listing.specs.Listings.{isWake, wordFor, wordOf, directionText, rowText, bodyIn, lineFor, linesFor, listed, listingOf, firstLine, refusedText}
 use Rattle.listing.specs.LineLaws.{row-range, count-rows, few-rows}
 

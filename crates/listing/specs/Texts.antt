@@ -1,8 +1,5 @@
--- Text as bytes, and numbers in decimal.
+-- Numbers in decimal.
 use Prim.Native.Nat.{ℕ, zero, suc, _+_, _-_, _*_, _/_, _%_, _^_, _≤_, _<_}
-use Prim.Native.Char.{code}
-use Prim.Native.String as string
-use Prim.Native.String.{String}
 use mathlib.Core.Bool.{cond}
 use mathlib.Core.List.{List, [], _∷_, _++_, append-assoc}
 use mathlib.Core.Path.{_≡_, refl, sym, ap, _∙_, subst}
@@ -12,11 +9,6 @@ use borrow.Author.Tests.{ne-eqb}
 use lib.Dec.{eqb}
 use lib.ListN.{length, drop, set, length-set, drop-of-length-le}
 use lib.Seq.{drop-cons, getD-set-same, drop-set-lt}
-
--- the bytes of a text
-abbrev pub text : String → List ℕ
-text string.[] = []
-text (string._∷_ c s) = code c ∷ text s
 
 -- the last decimal digit of a number
 abbrev pub lastDigit : ℕ → List ℕ

@@ -7,7 +7,7 @@ ghost use Rattle.format.specs.Answers.{reads};
 ghost use Rattle.bundle.specs.Bodies.{charactersOf};
 ghost use Rattle.bundle.specs.Bundles.{contentsOf, checkOf};
 ghost use Rattle.bundle.specs.Rows.{rowIn};
-ghost use Rattle.listing.specs.Texts.{text};
+ghost use Rattle.words.specs.Words.{text};
 ghost use Rattle.listing.specs.Listings.{isWake, refusedText, wordFor, wordOf, directionText, rowText, lineFor, linesFor};
 ghost use Rattle.listing.specs.Writing.{textOf, Holds};
 use crate::texts::Line;

@@ -64,8 +64,8 @@ mul-c c = search needs
 shared-slice-read-c : tie.Need-shared-slice-read-c Inv-loop μ-loop Inv-places μ-places
 shared-slice-read-c c = omega (arith, c .before .before .loop .inv .room)
 
-is-odd-requires : tie.Need-is-odd-requires Inv-loop μ-loop Inv-places μ-places
-is-odd-requires c κs = search needs
+counts-odd-requires : tie.Need-counts-odd-requires Inv-loop μ-loop Inv-places μ-places
+counts-odd-requires c κs = search needs
 
 add-i : tie.Need-add-i Inv-loop μ-loop Inv-places μ-places
 add-i c = omega (arith, c .before .before .before .before .loop .inv .room)
@@ -121,7 +121,7 @@ find-line-spec =
     loop-holds
     mul-c
     shared-slice-read-c
-    is-odd-requires
+    counts-odd-requires
     add-i
     slice-aggregate-is-accepted
     is-accepted-requires
