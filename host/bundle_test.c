@@ -88,9 +88,9 @@ static void test_example(void)
     remember();
     refused("no second row", row_at(example, sizeof example, 1), 39);
     refused("no last row", row_at(example, sizeof example, SIZE_MAX), 39);
-    refused("a record a byte short", skarrowith_bundle_row(example, sizeof example, 0, &lent.row, sizeof lent.row - 1), 101);
-    refused("a record a byte long", skarrowith_bundle_row(example, sizeof example, 0, &lent.row, sizeof lent.row + 1), 101);
-    refused("a record's size first", skarrowith_bundle_row(example, 1, 9, &lent.row, 0), 101);
+    refused("a record a byte short", skarrowith_bundle_row(example, sizeof example, 0, &lent.row, sizeof lent.row - 1), SKARROWITH_NO_RECORD);
+    refused("a record a byte long", skarrowith_bundle_row(example, sizeof example, 0, &lent.row, sizeof lent.row + 1), SKARROWITH_NO_RECORD);
+    refused("a record's size first", skarrowith_bundle_row(example, 1, 9, &lent.row, 0), SKARROWITH_NO_RECORD);
     refused("a place too few", skarrowith_bundle_list(example, sizeof example, lent.bytes, size - 1, &lent.number), 21);
     refused("no place", skarrowith_bundle_list(example, sizeof example, NULL, 0, &lent.number), 21);
     expect("its listing", skarrowith_bundle_list(example, sizeof example, lent.bytes, size, &lent.number), 0);

@@ -1,30 +1,48 @@
 /*
- * Calls one check a number of times on one line, for host/count, which counts the instructions.
- *   calls WHO WHAT TIMES     WHO: proved, second or none; WHAT: a line of the table in docs/PERFORMANCE.md
+ * Calls one function a number of times on one input, for host/count, which counts the instructions.
+ *   calls WHO WHAT TIMES [PLACES]    WHO: proved, second or none; WHAT: a row of host/figures; PLACES: of a capture, 4096
+ *   calls stack WHAT                 prints how many bytes of stack one call of the proved function touches
+ * Fails by 3 where WHO has no such function, or none to be held against: the second program's search tries every length.
  */
+#define _XOPEN_SOURCE 700
 #include "../second/line.h"
 #include "skarrowith.h"
 
 #include <stdio.h>
 #include <stdlib.h>
 #include <string.h>
+#include <ucontext.h>
 
-enum { MOST = 520 };
+/* The crate counted: what the header does not declare, for measuring only. */
+size_t counted_find(const uint16_t *capture, size_t len);
+uint32_t counted_read(const uint16_t *line, size_t len);
+size_t counted_check(const uint8_t *bundle, size_t len);
+size_t counted_list(const uint8_t *bundle, size_t len, uint8_t *out, size_t places);
 
-static uint8_t bytes[2 * MOST];
+enum { MOST = 65536, ROWS = 512 };
+
+static uint8_t bytes[2 * MOST], text[MOST];
 static uint16_t characters[MOST];
-static size_t count;
+static size_t count, places = 4096;
 
-static uint32_t proved(void) { return skarrowith_check_line(bytes, 2 * count); }
+/* ---- what is called */
 
-static uint32_t second(void)
+static uint32_t check(void) { return skarrowith_check_line(bytes, 2 * count); }
+static uint32_t words(void) { return skarrowith_refusal_text(9, (char *)text, sizeof text); }
+static uint32_t read_line(void) { return counted_read(characters, count); }
+static uint32_t find(void) { return (uint32_t)counted_find(characters, count); }
+static uint32_t check_bundle(void) { return (uint32_t)counted_check(bytes, count); }
+static uint32_t list_bundle(void) { return (uint32_t)counted_list(bytes, count, text, sizeof text); }
+static uint32_t none(void) { return (uint32_t)count; }
+
+static uint32_t second_check(void)
 {
     struct second_telegram t;
     int refusal = second_read(characters, count, &t);
     return refusal == 0 ? (uint32_t)t.kind + 1 : 256 + (uint32_t)refusal;
 }
 
-static uint32_t none(void) { return (uint32_t)count; }
+/* ---- on what */
 
 static void set(size_t i, uint16_t c)
 {
@@ -39,12 +57,26 @@ static void put(const uint8_t *b, size_t n)
         set(count, second_character(b[count]));
 }
 
+static const uint8_t ack[] = {0xE5}, request[] = {0x10, 0x5B, 0xFE, 0x59, 0x16};
+static const uint8_t enter[] = {0x68, 4, 4, 0x68, 0x53, 0xFE, 0x50, 0x90, 0x31, 0x16};
+
 /* 000's data example, 5.4.3. */
 static const uint8_t data[63] = {
     0x68, 0x39, 0x39, 0x68, 0x08, 0x00, 0x72, 0x78, 0x56, 0x34, 0x12, 0x89, 0x4E, 0x01, 0x04, 0x03,
     0x00, 0x00, 0x00, 0x0C, 0x03, 0x45, 0x23, 0x71, 0x96, 0x0C, 0x11, 0x78, 0x56, 0x34, 0x12, 0x0B,
     0x59, 0x12, 0x78, 0x00, 0x0B, 0x5D, 0x34, 0x65, 0x00, 0x0C, 0x2D, 0x78, 0x56, 0x34, 0x12, 0x0C,
     0x3B, 0x78, 0x56, 0x34, 0x12, 0x06, 0x6D, 0x1C, 0x33, 0x0F, 0x57, 0x27, 0x00, 0x02, 0x16};
+
+static void put_ack(void) { put(ack, sizeof ack); }
+static void put_request(void) { put(request, sizeof request); }
+static void put_enter(void) { put(enter, sizeof enter); }
+static void put_data(void) { put(data, sizeof data); }
+
+static void put_odd_last(void)
+{
+    put_data();
+    set(count - 1, characters[count - 1] ^ 256);
+}
 
 /* The longest line that gets past 5: 000's example with zeros behind it, lengths and sum right. */
 static void put_longest(void)
@@ -57,43 +89,127 @@ static void put_longest(void)
     put(b, sizeof b);
 }
 
-static int make(const char *what)
+static void put_noise_500(void)
 {
-    static const uint8_t ack[] = {0xE5}, read[] = {0x10, 0x5B, 0xFE, 0x59, 0x16};
-    static const uint8_t enter[] = {0x68, 4, 4, 0x68, 0x53, 0xFE, 0x50, 0x90, 0x31, 0x16};
-    if (strcmp(what, "ack") == 0)
-        put(ack, sizeof ack);
-    else if (strcmp(what, "read") == 0)
-        put(read, sizeof read);
-    else if (strcmp(what, "enter") == 0)
-        put(enter, sizeof enter);
-    else if (strcmp(what, "data") == 0 || strcmp(what, "odd-last") == 0)
-        put(data, sizeof data);
-    else if (strcmp(what, "longest") == 0)
-        put_longest();
-    else if (strcmp(what, "noise-500") == 0)
-        for (count = 0; count < 500; count++)
-            set(count, second_character((unsigned)count * 37 + 11));
-    else
-        return 0;
-    if (strcmp(what, "odd-last") == 0)
-        set(count - 1, characters[count - 1] ^ 256);
-    return 1;
+    for (count = 0; count < 500; count++)
+        set(count, second_character((unsigned)count * 37 + 11));
+}
+
+/* Nine random bits a place; an ack among them would end the search, and is left out. */
+static void put_noise(void)
+{
+    uint32_t state = 1;
+    for (count = 0; count < places; count++) {
+        state = state * 1664525u + 1013904223u;
+        characters[count] = (state >> 23) == 0x1E5 ? 0 : (uint16_t)(state >> 23);
+    }
+}
+
+static void put_starts(void)
+{
+    for (count = 0; count < places; count++)
+        characters[count] = 0x168;
+}
+
+static void put_number(uint8_t *at, size_t width, size_t n)
+{
+    for (; width > 0; width--, n >>= 8)
+        *at++ = (uint8_t)(n & 0xFF);
+}
+
+/* 512 rows: a read request and 000's data line in turn. */
+static void put_bundle(void)
+{
+    static uint8_t lines[2][2 * sizeof data];
+    size_t lengths[2], at = 2 + 12 * ROWS;
+    put_request();
+    memcpy(lines[0], bytes, lengths[0] = 2 * count);
+    put_data();
+    memcpy(lines[1], bytes, lengths[1] = 2 * count);
+    put_number(bytes, 2, ROWS);
+    for (size_t i = 0; i < ROWS; i++) {
+        uint8_t *row = bytes + 2 + 12 * i;
+        row[0] = (uint8_t)(1 + i % 48);
+        row[1] = (uint8_t)(i % 2);
+        put_number(row + 2, 4, 1000 * i);
+        put_number(row + 6, 4, at);
+        put_number(row + 10, 2, lengths[i % 2]);
+        memcpy(bytes + at, lines[i % 2], lengths[i % 2]);
+        at += lengths[i % 2];
+    }
+    count = at;
+}
+
+static const struct {
+    const char *name;
+    void (*make)(void);
+    uint32_t (*proved)(void), (*second)(void);
+} rows[] = {
+    {"ack", put_ack, check, second_check},
+    {"read", put_request, check, second_check},
+    {"enter", put_enter, check, second_check},
+    {"data", put_data, check, second_check},
+    {"longest", put_longest, check, second_check},
+    {"odd-last", put_odd_last, check, second_check},
+    {"noise-500", put_noise_500, check, second_check},
+    {"words", put_ack, words, NULL},
+    {"read-data", put_data, read_line, second_check},
+    {"find-noise", put_noise, find, NULL},
+    {"find-starts", put_starts, find, NULL},
+    {"check-bundle", put_bundle, check_bundle, NULL},
+    {"list-bundle", put_bundle, list_bundle, NULL},
+};
+
+/* ---- the stack: painted, lent to one call, and looked at */
+
+static uint8_t stack[1 << 20];
+static ucontext_t here, there;
+static uint32_t (*who)(void);
+static volatile uint32_t answer;
+
+static void once(void) { answer = who(); }
+
+static size_t touched(uint32_t (*function)(void))
+{
+    size_t free = 0;
+    who = function;
+    memset(stack, 0xA5, sizeof stack);
+    getcontext(&there);
+    there.uc_stack.ss_sp = stack;
+    there.uc_stack.ss_size = sizeof stack;
+    there.uc_link = &here;
+    makecontext(&there, once, 0);
+    swapcontext(&here, &there);
+    while (free < sizeof stack && stack[free] == 0xA5)
+        free++;
+    return sizeof stack - free;
 }
 
 int main(int argc, char **argv)
 {
-    volatile uint32_t answer = 0;
-    uint32_t (*who)(void) = none;
-    if (argc != 4 || !make(argv[2]))
+    size_t row = 0, last = sizeof rows / sizeof rows[0];
+    if (argc < 3)
         return 2;
-    if (strcmp(argv[1], "proved") == 0)
-        who = proved;
-    if (strcmp(argv[1], "second") == 0)
-        who = second;
-    for (int times = atoi(argv[3]); times > 0; times--)
+    while (row < last && strcmp(rows[row].name, argv[2]) != 0)
+        row++;
+    if (row == last)
+        return 2;
+    if (argc > 4)
+        places = (size_t)strtoul(argv[4], NULL, 10);
+    if (places > MOST)
+        return 2;
+    rows[row].make();
+    if (strcmp(argv[1], "stack") == 0) {
+        printf("%lu\n", (unsigned long)(touched(rows[row].proved) - touched(none)));
+        return 0;
+    }
+    if (argc < 4)
+        return 2;
+    who = strcmp(argv[1], "proved") == 0 ? rows[row].proved : strcmp(argv[1], "second") == 0 ? rows[row].second : none;
+    if (who == NULL)
+        return 3;
+    for (long times = strtol(argv[3], NULL, 10); times > 0; times--)
         answer = who();
-    if (who != none)
-        printf("%lu\n", (unsigned long)answer);
+    printf("%lu\n", (unsigned long)answer);
     return 0;
 }

@@ -28,6 +28,9 @@ extern "C" {
 /* There are no words for this number. */
 #define SKARROWITH_NO_SUCH_NUMBER 100u
 
+/* What is lent for a record has another size. */
+#define SKARROWITH_NO_RECORD 101u
+
 /* What skarrowith_check_line answers for a line that is accepted. */
 #define SKARROWITH_ACK 1u
 #define SKARROWITH_READ 2u
@@ -60,9 +63,8 @@ uint32_t skarrowith_refusal_text(uint32_t number, char *out, size_t len);
 /*
  * The run bundle
  *
- * Each function answers 0, or SKARROWITH_REFUSED plus the number of the refusal table; then everything that was lent is
- * as it was. What one call is lent for writing overlaps nothing else that it is lent. A bundle is at most 65,536 bytes;
- * numbers in it are low byte first whatever the machine, and rows count from 0.
+ * These functions answer 0 when they are done. What a call is lent for writing must not overlap with anything else that it
+ * is lent. A bundle is at most 65,536 bytes. Rows count from 0.
  *
  * Refusals of a bundle, lowest first over the whole: 30 too long; 31 under two bytes; 32 count over 512; 33 contents cut;
  * 34 a position, direction or length out of its range, or a time below the row before; 35 an offset wrong or a body past
@@ -88,7 +90,7 @@ struct skarrowith_row {
 /*
  * Checks a bundle.
  *
- * bundle, len: its bytes. With length 0 the pointer may be null.
+ * bundle, len: its bytes.
  * rows:        takes the count of rows, 0 to 512.
  *
  * Refuses by 30 to 37.
@@ -99,9 +101,10 @@ uint32_t skarrowith_bundle_check(const uint8_t *bundle, size_t len, size_t *rows
  * Reads one row. To hand on its body is to hand on bundle + row->offset with row->length bytes: nothing is copied.
  *
  * i:         which row; the first is 0.
- * row, size: takes the row; size is sizeof(struct skarrowith_row), and any other is refused by 101, before all others.
+ * row, size: takes the row; size is sizeof(struct skarrowith_row).
  *
- * Refuses by 30 to 37, and then by 39 if there is no such row. The whole bundle is checked at each call.
+ * Refuses by SKARROWITH_NO_RECORD if size is another; then by 30 to 37, and by 39 if there is no such row. The whole bundle
+ * is checked at each call.
  */
 uint32_t skarrowith_bundle_row(const uint8_t *bundle, size_t len, size_t i, struct skarrowith_row *row, size_t size);
 
@@ -127,7 +130,7 @@ uint32_t skarrowith_bundle_add(uint8_t *buffer, size_t len, size_t *filled, uint
  * out, out_len: takes the text in its first bytes, and nothing beyond. SKARROWITH_LISTING_MOST bytes are always enough.
  * written:      takes how many bytes the text has; no zero byte ends it.
  *
- * Refuses by 21 if there are fewer bytes than the text has. The function needs 27,000 bytes of stack.
+ * Refuses by 21 if there are fewer bytes than the text has. The function needs some 27,000 bytes of stack.
  */
 uint32_t skarrowith_bundle_list(const uint8_t *bundle, size_t len, uint8_t *out, size_t out_len, size_t *written);
 

@@ -1,0 +1,2 @@
+-- A number for each answer that is counted.
+pub mod Numbers
