@@ -1047,7 +1047,7 @@ static void many_rows(size_t rows, size_t bytes)
     }
 }
 
-/* A bundle that is accepted: few rows, or many of them, up to 512 rows or 65,536 bytes. */
+/* A bundle that keeps every rule but perhaps 30: few rows, or many of them, up to 512 rows or so many bytes. */
 static void good_bundle(size_t bytes)
 {
     size_t rows = once_in(2) ? SECOND_ROWS : between(7, 511);

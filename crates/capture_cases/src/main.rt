@@ -29,23 +29,6 @@ fn answer(
     answers::put_bad(out, at)
 }
 
-// One case and its answer.
-fn turn(
-    run: Run,
-    input: &mut [u8; 4096],
-    names: &mut [bool; 4096],
-    values: &mut [u64; 4096],
-    out: &mut [u8; 4096],
-) -> Run {
-    let next = cases::next_case(run, input, names, values, out);
-    if next.is_over {
-        return next;
-    }
-    let said = answer(names, values, next.count, out, next.waiting);
-    let waiting = answers::end_line(out, said);
-    Run { waiting, ..next }
-}
-
 fn main() {
     let mut input = [0u8; 4096];
     let mut names = [false; 4096];
@@ -53,10 +36,13 @@ fn main() {
     let mut out = [0u8; 4096];
     let mut run = cases::begin();
     for _ in 0..u64::MAX {
-        run = turn(run, &mut input, &mut names, &mut values, &mut out);
+        run = cases::next_case(run, &mut input, &mut names, &mut values, &mut out);
         if run.is_over {
             break;
         }
+        let said = answer(&names, &values, run.count, &mut out, run.waiting);
+        let waiting = answers::end_line(&mut out, said);
+        run = Run { waiting, ..run };
     }
     answers::write_out(&out, run.waiting);
 }
