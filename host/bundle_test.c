@@ -1,5 +1,4 @@
-/* Calls the bundle's functions as a bench host does: document 01's example, each refusal 30 to 39, and lent memory untouched by
-   every refusal. */
+/* Calls the bundle's functions as a bench host does: 01's example, each refusal 30 to 39, and lent memory after each. */
 #include "skarrowith.h"
 
 #include <stdio.h>
@@ -46,6 +45,16 @@ static uint32_t row_at(const uint8_t *bundle, size_t len, size_t i)
     return skarrowith_bundle_row(bundle, len, i, &lent.row, sizeof lent.row);
 }
 
+static uint32_t row_of_size(const uint8_t *bundle, size_t len, size_t size)
+{
+    return skarrowith_bundle_row(bundle, len, 0, &lent.row, size);
+}
+
+static uint32_t add(size_t room, uint8_t direction, uint32_t time, const uint8_t *body, size_t n)
+{
+    return skarrowith_bundle_add(lent.bytes, room, &lent.number, 7, direction, time, body, n);
+}
+
 static uint32_t add_ack(size_t room, uint8_t position, uint32_t time)
 {
     return skarrowith_bundle_add(lent.bytes, room, &lent.number, position, SKARROWITH_HEARD, time, ack, sizeof ack);
@@ -88,9 +97,9 @@ static void test_example(void)
     remember();
     refused("no second row", row_at(example, sizeof example, 1), 39);
     refused("no last row", row_at(example, sizeof example, SIZE_MAX), 39);
-    refused("a record a byte short", skarrowith_bundle_row(example, sizeof example, 0, &lent.row, sizeof lent.row - 1), SKARROWITH_NO_RECORD);
-    refused("a record a byte long", skarrowith_bundle_row(example, sizeof example, 0, &lent.row, sizeof lent.row + 1), SKARROWITH_NO_RECORD);
-    refused("a record's size first", skarrowith_bundle_row(example, 1, 9, &lent.row, 0), SKARROWITH_NO_RECORD);
+    refused("a byte short", row_of_size(example, sizeof example, sizeof lent.row - 1), SKARROWITH_NO_RECORD);
+    refused("a byte long", row_of_size(example, sizeof example, sizeof lent.row + 1), SKARROWITH_NO_RECORD);
+    refused("the size before the bundle", row_of_size(example, 1, 0), SKARROWITH_NO_RECORD);
     refused("a place too few", skarrowith_bundle_list(example, sizeof example, lent.bytes, size - 1, &lent.number), 21);
     refused("no place", skarrowith_bundle_list(example, sizeof example, NULL, 0, &lent.number), 21);
     expect("its listing", skarrowith_bundle_list(example, sizeof example, lent.bytes, size, &lent.number), 0);
@@ -143,7 +152,8 @@ static void test_adding(void)
 {
     static const uint8_t none[2] = {0, 0};
     static const uint8_t wide[2] = {0, 2};
-    static const uint8_t two[30] = {2, 0, 7, 1, 0, 0, 0, 0, 26, 0, 0, 0, 2, 0, 48, 1, 0x78, 0x56, 0x34, 0x12, 28, 0, 0, 0, 2, 0, 0xE5, 1, 0xE5, 1};
+    static const uint8_t two[30] = {2, 0, 7, 1, 0, 0, 0, 0, 26, 0, 0, 0, 2, 0, 48,
+                                    1, 0x78, 0x56, 0x34, 0x12, 28, 0, 0, 0, 2, 0, 0xE5, 1, 0xE5, 1};
     uint8_t falls[30];
     begin(none, sizeof none);
     expect("the first row", add_ack(16, 7, 0), 0);
@@ -161,9 +171,9 @@ static void test_adding(void)
     remember();
     refused("an earlier time", add_ack(sizeof lent.bytes, 7, 0x12345677), 34);
     refused("position 0", add_ack(sizeof lent.bytes, 0, 0x12345678), 34);
-    refused("a field before a character", skarrowith_bundle_add(lent.bytes, 30, &lent.number, 7, 2, 0x12345678, wide, 2), 34);
-    refused("no body", skarrowith_bundle_add(lent.bytes, 30, &lent.number, 7, 0, 0x12345678, NULL, 0), 34);
-    refused("a character over 511", skarrowith_bundle_add(lent.bytes, 30, &lent.number, 7, 0, 0x12345678, wide, 2), 37);
+    refused("a field before a character", add(30, 2, 0x12345678, wide, 2), 34);
+    refused("no body", add(30, SKARROWITH_SENT, 0x12345678, NULL, 0), 34);
+    refused("a character before the room", add(30, SKARROWITH_SENT, 0x12345678, wide, 2), 37);
     refused("a byte too few", add_ack(43, 7, 0x12345678), 38);
     refused("more than the buffer has", add_ack(29, 7, 0x12345678), 30);
     memcpy(falls, two, sizeof falls);
@@ -191,11 +201,11 @@ static void test_full(void)
     refused("no row 512", row_at(lent.bytes, 2 + 512 * 14, 512), 39);
     begin(none, sizeof none);
     for (uint32_t i = 0; i < 64; i++)
-        expect("one of 64 rows", skarrowith_bundle_add(lent.bytes, sizeof lent.bytes, &lent.number, 1, 0, i, body, 1004), 0);
+        expect("one of 64 rows", add(sizeof lent.bytes, SKARROWITH_SENT, i, body, 1004), 0);
     expect("their bytes", (uint32_t)lent.number, 2 + 64 * 1016);
     remember();
-    refused("65,538 bytes", skarrowith_bundle_add(lent.bytes, sizeof lent.bytes, &lent.number, 1, 0, 64, body, 500), 38);
-    expect("65,536 bytes", skarrowith_bundle_add(lent.bytes, sizeof lent.bytes, &lent.number, 1, 0, 64, body, 498), 0);
+    refused("65,538 bytes", add(sizeof lent.bytes, SKARROWITH_SENT, 64, body, 500), 38);
+    expect("65,536 bytes", add(sizeof lent.bytes, SKARROWITH_SENT, 64, body, 498), 0);
     expect("their bytes", (uint32_t)lent.number, SKARROWITH_BUNDLE_MOST);
     remember();
     refused("one row more", add_ack(sizeof lent.bytes, 1, 64), 38);
