@@ -62,7 +62,7 @@ fn try_number(rest: &[u16], structure: u8, quantity: u8) -> Tried
 }
 
 // What 11, 12 and 13 say of the entry that the rest begins with.
-pub fn try_entry(rest: &[u16]) -> Tried
+fn try_entry(rest: &[u16]) -> Tried
     ensures { λ r. ⌜ r ≡ triedShown (tried (map byteOf (now (rest .entry)))) ⌝ }
 {
     if rest.len() < 2 {
