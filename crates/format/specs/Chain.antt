@@ -1,13 +1,13 @@
 -- The refusal chain 1 to 8, form by form.
 use Prim.Native.Nat.{ℕ, _+_, _-_, _%_}
-use mathlib.Core.Bool.{Bool, true, false, cond, not, _&&_, _||_}
+use mathlib.Core.Bool.{not, _||_}
 use mathlib.Core.List.{List}
-use mathlib.Core.Path.{_≡_, refl}
-use borrow.Author.Tests.{eq-eqb, ne-eqb}
+use mathlib.Core.Path.{_≡_}
+use borrow.Author.Tests.{ne-eqb}
 use lib.Dec.{ltb, eqb}
 use lib.ListN.{length, take, drop}
 use Rattle.format.specs.Lists.{at, total}
-use Rattle.format.specs.Answers.{Answer, reads, refusal, refuse}
+use Rattle.format.specs.Answers.{Answer, refusal, refuse}
 use Rattle.format.specs.Lines.{readFrame}
 
 module _ {A : Type 0} (body : List ℕ → Answer A) (b : List ℕ) where

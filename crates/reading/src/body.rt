@@ -41,7 +41,7 @@ fn bare(kind: Kind, address: u8, method: u8) -> Telegram
 }
 
 // The number of a refusal, beside the blank telegram.
-pub fn refused(n: u16) -> Reading
+pub(crate) fn refused(n: u16) -> Reading
     ensures { λ r. ⌜ r ≡ shown (refusal n) ⌝ }
 {
     Reading {
@@ -61,7 +61,7 @@ pub fn plain(kind: Kind, address: u8, method: u8) -> Reading
 }
 
 // The short form: C and A.
-pub fn read_short(field: &[u16]) -> Reading
+pub(crate) fn read_short(field: &[u16]) -> Reading
     ensures { λ r. ⌜ r ≡ shown (readShort (map byteOf (now (field .entry)))) ⌝ }
 {
     let control = byte_at(field, 0);
@@ -74,7 +74,7 @@ pub fn read_short(field: &[u16]) -> Reading
 }
 
 // L = 4 with C 53, CI 50 and an S of enter or leave.
-pub fn is_command(field: &[u16]) -> bool
+pub(crate) fn is_command(field: &[u16]) -> bool
     ensures { λ r. ⌜ r ≡ isCommand (map byteOf (now (field .entry))) ⌝ }
 {
     let control = byte_at(field, 0);
@@ -85,7 +85,7 @@ pub fn is_command(field: &[u16]) -> bool
 }
 
 // L of 15 and more with C 08 and CI 72.
-pub fn is_data(field: &[u16]) -> bool
+pub(crate) fn is_data(field: &[u16]) -> bool
     ensures { λ r. ⌜ r ≡ isData (map byteOf (now (field .entry))) ⌝ }
 {
     let control = byte_at(field, 0);
@@ -136,7 +136,7 @@ fn read_data(address: u8, part: &[u16]) -> Reading
 }
 
 // The long form: C, A, CI and what follows.
-pub fn read_long(field: &[u16]) -> Reading
+pub(crate) fn read_long(field: &[u16]) -> Reading
     ensures { λ r. ⌜ r ≡ shown (readLong (map byteOf (now (field .entry)))) ⌝ }
 {
     if is_command(field) {

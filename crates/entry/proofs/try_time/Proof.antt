@@ -1,13 +1,13 @@
--- `entries::try_time` meets its contract, rule by rule. Assumes nothing.
+-- `entry::try_time` meets its contract, rule by rule. Assumes nothing.
 use borrow.Author.Needs.{needs}
 use borrow.Author.Tests.{ltb-false}
 use denote.Ref.{now}
 use lib.Dec.{eqb}
 use mathlib.Core.Bool.{not}
 use mathlib.Core.Path.{sym, _∙_}
-use Rattle.entries.specs.Walking.{time-is, or-false-right}
-use Rattle.entries.proofs.try_time.Statement.{statement}
-use Rattle.entries.proofs.try_time.Tie as tie
+use Rattle.entry.specs.Trying.{time-is, or-false-right}
+use Rattle.entry.proofs.try_time.Statement.{statement}
+use Rattle.entry.proofs.try_time.Tie as tie
 
 returns : tie.Need-returns
 returns c = sym (time-is (now (c .before .before .args .rest)) (c .before .before .pre) ∙ rw (c .if1 .taken))

@@ -1,4 +1,4 @@
--- `entries::check_entry` meets its contract: what 11 to 13 said, then the mark and the count. Assumes nothing.
+-- `entry::check_entry` meets its contract: what 11 to 13 said, then the mark and the count. Assumes nothing.
 use borrow.Author.Needs.{needs}
 use borrow.Author.Tests.{eq-eqb, ne-eqb}
 use denote.Ref.{now}
@@ -7,9 +7,9 @@ use mathlib.Core.List.{map}
 use mathlib.Core.Path.{sym, ap, _∙_}
 use Rattle.format.specs.Lists.{at}
 use Rattle.format.specs.Characters.{byteOf}
-use Rattle.entries.specs.Walking.{triedShown, refused-next, passed-next, quantity-few}
-use Rattle.entries.proofs.check_entry.Statement.{statement}
-use Rattle.entries.proofs.check_entry.Tie as tie
+use Rattle.entry.specs.Trying.{triedShown, refused-next, passed-next, quantity-few}
+use Rattle.entry.proofs.check_entry.Statement.{statement}
+use Rattle.entry.proofs.check_entry.Tie as tie
 
 try-entry-requires : tie.Need-try-entry-requires
 try-entry-requires c κs = search needs

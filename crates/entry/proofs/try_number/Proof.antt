@@ -1,10 +1,10 @@
--- `entries::try_number` meets its contract, rule by rule. Assumes nothing.
+-- `entry::try_number` meets its contract, rule by rule. Assumes nothing.
 use borrow.Author.Needs.{needs}
 use borrow.Author.Tests.{lt-ltb, le-ltb}
 use mathlib.Core.Path.{sym, _∙_}
-use Rattle.entries.specs.Walking.{other-unfit, other-over, other-fit}
-use Rattle.entries.proofs.try_number.Statement.{statement}
-use Rattle.entries.proofs.try_number.Tie as tie
+use Rattle.entry.specs.Trying.{other-unfit, other-over, other-fit}
+use Rattle.entry.proofs.try_number.Statement.{statement}
+use Rattle.entry.proofs.try_number.Tie as tie
 
 is-packed-requires : tie.Need-is-packed-requires
 is-packed-requires c κs = search needs

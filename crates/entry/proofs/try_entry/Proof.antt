@@ -1,11 +1,11 @@
--- `entries::try_entry` meets its contract: the quantity says which rules the value is held against. Assumes nothing.
+-- `entry::try_entry` meets its contract: the quantity says which rules the value is held against. Assumes nothing.
 use borrow.Author.Needs.{needs}
 use denote.Ref.{now}
 use mathlib.Core.Path.{sym, ap, _∙_}
 use Rattle.format.specs.Quantities.{quantityOf}
-use Rattle.entries.specs.Walking.{one-left, time-told, other-told}
-use Rattle.entries.proofs.try_entry.Statement.{statement}
-use Rattle.entries.proofs.try_entry.Tie as tie
+use Rattle.entry.specs.Trying.{one-left, time-told, other-told}
+use Rattle.entry.proofs.try_entry.Statement.{statement}
+use Rattle.entry.proofs.try_entry.Tie as tie
 
 returns : tie.Need-returns
 returns c = sym (one-left (now (c .before .before .args .rest)) (c .if1 .taken))
