@@ -45,7 +45,7 @@ pub fn start_of(first: u8, second: u8, count: usize) -> Frame
 }
 
 // After 10, with the right count: 7 and 8.
-fn short_frame(line: &[u16]) -> Frame
+pub(crate) fn short_frame(line: &[u16]) -> Frame
     requires { ⌜ ShortCount (now line) ⌝ }
     ensures { λ r. ⌜ r ≡ frameShown (readFrame reads (map byteOf (now (line .entry)))) ⌝ }
 {
