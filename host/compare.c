@@ -2,7 +2,7 @@
  * The proved archive against the second program, in one process, on seeded lines.
  *   compare [SEED [COUNT]]
  * Prints the first line on which they differ in full, and fails; fails too where an answer that can occur was not seen,
- * or where a line with one, two or three flips is accepted.
+ * where no line had one, two or three flips, or where one that had is accepted.
  */
 #include "../second/line.h"
 #include "skarrowith.h"
@@ -147,8 +147,8 @@ static size_t put_accepted(unsigned char *b)
 
 /* ---- what is done to them */
 
-/* One to three different bits of the nine are turned over: no such line is accepted. */
-static void flip(struct line *l)
+/* One to three different bits of the nine are turned over: no such line is accepted. Says how many. */
+static unsigned flip(struct line *l)
 {
     size_t places[3];
     unsigned count = 1 + below(3), done = 0;
@@ -162,6 +162,7 @@ static void flip(struct line *l)
         places[done++] = p;
         l->c[p / 9] ^= (uint16_t)(1u << p % 9);
     }
+    return count;
 }
 
 /* Bytes of a long form's field changed, cut or added, with lengths, sum and end right again. */
@@ -205,8 +206,8 @@ static void noise(struct line *l)
         l->c[1] = second_character((unsigned)(l->n - 6));
 }
 
-/* Makes a line; says whether it must be refused. */
-static int make(struct line *l)
+/* Makes a line; says how many flips it has, for which it must be refused. */
+static unsigned make(struct line *l)
 {
     unsigned char b[MOST];
     unsigned how = below(8);
@@ -219,10 +220,8 @@ static int make(struct line *l)
     if (how >= 5)
         n = rebuild(b, n);
     put_bytes(l, b, n);
-    if (how == 1 || how == 2) {
-        flip(l);
-        return 1;
-    }
+    if (how == 1 || how == 2)
+        return flip(l);
     if (how == 3)
         l->c[below((unsigned)n)] = second_character(next());
     return 0;
@@ -247,9 +246,14 @@ static void show(uint64_t seed, unsigned long at, const uint8_t *bytes, size_t l
         printf("%02X%c", bytes[i], i + 1 == len ? '\n' : ' ');
 }
 
-static int all_seen(const unsigned long *seen)
+static int all_seen(const unsigned long *seen, const unsigned long *flipped)
 {
     int all = 1;
+    for (unsigned f = 1; f <= 3; f++)
+        if (flipped[f] == 0) {
+            printf("compare: no line had %u flips\n", f);
+            all = 0;
+        }
     for (unsigned a = 1; a < ANSWERS; a++)
         if (seen[a] == 0 && (a < 6 || (a > 256 && a != 256 + 15))) {
             printf("compare: no line was answered by %u\n", a);
@@ -260,14 +264,14 @@ static int all_seen(const unsigned long *seen)
 
 int main(int argc, char **argv)
 {
-    static unsigned long seen[ANSWERS];
+    static unsigned long seen[ANSWERS], flipped[4];
     uint64_t seed = argc > 1 ? strtoull(argv[1], NULL, 10) : 1;
-    unsigned long count = argc > 2 ? strtoul(argv[2], NULL, 10) : 200000, flipped = 0;
+    unsigned long count = argc > 2 ? strtoul(argv[2], NULL, 10) : 200000;
     state = seed * UINT64_C(0x9E3779B97F4A7C15) + 1;
     for (unsigned long at = 0; at < count; at++) {
         struct line l;
         uint8_t bytes[2 * MOST];
-        int refused = make(&l);
+        unsigned flips = make(&l);
         size_t len = 2 * l.n;
         uint32_t proved, second;
         for (size_t i = 0; i < l.n; i++) {
@@ -278,15 +282,16 @@ int main(int argc, char **argv)
             len--;
         proved = skarrowith_check_line(bytes, len);
         second = second_answer(&l, len);
-        if (proved != second || proved >= ANSWERS || (refused && proved < 256)) {
+        if (proved != second || proved >= ANSWERS || (flips > 0 && proved < 256)) {
             show(seed, at, bytes, len, proved, second);
             return 1;
         }
         seen[proved]++;
-        flipped += (unsigned long)refused;
+        flipped[flips]++;
     }
-    if (!all_seen(seen))
+    if (!all_seen(seen, flipped))
         return 1;
-    printf("compare: seed %" PRIu64 ": %lu lines agree, %lu of them with one to three flips\n", seed, count, flipped);
+    printf("compare: seed %" PRIu64 ": %lu lines agree, %lu, %lu and %lu of them with one, two and three flips\n", seed, count,
+           flipped[1], flipped[2], flipped[3]);
     return 0;
 }
