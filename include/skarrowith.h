@@ -2,8 +2,8 @@
  * Skarrowith: lines, exchanges and results of a heat-meter verification bench.
  *
  * The functions are proved against document 01's rules for every input, of any length: they touch only the memory that
- * they are lent, keep no state, call nothing and always return. They may be called from any thread. What is lent to one
- * call must not overlap.
+ * they are lent, keep no state, call nothing but memcpy and always return. They may be called from any thread. What is
+ * lent to one call must not overlap.
  *
  * Answers: below 256 an answer, 256 (SKARROWITH_REFUSED) plus n the refusal n. On a refusal nothing that was lent has
  * changed; otherwise only the places that are named have. Where several refusals apply, 101 goes first and then the
