@@ -3,6 +3,7 @@
  * The same seed gives the same cases on every machine.
  */
 #include "make.h"
+#include "number.h"
 
 #include <inttypes.h>
 #include <stdio.h>
@@ -164,12 +165,9 @@ static void generate_meter(void)
 
 /* ---- run bundles */
 
-static uint32_t number_at(const uint8_t *b, unsigned bytes)
+static uint32_t number_at(const uint8_t *b, size_t bytes)
 {
-    uint32_t n = 0;
-    while (bytes-- > 0)
-        n = n << 8 | b[bytes];
-    return n;
+    return (uint32_t)second_number(b, bytes);
 }
 
 /* How many rows from here on are alike: only the time goes up, by one step, and the offset, by the length. */

@@ -1,26 +1,14 @@
 /* The records of include/skarrowith.h: what stands in which byte, and which bytes are a record. */
 #include "record.h"
 
+#include "number.h"
+
 #include <string.h>
 
 /* Where the numbers and the unused bytes stand. */
 enum { NUMBER = 4, MAKER = 8, UNUSED = 13, COUNT = 16, ENTRIES = 24, ENTRY = 16, VALUE = 8 };
 enum { BEGAN = 8, LAST = 16 };
 enum { OWN = 8, INSTRUCTED = 16, TOTALS = 24, TEMPLATE = 56 };
-
-static uint64_t number(const uint8_t *b, size_t bytes)
-{
-    uint64_t n = 0;
-    while (bytes > 0)
-        n = n << 8 | b[--bytes];
-    return n;
-}
-
-void second_put_number(uint8_t *to, size_t bytes, uint64_t n)
-{
-    for (; bytes > 0; bytes--, n >>= 8)
-        *to++ = (uint8_t)n;
-}
 
 static int is_zero(const uint8_t *b, size_t n)
 {
@@ -67,7 +55,7 @@ static int take_entry(const uint8_t *b, struct second_entry *e)
     e->unit = b[1];
     e->is_time = b[2];
     if (!e->is_time)
-        e->count = number(b + VALUE, 8);
+        e->count = second_number(b + VALUE, 8);
     for (size_t i = 0; e->is_time && i < 6; i++)
         e->moment[i] = b[VALUE + i];
     return 0;
@@ -83,12 +71,12 @@ int second_take_telegram(const uint8_t *b, size_t n, struct second_telegram *t)
     t->address = b[1];
     t->method = b[2];
     t->version = b[3];
-    t->number = (uint32_t)number(b + NUMBER, 4);
-    t->maker = (unsigned)number(b + MAKER, 2);
+    t->number = (uint32_t)second_number(b + NUMBER, 4);
+    t->maker = (unsigned)second_number(b + MAKER, 2);
     t->type = b[10];
     t->access = b[11];
     t->status = b[12];
-    t->count = number(b + COUNT, 8);
+    t->count = second_number(b + COUNT, 8);
     for (size_t i = 0; i < SECOND_ENTRIES && refusal == 0; i++)
         refusal = take_entry(b + ENTRIES + ENTRY * i, &t->entries[i]);
     return refusal;
@@ -138,7 +126,8 @@ static int can_stand(const struct second_exchange *x)
 int second_take_exchange(const uint8_t *b, size_t n, struct second_exchange *x)
 {
     memset(x, 0, sizeof *x);
-    if (n != SECOND_EXCHANGE_SIZE || b[0] < 2 || b[0] > 4 || (b[0] != 3 && b[2] != 0) || b[3] < 1 || b[3] > 4 || !is_zero(b + 6, 2))
+    if (n != SECOND_EXCHANGE_SIZE || b[0] < 2 || b[0] > 4 || (b[0] != 3 && b[2] != 0) || b[3] < 1 || b[3] > 4 ||
+        !is_zero(b + 6, 2))
         return SECOND_NO_RECORD;
     x->request = second_request(b[0], b[1], b[2]);
     x->state = (enum second_state)(b[3] - 1);
@@ -146,8 +135,8 @@ int second_take_exchange(const uint8_t *b, size_t n, struct second_exchange *x)
         return SECOND_NO_RECORD;
     x->cause = has_cause(x) ? (enum second_cause)(b[4] - 1) : SECOND_SILENT;
     x->sends = b[5];
-    x->began = number(b + BEGAN, 8);
-    x->last = number(b + LAST, 8);
+    x->began = second_number(b + BEGAN, 8);
+    x->last = second_number(b + LAST, 8);
     return can_stand(x) ? 0 : SECOND_NO_RECORD;
 }
 
@@ -190,14 +179,14 @@ int second_take_meter(const uint8_t *b, size_t n, struct second_meter *m)
     if (b[OWN + 1] == 0 && (b[OWN + 2] != 0 || !is_zero(b + INSTRUCTED, 8)))
         return SECOND_NO_RECORD;
     m->has_stepped = 1; /* a meter that has not stepped stands at 0, and no time is before that */
-    m->last = number(b, 8);
+    m->last = second_number(b, 8);
     m->address = b[OWN];
     m->is_verifying = b[OWN + 1];
     m->method = b[OWN + 2];
-    m->instructed = number(b + INSTRUCTED, 8);
+    m->instructed = second_number(b + INSTRUCTED, 8);
     for (size_t i = 0; i < 2; i++) {
-        m->use[i] = number(b + TOTALS + 8 * i, 8);
-        m->verification[i] = number(b + TOTALS + 16 + 8 * i, 8);
+        m->use[i] = second_number(b + TOTALS + 8 * i, 8);
+        m->verification[i] = second_number(b + TOTALS + 16 + 8 * i, 8);
     }
     if (second_take_telegram(b + TEMPLATE, SECOND_TELEGRAM_SIZE, &m->template) != 0)
         return SECOND_NO_RECORD;

@@ -20,6 +20,4 @@ int second_take_meter(const uint8_t *b, size_t n, struct second_meter *m);
 /* A request as C names it: its kind's number, with address and method. */
 struct second_telegram second_request(unsigned kind, unsigned address, unsigned method);
 
-void second_put_number(uint8_t *to, size_t bytes, uint64_t n);
-
 #endif

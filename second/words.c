@@ -1,4 +1,7 @@
-/* The words of document 01's refusal table. A row for several numbers is taken apart at its semicolons; what such a piece leaves to the row is filled in. */
+/*
+ * The words of document 01's refusal table, in ASCII. A row for several numbers is taken apart at its semicolons;
+ * those of the bundle say so first, as the other rows say whose they are.
+ */
 #include "words.h"
 
 #include <stddef.h>
