@@ -154,6 +154,7 @@ static const struct {
     {"noise-500", put_noise_500, check, second_check},
     {"words", put_ack, words, NULL},
     {"read-data", put_data, read_line, second_check},
+    {"search-data", put_data, find, NULL},
     {"find-noise", put_noise, find, NULL},
     {"find-starts", put_starts, find, NULL},
     {"check-bundle", put_bundle, check_bundle, NULL},

@@ -130,7 +130,7 @@ uint32_t skarrowith_bundle_add(uint8_t *buffer, size_t len, size_t *filled, uint
  * out, out_len: takes the text in its first bytes, and nothing beyond. SKARROWITH_LISTING_MOST bytes are always enough.
  * written:      takes how many bytes the text has; no zero byte ends it.
  *
- * Refuses by 21 if there are fewer bytes than the text has. The function needs some 27,000 bytes of stack.
+ * Refuses by 21 if there are fewer bytes than the text has. It needs 28,000 bytes of stack.
  */
 uint32_t skarrowith_bundle_list(const uint8_t *bundle, size_t len, uint8_t *out, size_t out_len, size_t *written);
 

@@ -1,6 +1,6 @@
 // The frame of a line: the rules 1 to 8.
 ghost use mathlib.Core.Path.{_≡_};
-ghost use mathlib.Core.List.{map};
+ghost use mathlib.Core.List.{[], _∷_, map};
 ghost use Rattle.format.specs.Characters.{byteOf};
 ghost use Rattle.format.specs.Answers.{refuse};
 ghost use Rattle.format.specs.Lines.{readFrame, readWith};
@@ -60,6 +60,14 @@ fn short_frame(line: &[u16]) -> Frame
         return Frame::Refused(8);
     }
     Frame::Short
+}
+
+// The same of 10 and four characters, handed over one by one.
+pub fn request_frame(control: u16, address: u16, checksum: u16, end: u16) -> Frame
+    ensures { λ r. ⌜ r ≡ frameShown (readFrame form (map byteOf (0x10 ∷ control ∷ address ∷ checksum ∷ end ∷ []))) ⌝ }
+{
+    let line = [0x10, control, address, checksum, end];
+    short_frame(&line)
 }
 
 // After 68, with the right count: 6, 7 and 8.

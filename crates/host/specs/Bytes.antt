@@ -68,7 +68,7 @@ module _ {test : ℕ → Bool} (b : List ℕ) {i : ℕ} (g : Gathered test (char
 -- ---- the copies
 
 -- five characters, one by one
-pub five-chars : (s : List ℕ) → length s ≡ 5 → s ≡ at s 0 ∷ at s 1 ∷ at s 2 ∷ at s 3 ∷ at s 4 ∷ []
+five-chars : (s : List ℕ) → length s ≡ 5 → s ≡ at s 0 ∷ at s 1 ∷ at s 2 ∷ at s 3 ∷ at s 4 ∷ []
 five-chars [] h = absurd (omega arith)
 five-chars (a ∷ []) h = absurd (omega arith)
 five-chars (a ∷ b ∷ []) h = absurd (omega arith)
@@ -76,6 +76,12 @@ five-chars (a ∷ b ∷ c ∷ []) h = absurd (omega arith)
 five-chars (a ∷ b ∷ c ∷ d ∷ []) h = absurd (omega arith)
 five-chars (a ∷ b ∷ c ∷ d ∷ e ∷ []) h = refl
 five-chars (a ∷ b ∷ c ∷ d ∷ e ∷ f ∷ s) h = absurd (omega arith)
+
+-- the bytes of a short form, of which the first is 10
+pub five-bytes : (s : List ℕ) → ShortCount s → map byteOf s ≡ map byteOf (0x10 ∷ at s 1 ∷ at s 2 ∷ at s 3 ∷ at s 4 ∷ [])
+five-bytes s h =
+    ap (map byteOf) (five-chars s (h .five))
+    ∙ ap (λ (x : ℕ). x ∷ map byteOf (at s 1 ∷ at s 2 ∷ at s 3 ∷ at s 4 ∷ [])) (sym (at-bytes s 0) ∙ h .first)
 
 pub record Copied (b line : List ℕ) (i : ℕ) : Type 0 where
   pub inside : i ≤ length b / 2

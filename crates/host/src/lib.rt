@@ -12,6 +12,7 @@ ghost use Rattle.frame.specs.Forms.{ShortCount, LongCount};
 use frame::Frame;
 use frame::start_of;
 use reading::check::check_form;
+use reading::check::check_request;
 use scan::counts_odd;
 use scan::is_odd;
 
@@ -76,18 +77,16 @@ fn all_sound(bytes: &[u8]) -> bool
     true
 }
 
-// The short form, whose five characters are copied out.
+// The short form, whose characters behind the first are handed over.
 fn check_short(bytes: &[u8]) -> u32
     requires { ⌜ ShortCount (chars (now bytes)) ⌝ }
     ensures { λ r. ⌜ r ≡ lineNumber (readFrame readBody (map byteOf (chars (now (bytes .entry))))) ⌝ }
 {
-    let a = char_at(bytes, 0);
-    let b = char_at(bytes, 1);
-    let c = char_at(bytes, 2);
-    let d = char_at(bytes, 3);
-    let e = char_at(bytes, 4);
-    let line = [a, b, c, d, e];
-    check_form(&line)
+    let control = char_at(bytes, 1);
+    let address = char_at(bytes, 2);
+    let checksum = char_at(bytes, 3);
+    let end = char_at(bytes, 4);
+    check_request(control, address, checksum, end)
 }
 
 // The long form, whose characters are copied out: by 5 they are at most 261.

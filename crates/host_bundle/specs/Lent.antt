@@ -9,13 +9,13 @@ abbrev pub left : ℕ → Answer ℕ → ℕ
 left before (refusal n) = before
 left before (reads a) = a
 
--- 0, where there is nothing more to tell; or 256 plus the refusal number.
-abbrev pub done : {A : Type 0} → Answer A → ℕ
-done a = told (λ _. 0) a
+-- where there is nothing to tell but that it was done
+abbrev pub done : {A : Type 0} → A → ℕ
+done a = 0
 
 -- 0, and the number in its place; or 256 plus the refusal number, and the place as it was.
 pub record Gives (a : Answer ℕ) (before r after : ℕ) : Type 0 where
-  pub number : r ≡ done a
+  pub number : r ≡ told done a
   pub place : after ≡ left before a
 
 -- Laws: both ways an answer can go.

@@ -1,17 +1,16 @@
 -- A row as a record for C: the fields of struct skarrowith_row, numbers low byte first.
-use Prim.Native.Nat.{ℕ, _+_, _^_, _<_}
+use Prim.Native.Nat.{ℕ, _+_, _^_, _≤_, _<_}
 use mathlib.Core.Bool.{true, false, not}
 use mathlib.Core.List.{List, [], _∷_, _++_}
 use mathlib.Core.Path.{_≡_, refl, sym, _∙_}
 use native.Mathlib.Omega.{arith}
-use borrow.Author.Tests.{le-ltb}
-use lib.Dec.{ltb, eqb}
+use lib.Dec.{eqb}
 use lib.ListN.{length, take, drop}
 use Rattle.format.specs.Lists.{at}
 use Rattle.format.specs.Tests.{not-different}
 use Rattle.format.specs.Answers.{Answer, reads, refusal, refuse}
 use Rattle.low_first.specs.Numbers.{number, bytesOf, number-bytes}
-use Rattle.records.specs.Lent.{stored, needs}
+use Rattle.records.specs.Lent.{told, stored, needs, stored-whole}
 use Rattle.records.specs.Recorded.{noRecord}
 use Rattle.bundle.specs.declared.Row.{Row}
 use Rattle.bundle.specs.declared.RowFound.{RowFound}
@@ -30,7 +29,7 @@ rowInto b i out = refuse noRecord (not (eqb (length out) 12)) (rowAt b i)
 
 -- 0, and the row's record in the places lent for it; or 256 plus the refusal number, and they are as they were.
 pub record GivesRow (a : Answer Row) (before : List ℕ) (r : ℕ) (after : List ℕ) : Type 0 where
-  pub number : r ≡ done a
+  pub number : r ≡ told done a
   pub places : after ≡ stored rowRecord before a
 
 -- Laws: the record's size; a record of another size, and the two cases of the row.
@@ -66,8 +65,7 @@ module _ (b : List ℕ) (i : ℕ) (out : List ℕ) where
 
     pub row-value : {r : Row} {x after : List ℕ} → s ≡ Fields r → x ≡ rowRecord r → after ≡ stored (λ w. w) out (needs (length x) out (reads x))
         → GivesRow (rowInto b i out) out 0 after
-    row-value {r} {x} {after} g h k =
+    row-value {r} g h k =
         let a : rowAt b i ≡ reads r = shownRow-same (rowAt b i) (reads r) (sym f ∙ g) in
-        let enough : ltb (length out) (length (rowRecord r)) ≡ false = le-ltb (length out) (length (rowRecord r)) (omega (arith, length-record r, not-different (length out) 12 e)) in
-        let there : after ≡ stored (λ w. w) out (needs (length (rowRecord r)) out (reads (rowRecord r))) = rw h at k in
-        record { number = rw (e, a); places = rw (e, a) (there ∙ rw enough) }
+        let room : length (rowRecord r) ≤ length out = omega (arith, length-record r, not-different (length out) 12 e) in
+        record { number = rw (e, a); places = rw (e, a) (stored-whole rowRecord r out h room k) }

@@ -1,6 +1,6 @@
 // The number of a line, without its telegram: the rules 4 to 16.
 ghost use mathlib.Core.Path.{_≡_};
-ghost use mathlib.Core.List.{map};
+ghost use mathlib.Core.List.{[], _∷_, map};
 ghost use Prim.Native.Nat.{ℕ, _≤_};
 ghost use lib.ListN.{length};
 ghost use Rattle.format.specs.Answers.{reads};
@@ -13,6 +13,7 @@ use entries::check_entries;
 use format::Outcome;
 use frame::Frame;
 use frame::form_of;
+use frame::request_frame;
 use headers::wrong_header;
 use parts::bytes::byte_at;
 
@@ -70,5 +71,21 @@ pub fn check_form(line: &[u16]) -> u32
         Frame::Ack => 1,
         Frame::Short => check_short(&line[1..3]),
         Frame::Long => check_long(&line[4..line.len() - 2]),
+    }
+}
+
+// The same of 10 and four characters, as a short form has them: handed over one by one, so that they need no memory.
+pub fn check_request(control: u16, address: u16, checksum: u16, end: u16) -> u32
+    ensures { λ r. ⌜ r ≡ lineNumber (readFrame readBody (map byteOf (0x10 ∷ control ∷ address ∷ checksum ∷ end ∷ []))) ⌝ }
+{
+    let frame = request_frame(control, address, checksum, end);
+    match frame {
+        Frame::Refused(n) => 256 + n as u32,
+        Frame::Ack => 1,
+        Frame::Short => {
+            let field = [control, address];
+            check_short(&field)
+        }
+        Frame::Long => 256 + 5,
     }
 }
