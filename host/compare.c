@@ -1,297 +1,262 @@
 /*
- * The proved archive against the second program, in one process, on seeded lines.
+ * The archive against the second program, in one process: every function of the header on seeded calls, histories of
+ * exchanges and meters with their records, and records that no step gives.
  *   compare [SEED [COUNT]]
- * Prints the first line on which they differ in full, and fails; fails too where an answer that can occur was not seen,
- * where no line had one, two or three flips, or where one that had is accepted.
+ * Makes COUNT calls, or a few more. Prints the first on which they differ in full, and fails; fails too where an answer
+ * that a function can give was not seen, where no line had one, two or three flips, or where one that had is accepted.
  */
-#include "../second/line.h"
-#include "skarrowith.h"
+#include "compare.h"
 
 #include <inttypes.h>
 #include <stdio.h>
 #include <stdlib.h>
 #include <string.h>
 
-enum { MOST = 520, ANSWERS = 256 + 18 };
+enum { LENT_MOST = BYTES_MOST + 64, MARGIN = 32, POOL = 4, ANSWERS = 512 };
 
-static uint64_t state;
-
-static uint32_t next(void)
-{
-    state ^= state << 13;
-    state ^= state >> 7;
-    state ^= state << 17;
-    return (uint32_t)(state >> 16);
-}
-
-static unsigned below(unsigned n) { return next() % n; }
-
-struct line {
-    uint16_t c[MOST];
-    size_t n;
+/* Every function, with answers and refusals of which each must be seen. */
+static const struct {
+    const char *name, *answers, *refusals;
+} functions[FUNCTIONS] = {
+    [CHECK_LINE] = {"skarrowith_check_line", "1 2 3 4 5", "1 2 3 4 5 6 7 8 9 10 11 12 13 14 16 17"},
+    [REFUSAL_TEXT] = {"skarrowith_refusal_text", "14 17 83", "21 100"},
+    [FIND_LINE] = {"skarrowith_find_line", "0", "18 21"},
+    [READ_LINE] = {"skarrowith_read_line", "1 2 3 4 5", "1 2 3 4 5 6 7 8 9 10 11 12 13 14 16 21"},
+    [WRITE_LINE] = {"skarrowith_write_line", "1 5 10 63", "20 21 101"},
+    [WRITE_REQUEST] = {"skarrowith_write_request", "5 10", "20 21"},
+    [WRITE_WAKE] = {"skarrowith_write_wake", "0", "21 52"},
+    [GAP] = {"skarrowith_gap", "0", "50 51"},
+    [INDICATION] = {"skarrowith_error", "0", "21 60 61 62"},
+    [EXCHANGE_START] = {"skarrowith_exchange_start", "1", "21 42"},
+    [EXCHANGE_HEARD] = {"skarrowith_exchange_heard", "2 3 4", "21 40 41 101"},
+    [EXCHANGE_TICK] = {"skarrowith_exchange_tick", "1 2 4", "40 41 101"},
+    [EXCHANGE_SENT] = {"skarrowith_exchange_sent", "1", "40 41 101"},
+    [METER_SET_UP] = {"skarrowith_meter_set_up", "0", "21 72 101"},
+    [METER_HEARD] = {"skarrowith_meter_heard", "0 1 5", "21 70 101"},
+    [METER_MEASURE] = {"skarrowith_meter_measure", "0", "70 71 101"},
+    [BUNDLE_CHECK] = {"skarrowith_bundle_check", "0", "30 31 32 33 34 35 36 37"},
+    [BUNDLE_ROW] = {"skarrowith_bundle_row", "0", "30 31 32 33 34 35 36 37 39 101"},
+    [BUNDLE_ADD] = {"skarrowith_bundle_add", "0", "30 31 32 33 34 35 36 37 38"},
+    [BUNDLE_LIST] = {"skarrowith_bundle_list", "0", "21"},
 };
 
-static void put_bytes(struct line *l, const unsigned char *b, size_t n)
+/* What is called, and how often, of so many turns in all. */
+static const struct {
+    void (*compare)(void);
+    unsigned often;
+} parts[] = {
+    {compare_check_line, 220}, {compare_read, 50}, {compare_write, 50}, {compare_request, 10}, {compare_find, 5},     {compare_words, 10},
+    {compare_wake, 10},        {compare_gap, 10},  {compare_error, 20}, {compare_exchange, 12}, {compare_meter, 12}, {compare_bundle, 15},
+};
+
+static unsigned long seen[FUNCTIONS][ANSWERS], cases;
+static uint64_t seed;
+
+/* ---- the call that is being made */
+
+static struct {
+    enum function function;
+    struct lent lent[POOL];
+    size_t lents, numbers;
+    struct {
+        const char *name;
+        uint64_t number;
+    } told[8];
+} call;
+
+void begin(enum function function)
 {
+    call.function = function;
+    call.lents = call.numbers = 0;
+}
+
+struct lent *lend(const char *name, size_t size, const void *content, size_t n)
+{
+    struct lent *l = &call.lent[call.lents++];
+    if (size > LENT_MOST - MARGIN || n > size)
+        abort();
+    if (l->before == NULL && (l->before = malloc(3 * LENT_MOST)) == NULL)
+        abort();
+    l->proved = l->before + LENT_MOST;
+    l->second = l->proved + LENT_MOST;
+    l->name = name;
+    l->size = size;
+    l->to = size == 0 && once_in(2) ? NULL : l->proved;
+    memset(l->before, (int)(0xA5 + cases % 7), size + MARGIN);
+    if (n > 0)
+        memcpy(l->before, content, n);
+    memcpy(l->proved, l->before, size + MARGIN);
+    memcpy(l->second, l->before, size + MARGIN);
+    return l;
+}
+
+uint64_t tell(const char *name, uint64_t number)
+{
+    call.told[call.numbers].name = name;
+    call.told[call.numbers++].number = number;
+    return number;
+}
+
+uint32_t refused(int refusal)
+{
+    return refusal == 0 ? 0 : SKARROWITH_REFUSED + (uint32_t)refusal;
+}
+
+static int is_same(const struct lent *l)
+{
+    return memcmp(l->proved, l->second, l->size + MARGIN) == 0;
+}
+
+static void show_bytes(const char *what, const uint8_t *b, size_t n)
+{
+    printf("    %s:", what);
     for (size_t i = 0; i < n; i++)
-        l->c[i] = second_character(b[i]);
-    l->n = n;
+        printf(" %02X", b[i]);
+    putchar('\n');
 }
 
-/* ---- accepted lines */
-
-static size_t put_packed(unsigned char *b, size_t width)
+void fail(const char *what)
 {
-    for (size_t i = 0; i < width; i++)
-        b[i] = (unsigned char)(below(10) << 4 | below(10));
-    return width;
-}
-
-static size_t put_time(unsigned char *b)
-{
-    unsigned year = below(100);
-    b[0] = (unsigned char)below(60);
-    b[1] = (unsigned char)below(60);
-    b[2] = (unsigned char)below(24);
-    b[3] = (unsigned char)((1 + below(28)) | year % 8 << 5);
-    b[4] = (unsigned char)((1 + below(12)) | year / 8 << 4);
-    b[5] = 0;
-    return 6;
-}
-
-static size_t put_entry(unsigned char *b, unsigned quantity)
-{
-    static const unsigned char units[] = {0x00, 0x10, 0x28, 0x38, 0x58, 0x5C};
-    static const unsigned char structures[] = {0x0A, 0x0B, 0x0C, 0x0E}, widths[] = {2, 3, 4, 6};
-    unsigned s = below(4);
-    if (quantity == 6) {
-        b[0] = 0x06;
-        b[1] = 0x6D;
-        return 2 + put_time(b + 2);
-    }
-    b[0] = structures[s];
-    b[1] = (unsigned char)(units[quantity] + below(quantity < 4 ? 8 : 4));
-    return 2 + put_packed(b + 2, widths[s]);
-}
-
-/* Seven quantities in some order, of which power and flow may be left out. */
-static size_t put_entries(unsigned char *b)
-{
-    unsigned order[] = {0, 1, 2, 3, 4, 5, 6};
-    size_t at = 0;
-    for (unsigned i = 6; i > 0; i--) {
-        unsigned j = below(i + 1), q = order[i];
-        order[i] = order[j];
-        order[j] = q;
-    }
-    for (unsigned i = 0; i < 7; i++)
-        if ((order[i] != 2 && order[i] != 3) || below(2))
-            at += put_entry(b + at, order[i]);
-    return at;
-}
-
-static size_t put_header(unsigned char *b)
-{
-    static const unsigned char types[] = {0x04, 0x0B, 0x0C, 0x0D};
-    unsigned maker = (1 + below(26)) << 10 | (1 + below(26)) << 5 | (1 + below(26));
-    put_packed(b, 4);
-    b[4] = (unsigned char)maker;
-    b[5] = (unsigned char)(maker >> 8);
-    b[6] = (unsigned char)next();
-    b[7] = types[below(4)];
-    b[8] = (unsigned char)next();
-    b[9] = (unsigned char)next();
-    b[10] = b[11] = 0;
-    return 12;
-}
-
-/* Lengths, sum and end of a long form whose field has n bytes. */
-static size_t close_long(unsigned char *b, size_t n)
-{
-    b[0] = b[3] = 0x68;
-    b[1] = b[2] = (unsigned char)n;
-    b[4 + n] = (unsigned char)second_sum(b + 4, n);
-    b[5 + n] = 0x16;
-    return n + 6;
-}
-
-static size_t put_accepted(unsigned char *b)
-{
-    static const unsigned char methods[] = {0x00, 0x90, 0x91, 0x92};
-    unsigned which = below(8);
-    if (which == 0) {
-        b[0] = 0xE5;
-        return 1;
-    }
-    if (which == 1) {
-        b[0] = 0x10;
-        b[1] = 0x5B;
-        b[2] = (unsigned char)next();
-        b[3] = (unsigned char)second_sum(b + 1, 2);
-        b[4] = 0x16;
-        return 5;
-    }
-    if (which == 2) {
-        b[4] = 0x53;
-        b[5] = (unsigned char)next();
-        b[6] = 0x50;
-        b[7] = methods[below(4)];
-        return close_long(b, 4);
-    }
-    b[4] = 0x08;
-    b[5] = (unsigned char)next();
-    b[6] = 0x72;
-    put_header(b + 7);
-    return close_long(b, 15 + put_entries(b + 19));
-}
-
-/* ---- what is done to them */
-
-/* One to three different bits of the nine are turned over: no such line is accepted. Says how many. */
-static unsigned flip(struct line *l)
-{
-    size_t places[3];
-    unsigned count = 1 + below(3), done = 0;
-    while (done < count) {
-        size_t p = below((unsigned)l->n * 9);
-        unsigned i = 0;
-        while (i < done && places[i] != p)
-            i++;
-        if (i < done)
+    printf("compare: seed %" PRIu64 ", call %lu, %s: %s\n", seed, cases, functions[call.function].name, what);
+    for (size_t i = 0; i < call.numbers; i++)
+        printf("  %s: %" PRIu64 "\n", call.told[i].name, call.told[i].number);
+    for (size_t i = 0; i < call.lents; i++) {
+        const struct lent *l = &call.lent[i];
+        printf("  %s, %zu bytes and %d behind them\n", l->name, l->size, MARGIN);
+        show_bytes("lent", l->before, l->size + MARGIN);
+        if (is_same(l))
             continue;
-        places[done++] = p;
-        l->c[p / 9] ^= (uint16_t)(1u << p % 9);
+        show_bytes("as the archive left it", l->proved, l->size + MARGIN);
+        show_bytes("as the second program says", l->second, l->size + MARGIN);
     }
-    return count;
+    exit(1);
 }
 
-/* Bytes of a long form's field changed, cut or added, with lengths, sum and end right again. */
-static size_t rebuild(unsigned char *b, size_t n)
+void end(uint32_t proved, uint32_t second)
 {
-    if (n < 6)
-        return n;
-    n -= 6;
-    switch (below(5)) {
+    int same = proved == second;
+    for (size_t i = 0; i < call.lents; i++)
+        same = same && is_same(&call.lent[i]);
+    if (!same) {
+        printf("compare: the archive answers %" PRIu32 ", the second program %" PRIu32 "\n", proved, second);
+        fail("the two programs differ");
+    }
+    if (proved >= ANSWERS)
+        fail("no answer has this number");
+    seen[call.function][proved]++;
+    cases++;
+}
+
+/* ---- choices that several functions share */
+
+size_t some_places(size_t needed)
+{
+    switch (below(16)) {
     case 0:
-        b[4 + below((unsigned)n)] = (unsigned char)next();
-        break;
+        return needed - (needed > 0);
     case 1:
-        n = below((unsigned)n + 1);
-        break;
+        return below((unsigned)needed + 1);
     case 2:
-        n += put_entry(b + 4 + n, below(7));
-        break;
     case 3:
-        for (unsigned more = below(255 - (unsigned)n); more > 0; more--)
-            b[4 + n++] = (unsigned char)next();
-        break;
+    case 4:
+        return needed + between(1, 20);
     default:
-        b[4 + below((unsigned)n)] = (unsigned char)next();
-        b[4 + below((unsigned)n)] = (unsigned char)next();
+        return needed;
     }
-    return close_long(b, n);
 }
 
-/* Characters of all sixteen bits, of nine, or sound ones; most begin as a line does. */
-static void noise(struct line *l)
+size_t spoil(uint8_t *record, size_t size)
 {
-    static const unsigned char starts[] = {0xE5, 0x10, 0x68};
-    unsigned kind = below(4);
-    l->n = below(8) ? below(30) : below(MOST);
-    for (size_t i = 0; i < l->n; i++)
-        l->c[i] = kind == 0 ? (uint16_t)next() : kind == 1 ? (uint16_t)(next() & 511) : second_character(next());
-    if (l->n > 0 && below(4))
-        l->c[0] = second_character(starts[below(3)]);
-    if (l->n > 1 && l->n < 262 && below(2))
-        l->c[1] = second_character((unsigned)(l->n - 6));
-}
-
-/* Makes a line; says how many flips it has, for which it must be refused. */
-static unsigned make(struct line *l)
-{
-    unsigned char b[MOST];
-    unsigned how = below(8);
-    size_t n;
-    if (how == 0) {
-        noise(l);
-        return 0;
+    unsigned at = below((unsigned)size);
+    switch (below(8)) {
+    case 0:
+        return size - 1;
+    case 1:
+        return once_in(2) ? size + between(1, 8) : below((unsigned)size);
+    case 2:
+        for (size_t i = 0; i < size; i++)
+            record[i] = (uint8_t)chance();
+        return size;
+    case 3:
+        record[at] ^= (uint8_t)one_bit(0, 7);
+        return size;
+    case 4:
+        record[at] = (uint8_t)(once_in(2) ? record[at] + 1 : record[at] - 1);
+        return size;
+    default:
+        record[at] = (uint8_t)chance();
+        return size;
     }
-    n = put_accepted(b);
-    if (how >= 5)
-        n = rebuild(b, n);
-    put_bytes(l, b, n);
-    if (how == 1 || how == 2)
-        return flip(l);
-    if (how == 3)
-        l->c[below((unsigned)n)] = second_character(next());
-    return 0;
 }
 
-/* ---- the two answers */
+/* ---- all of it */
 
-static uint32_t second_answer(const struct line *l, size_t len)
-{
-    struct second_telegram t;
-    int refusal;
-    if (len % 2 == 1)
-        return 256 + 17;
-    refusal = second_read(l->c, l->n, &t);
-    return refusal == 0 ? (uint32_t)t.kind + 1 : 256 + (uint32_t)refusal;
-}
-
-static void show(uint64_t seed, unsigned long at, const uint8_t *bytes, size_t len, uint32_t proved, uint32_t second)
-{
-    printf("compare: seed %" PRIu64 ", line %lu: the archive answers %" PRIu32 ", the second program %" PRIu32 "\n", seed, at, proved, second);
-    for (size_t i = 0; i < len; i++)
-        printf("%02X%c", bytes[i], i + 1 == len ? '\n' : ' ');
-}
-
-static int all_seen(const unsigned long *seen, const unsigned long *flipped)
+/* Says which of the numbers in a list no call was answered by. */
+static int were_seen(enum function f, const char *list, unsigned add, const char *as)
 {
     int all = 1;
-    for (unsigned f = 1; f <= 3; f++)
-        if (flipped[f] == 0) {
-            printf("compare: no line had %u flips\n", f);
-            all = 0;
-        }
-    for (unsigned a = 1; a < ANSWERS; a++)
-        if (seen[a] == 0 && (a < 6 || (a > 256 && a != 256 + 15))) {
-            printf("compare: no line was answered by %u\n", a);
-            all = 0;
-        }
+    for (char *rest; *list != '\0'; list = rest) {
+        unsigned long number = strtoul(list, &rest, 10);
+        if (seen[f][add + number] != 0)
+            continue;
+        printf("compare: %s never %s %lu\n", functions[f].name, as, number);
+        all = 0;
+    }
     return all;
+}
+
+static void show_refusals(void)
+{
+    printf("compare: refusals seen:");
+    for (unsigned n = 0; n < ANSWERS - SKARROWITH_REFUSED; n++) {
+        unsigned long times = 0;
+        for (unsigned f = 0; f < FUNCTIONS; f++)
+            times += seen[f][SKARROWITH_REFUSED + n];
+        if (times > 0)
+            printf(" %u", n);
+    }
+    putchar('\n');
+}
+
+static int all_seen(void)
+{
+    int all = 1;
+    for (unsigned f = 0; f < FUNCTIONS; f++) {
+        unsigned long calls = 0;
+        for (unsigned a = 0; a < ANSWERS; a++)
+            calls += seen[f][a];
+        printf("compare: %8lu %s\n", calls, functions[f].name);
+        all &= were_seen((enum function)f, functions[f].answers, 0, "answered");
+        all &= were_seen((enum function)f, functions[f].refusals, SKARROWITH_REFUSED, "refused by");
+    }
+    show_refusals();
+    return flips_seen() && all;
+}
+
+static void compare_some(void)
+{
+    unsigned turns = 0, turn;
+    for (size_t i = 0; i < sizeof parts / sizeof parts[0]; i++)
+        turns += parts[i].often;
+    turn = below(turns);
+    for (size_t i = 0; i < sizeof parts / sizeof parts[0]; i++) {
+        if (turn < parts[i].often) {
+            parts[i].compare();
+            return;
+        }
+        turn -= parts[i].often;
+    }
 }
 
 int main(int argc, char **argv)
 {
-    static unsigned long seen[ANSWERS], flipped[4];
-    uint64_t seed = argc > 1 ? strtoull(argv[1], NULL, 10) : 1;
-    unsigned long count = argc > 2 ? strtoul(argv[2], NULL, 10) : 200000;
-    state = seed * UINT64_C(0x9E3779B97F4A7C15) + 1;
-    for (unsigned long at = 0; at < count; at++) {
-        struct line l;
-        uint8_t bytes[2 * MOST];
-        unsigned flips = make(&l);
-        size_t len = 2 * l.n;
-        uint32_t proved, second;
-        for (size_t i = 0; i < l.n; i++) {
-            bytes[2 * i] = (uint8_t)(l.c[i] & 0xFF);
-            bytes[2 * i + 1] = (uint8_t)(l.c[i] >> 8);
-        }
-        if (len > 0 && below(64) == 0)
-            len--;
-        proved = skarrowith_check_line(bytes, len);
-        second = second_answer(&l, len);
-        if (proved != second || proved >= ANSWERS || (flips > 0 && proved < 256)) {
-            show(seed, at, bytes, len, proved, second);
-            return 1;
-        }
-        seen[proved]++;
-        flipped[flips]++;
-    }
-    if (!all_seen(seen, flipped))
+    unsigned long count = argc > 2 ? strtoul(argv[2], NULL, 10) : 600000;
+    seed = argc > 1 ? strtoull(argv[1], NULL, 10) : 1;
+    seed_chance(seed);
+    while (cases < count)
+        compare_some();
+    if (!all_seen())
         return 1;
-    printf("compare: seed %" PRIu64 ": %lu lines agree, %lu, %lu and %lu of them with one, two and three flips\n", seed, count,
-           flipped[1], flipped[2], flipped[3]);
+    printf("compare: seed %" PRIu64 ": %lu calls agree\n", seed, cases);
     return 0;
 }

@@ -2,27 +2,15 @@
 #include "bundle.h"
 
 #include "line.h"
+#include "number.h"
 
 #include <string.h>
-
-static uint32_t number(const uint8_t *b, size_t bytes)
-{
-    uint32_t n = 0;
-    while (bytes > 0)
-        n = n << 8 | b[--bytes];
-    return n;
-}
-
-static void put_number(uint8_t *b, size_t bytes, uint32_t n)
-{
-    for (; bytes > 0; bytes--, n >>= 8)
-        *b++ = (uint8_t)n;
-}
 
 static struct second_row row_at(const uint8_t *bundle, size_t i)
 {
     const uint8_t *b = bundle + 2 + 12 * i;
-    struct second_row row = {b[0], b[1], number(b + 2, 4), number(b + 6, 4), number(b + 10, 2)};
+    struct second_row row = {b[0], b[1], (uint32_t)second_number(b + 2, 4), (uint32_t)second_number(b + 6, 4),
+                             second_number(b + 10, 2)};
     return row;
 }
 
@@ -30,9 +18,9 @@ void second_put_row(uint8_t *to, const struct second_row *row)
 {
     to[0] = (uint8_t)row->position;
     to[1] = (uint8_t)row->direction;
-    put_number(to + 2, 4, row->time);
-    put_number(to + 6, 4, row->offset);
-    put_number(to + 10, 2, (uint32_t)row->length);
+    second_put_number(to + 2, 4, row->time);
+    second_put_number(to + 6, 4, row->offset);
+    second_put_number(to + 10, 2, row->length);
 }
 
 /* 34, of one row behind another whose time was last. */
@@ -76,7 +64,7 @@ static size_t bodies_end(const uint8_t *bundle, size_t n, size_t rows)
 static int is_wide(const uint8_t *bytes, size_t n)
 {
     for (; n > 0; bytes += 2, n -= 2)
-        if (number(bytes, 2) > 511)
+        if (second_number(bytes, 2) > 511)
             return 1;
     return 0;
 }
@@ -88,7 +76,7 @@ int second_check(const uint8_t *bundle, size_t n, size_t *rows)
         return 30;
     if (n < 2)
         return 31;
-    *rows = number(bundle, 2);
+    *rows = second_number(bundle, 2);
     if (*rows > SECOND_ROWS)
         return 32;
     contents = 2 + 12 * *rows;
@@ -121,7 +109,7 @@ static void join(uint8_t *buffer, size_t rows, struct second_row row, const uint
 {
     static uint8_t joined[SECOND_BUNDLE];
     size_t place = 2 + 12 * (rows + 1);
-    put_number(joined, 2, (uint32_t)rows + 1);
+    second_put_number(joined, 2, rows + 1);
     for (size_t i = 0; i <= rows; i++) {
         struct second_row one = i < rows ? row_at(buffer, i) : row;
         memcpy(joined + place, i < rows ? buffer + one.offset : body, one.length);
@@ -168,7 +156,7 @@ static void list_row(const uint8_t *bundle, struct second_row row, FILE *to, int
     size_t n = row.length / 2;
     int refusal;
     for (size_t i = 0; i < n; i++)
-        line[i] = (uint16_t)number(bundle + row.offset + 2 * i, 2);
+        line[i] = (uint16_t)second_number(bundle + row.offset + 2 * i, 2);
     fprintf(to, "%u,%s,%lu,", row.position, row.direction == 0 ? "sent" : "heard", (unsigned long)row.time);
     refusal = second_read(line, n, &t);
     if (is_wake(line, n))

@@ -1,0 +1,205 @@
+/* Random telegrams: such that can be written, and such with a rule broken. */
+#include "make.h"
+
+#include <string.h>
+
+unsigned digits_of(unsigned structure)
+{
+    return structure == 0x0A ? 4 : structure == 0x0B ? 6 : structure == 0x0C ? 8 : 12;
+}
+
+static uint64_t power_of_ten(unsigned n)
+{
+    uint64_t power = 1;
+    while (n-- > 0)
+        power *= 10;
+    return power;
+}
+
+static uint64_t count_for(unsigned structure)
+{
+    uint64_t end = power_of_ten(digits_of(structure));
+    switch (below(4)) {
+    case 0:
+        return below(100);
+    case 1:
+        return end - 1 - below(2);
+    default:
+        return chance() % end;
+    }
+}
+
+static void good_moment(unsigned m[6])
+{
+    static const unsigned char days[] = {31, 28, 31, 30, 31, 30, 31, 31, 30, 31, 30, 31};
+    m[0] = below(100);
+    m[1] = between(1, 12);
+    m[2] = once_in(3) ? days[m[1] - 1] : between(1, 28);
+    if (m[0] % 4 == 0 && m[1] == 2 && once_in(2))
+        m[2] = 29;
+    m[3] = once_in(4) ? 23 : below(24);
+    m[4] = once_in(4) ? 59 : below(60);
+    m[5] = once_in(4) ? 59 : below(60);
+}
+
+/* An entry of a quantity, 0 to 6 in 01's order. */
+static struct second_entry good_entry(unsigned quantity)
+{
+    static const unsigned char units[] = {0x00, 0x10, 0x28, 0x38, 0x58, 0x5C, 0x6D};
+    static const unsigned char structures[] = {0x0A, 0x0B, 0x0C, 0x0E};
+    struct second_entry e = {0};
+    e.unit = units[quantity];
+    if (quantity == 6) {
+        e.structure = 0x06;
+        e.is_time = 1;
+        good_moment(e.moment);
+        return e;
+    }
+    e.unit += below(quantity < 4 ? 8 : 4);
+    e.structure = structures[below(4)];
+    e.count = count_for(e.structure);
+    return e;
+}
+
+static void swap_entries(struct second_telegram *t, unsigned i, unsigned j)
+{
+    struct second_entry e = t->entries[i];
+    t->entries[i] = t->entries[j];
+    t->entries[j] = e;
+}
+
+unsigned some_maker(unsigned first, unsigned last)
+{
+    unsigned maker = between(first, last) << 10;
+    maker |= between(first, last) << 5;
+    return maker | between(first, last);
+}
+
+static void good_data(struct second_telegram *t)
+{
+    static const unsigned char types[] = {0x04, 0x0B, 0x0C, 0x0D};
+    t->number = (uint32_t)(chance() % 100000000);
+    t->maker = some_maker(1, 26);
+    t->version = below(256);
+    t->type = types[below(4)];
+    t->access = below(256);
+    t->status = below(256);
+    for (unsigned q = 0; q < 7; q++)
+        if ((q != 2 && q != 3) || once_in(2))
+            t->entries[t->count++] = good_entry(q);
+    for (unsigned i = (unsigned)t->count - 1; i > 0; i--)
+        swap_entries(t, i, below(i + 1));
+}
+
+struct second_telegram good_telegram(enum second_kind kind)
+{
+    struct second_telegram t;
+    memset(&t, 0, sizeof t);
+    t.kind = kind;
+    if (kind != SECOND_ACK)
+        t.address = once_in(3) ? 0xFE : below(256);
+    if (kind == SECOND_ENTER)
+        t.method = between(0x90, 0x92);
+    if (kind == SECOND_DATA)
+        good_data(&t);
+    return t;
+}
+
+enum second_kind some_kind(void)
+{
+    return once_in(2) ? SECOND_DATA : (enum second_kind)below(5);
+}
+
+/* ---- with a rule broken */
+
+static void break_entry(struct second_entry *e)
+{
+    unsigned part = below(6);
+    switch (below(7)) {
+    case 0:
+        e->structure = below(16);
+        break;
+    case 1:
+        e->unit = below(128);
+        break;
+    case 2:
+        e->is_time = !e->is_time;
+        break;
+    case 3:
+        e->count = power_of_ten(digits_of(e->structure)) - (once_in(2) ? 1 : 0);
+        break;
+    case 4:
+        e->count = chance();
+        break;
+    case 5:
+        e->moment[part] = once_in(4) ? below(256) : between(23, 32);
+        break;
+    default:
+        e->moment[part] = once_in(2) ? 0 : between(59, 100);
+    }
+}
+
+static void break_header(struct second_telegram *t)
+{
+    switch (below(4)) {
+    case 0:
+        t->number = once_in(2) ? (uint32_t)chance() : 100000000 - below(2);
+        break;
+    case 1:
+        t->maker = once_in(2) ? some_maker(0, 27) : t->maker | 0x8000;
+        break;
+    case 2:
+        t->type = below(once_in(2) ? 16 : 256);
+        break;
+    default:
+        t->method = between(0x8F, 0x93);
+    }
+}
+
+/* Breaks one of the rules behind 20, or none by luck. */
+void break_telegram(struct second_telegram *t)
+{
+    unsigned many = t->count == 0 ? 1 : (unsigned)t->count, at = below(many);
+    switch (below(8)) {
+    case 0:
+        break_header(t);
+        break;
+    case 1:
+        t->count = once_in(2) ? below(10) : once_in(2) ? UINT64_MAX : t->count - 1;
+        break;
+    case 2: /* a quantity twice, or another order */
+        t->entries[at] = t->entries[below(many)];
+        break;
+    case 3: /* a required one missing, if it was the last */
+        t->entries[many - 1].structure = t->entries[many - 1].unit = 0;
+        t->count -= once_in(2);
+        break;
+    case 4: /* a place past the count that is not blank */
+        break_entry(&t->entries[between(many - 1, 6)]);
+        break;
+    case 5:
+        t->kind = (enum second_kind)below(5);
+        break;
+    case 6:
+        t->address = below(256);
+        t->method = once_in(2) ? 0 : below(256);
+        break;
+    default:
+        break_entry(&t->entries[at]);
+    }
+}
+
+/* A template that a meter is set up with, but now and then. */
+struct second_telegram meter_template(void)
+{
+    struct second_telegram t = good_telegram(SECOND_DATA);
+    t.access = once_in(2) ? 255 - below(3) : t.access;
+    for (size_t i = 0; i < t.count; i++)
+        if (t.entries[i].unit < 0x18 && !once_in(40)) {
+            t.entries[i].structure = 0x0C;
+            t.entries[i].count = count_for(0x0C);
+        }
+    if (once_in(20))
+        break_telegram(&t);
+    return t;
+}
