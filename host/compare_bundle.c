@@ -25,7 +25,7 @@ static void row(void)
     unsigned many = (unsigned)bundle.rows;
     size_t i = once_in(30) ? (size_t)chance() : once_in(6) || many == 0 ? many : below(many);
     size_t size = once_in(12) ? some_places(sizeof fields) : sizeof fields;
-    int refusal = size != sizeof fields ? (int)SKARROWITH_NO_RECORD : second_row(bundle.b, bundle.n, i, &r);
+    int refusal = size < sizeof fields ? 21 : second_row(bundle.b, bundle.n, i, &r);
     begin(BUNDLE_ROW);
     struct lent *bytes = lend("bundle", bundle.n, bundle.b, bundle.n), *out = lend("row", size, NULL, 0);
     if (refusal == 0) {
