@@ -186,7 +186,8 @@ struct skarrowith_exchange {
  * Times are counted in bit times of 1/2400 s and must not go back from step to step (40). A step that the state does not
  * call for is refused by 41.
  *
- * start: the request's first send has ended at t. Refuses by 21, or 42 for a kind that is no request.
+ * start: the request's first send has ended at t; method is looked at for an enter only. Refuses by 21, or 42 for a kind
+ *        that is no request.
  * heard: a line was heard that began at t. If the exchange then stands SKARROWITH_WELL, its telegram has been written to
  *        reply; if not, reply is as it was. Refuses by 101, 21 (reply), 40 or 41.
  * tick:  no line has begun up to t; more than 450 after the send that is silence. Do not tick past the window while a
