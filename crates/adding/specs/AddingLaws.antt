@@ -15,7 +15,7 @@ use Rattle.format.specs.AnswerLaws.{reads-same}
 use Rattle.format.specs.Tests.{neither}
 use Rattle.format.specs.TestLaws.{none, not-refused, all-passed}
 use Rattle.bundle.specs.declared.Row.{Row}
-use Rattle.bundle.specs.Numbers.{number}
+use Rattle.low_first.specs.Numbers.{number}
 use Rattle.bundle.specs.Walks.{someWrong, endOf}
 use Rattle.bundle.specs.Rows.{mostRows, rowsOf, wrongField, wrongRow, wrongRows, timeOf, firstOffset, nextOffset, wrongPlaces, blankRow, length-rows, places-right}
 use Rattle.bundle.specs.Bodies.{charactersOf}

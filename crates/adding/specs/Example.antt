@@ -5,7 +5,7 @@ use mathlib.Core.Path.{_≡_, refl}
 use lib.ListN.{replicate}
 use Rattle.format.specs.Lists.{any}
 use Rattle.format.specs.Answers.{reads, refusal}
-use Rattle.bundle.specs.Numbers.{number, bytesOf}
+use Rattle.low_first.specs.Numbers.{number, bytesOf}
 use Rattle.bundle.specs.Walks.{someWrong, endOf}
 use Rattle.bundle.specs.Rows.{rowsOf}
 use Rattle.bundle.specs.Bodies.{charactersOf}

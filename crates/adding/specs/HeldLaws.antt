@@ -9,7 +9,7 @@ use lib.Dec.{lit<}
 use lib.ListN.{length, take, drop, length-drop, take-append-drop}
 use lib.Seq.{length-take-le}
 use Rattle.bundle.specs.declared.Row.{Row}
-use Rattle.bundle.specs.Numbers.{number}
+use Rattle.low_first.specs.Numbers.{number}
 use Rattle.bundle.specs.Walks.{someWrong, endOf}
 use Rattle.bundle.specs.Rows.{rowsOf, wrongRow, wrongRows, firstOffset, nextOffset, wrongPlaces, bodiesEnd, length-rows, places-right}
 use Rattle.bundle.specs.Bundles.{countOf, contentsOf, bodiesOf}

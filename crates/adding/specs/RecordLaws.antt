@@ -11,7 +11,7 @@ use lib.Seq.{take-at, drop-at, drop-drop, take-append-seam, drop-append-seam}
 use Rattle.format.specs.Lists.{any}
 use Rattle.format.specs.Characters.{over}
 use Rattle.bundle.specs.declared.Row.{Row}
-use Rattle.bundle.specs.Numbers.{number, bytesOf, length-bytes, number-bytes}
+use Rattle.low_first.specs.Numbers.{number, bytesOf, length-bytes, number-bytes}
 use Rattle.bundle.specs.Walks.{someWrong, endOf}
 use Rattle.bundle.specs.Rows.{mostRows, rowOf, rowsOf, wrongRow, wrongRows, firstOffset, wrongPlaces, bodiesEnd}
 use Rattle.bundle.specs.Bodies.{charactersOf}

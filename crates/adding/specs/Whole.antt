@@ -7,7 +7,7 @@ use native.Mathlib.Omega.{arith}
 use lib.ListN.{length, getD, take, drop, length-drop, take-append-drop}
 use lib.Seq.{take-add, drop-drop, drop-cons, length-take-le}
 use Rattle.bundle.specs.declared.Row.{Row}
-use Rattle.bundle.specs.Numbers.{number, bytesOf}
+use Rattle.low_first.specs.Numbers.{number, bytesOf}
 use Rattle.bundle.specs.Rows.{rowOf, rowsOf, firstOffset, nextOffset, wrongPlaces, places-right}
 use Rattle.bundle.specs.Bundles.{countOf, contentsOf}
 use Rattle.bundle.specs.Records.{recordsOf, bytesOfRow, bytesOfRows, bundleOf}

@@ -7,7 +7,7 @@ use Rattle.format.specs.Lists.{any}
 use Rattle.format.specs.Characters.{over}
 use Rattle.format.specs.Answers.{Answer, reads, refuse, within, follow}
 use Rattle.bundle.specs.declared.Row.{Row}
-use Rattle.bundle.specs.Numbers.{number}
+use Rattle.low_first.specs.Numbers.{number}
 use Rattle.bundle.specs.Rows.{mostRows, rowsOf, wrongRows, firstOffset, wrongPlaces, bodiesEnd, blankRow}
 use Rattle.bundle.specs.Bodies.{charactersOf}
 

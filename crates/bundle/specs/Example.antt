@@ -4,7 +4,7 @@ use mathlib.Core.List.{List, [], _∷_}
 use mathlib.Core.Path.{_≡_, refl}
 use Rattle.format.specs.Lists.{any}
 use Rattle.format.specs.Answers.{reads, refusal}
-use Rattle.bundle.specs.Numbers.{number}
+use Rattle.low_first.specs.Numbers.{number}
 use Rattle.bundle.specs.Walks.{someWrong, endOf}
 use Rattle.bundle.specs.Rows.{rowsOf}
 use Rattle.bundle.specs.Bodies.{charactersOf}

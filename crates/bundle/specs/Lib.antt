@@ -1,5 +1,4 @@
 -- What document 01 says of the run bundle: one module for each thing, in 01's order, and the laws about each beside it.
-pub mod Numbers
 pub mod Walks
 pub mod Rows
 pub mod Bodies

@@ -3,7 +3,7 @@ use Prim.Native.Nat.{ℕ, _+_}
 use mathlib.Core.List.{List, [], _∷_, _++_}
 use lib.ListN.{length, take, drop}
 use Rattle.bundle.specs.declared.Row.{Row}
-use Rattle.bundle.specs.Numbers.{bytesOf}
+use Rattle.low_first.specs.Numbers.{bytesOf}
 use Rattle.bundle.specs.Rows.{firstOffset}
 use Rattle.bundle.specs.Bundles.{contentsOf, bodiesOf}
 

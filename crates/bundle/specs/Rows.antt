@@ -12,7 +12,7 @@ use lib.Seq.{drop-drop, getD-drop}
 use Rattle.format.specs.Lists.{at}
 use Rattle.format.specs.Tests.{neither, not-different}
 use Rattle.bundle.specs.declared.Row.{Row}
-use Rattle.bundle.specs.Numbers.{number}
+use Rattle.low_first.specs.Numbers.{number}
 use Rattle.bundle.specs.Walks.{someWrong, endOf, Walked, walked-none, walked-next, walked-found, walked-end}
 
 -- position; direction; time 4 bytes; offset 4; body length 2

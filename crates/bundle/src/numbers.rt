@@ -2,7 +2,7 @@
 ghost use mathlib.Core.Path.{_≡_};
 ghost use Prim.Native.Nat.{_+_, _≤_};
 ghost use lib.ListN.{length, take, drop};
-ghost use Rattle.bundle.specs.Numbers.{number};
+ghost use Rattle.low_first.specs.Numbers.{number};
 
 // The number of two bytes.
 pub(crate) fn two(s: &[u8], at: usize) -> u16

@@ -23,7 +23,7 @@ use Rattle.format.specs.Characters.{over, odd, byteOf}
 use Rattle.format.specs.Lines.{isAck, isShort, wrongStart, wrongCount, wrongLengths, wrongEnd, wrongSum, field, isCommand, isData, commandOf, readLong, readBody, readLine}
 use Rattle.format.specs.Views.{viewOf, viewed}
 use Rattle.bundle.specs.declared.Row.{Row}
-use Rattle.bundle.specs.Numbers.{number}
+use Rattle.low_first.specs.Numbers.{number}
 use Rattle.bundle.specs.Rows.{mostRows, wrongRows, wrongPlaces, bodiesEnd, firstOffset, rowOf, blankRow, row-at, length-rows}
 use Rattle.bundle.specs.Bodies.{charactersOf}
 use Rattle.bundle.specs.Bundles.{mostBytes, countOf, contentsOf, bodiesOf, checkOf}

@@ -1,7 +1,7 @@
 -- `adding::contents::grow_contents` meets its contract: what the three steps leave, one upon the other. Assumes nothing.
 use borrow.Author.Needs.{needs}
 use denote.Ref.{now}
-use Rattle.bundle.specs.Numbers.{bytesOf}
+use Rattle.low_first.specs.Numbers.{bytesOf}
 use Rattle.adding.specs.Writing.{contents-grown}
 use Rattle.adding.proofs.contents.grow_contents.Statement.{statement}
 use Rattle.adding.proofs.contents.grow_contents.Tie as tie

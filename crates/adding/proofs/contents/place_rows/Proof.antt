@@ -2,7 +2,7 @@
 use borrow.Author.Needs.{needs}
 use Prim.Native.Nat.{_-_}
 use native.Mathlib.Omega.{arith}
-use Rattle.bundle.specs.Numbers.{bytesOf}
+use Rattle.low_first.specs.Numbers.{bytesOf}
 use Rattle.adding.specs.Writing.{Placing, placing-none, placing-next, placing-all}
 use Rattle.adding.proofs.contents.place_rows.Statement.{statement}
 use Rattle.adding.proofs.contents.place_rows.Tie as tie

@@ -1,7 +1,7 @@
 -- `adding::writing::row_bytes` meets its contract, byte by byte. Assumes nothing.
 use borrow.Author.Needs.{needs}
 use native.Mathlib.Nat.{div-div-eq-div-mul}
-use Rattle.bundle.specs.Numbers.{bytesOf}
+use Rattle.low_first.specs.Numbers.{bytesOf}
 use Rattle.adding.proofs.writing.row_bytes.Statement.{statement}
 use Rattle.adding.proofs.writing.row_bytes.Tie as tie
 

@@ -1,7 +1,7 @@
 -- `bundle::numbers::four` meets its contract. Assumes nothing.
 use borrow.Author.Needs.{needs}
 use denote.Ref.{now}
-use Rattle.bundle.specs.Numbers.{number-four}
+use Rattle.low_first.specs.Numbers.{number-four}
 use Rattle.bundle.proofs.numbers.four.Statement.{statement}
 use Rattle.bundle.proofs.numbers.four.Tie as tie
 

@@ -3,7 +3,7 @@ use borrow.Author.Needs.{needs}
 use Prim.Native.Nat.{_+_}
 use native.Mathlib.Omega.{arith}
 use denote.Ref.{now}
-use Rattle.bundle.specs.Numbers.{number-two}
+use Rattle.low_first.specs.Numbers.{number-two}
 use Rattle.bundle.proofs.numbers.two.Statement.{statement}
 use Rattle.bundle.proofs.numbers.two.Tie as tie
 

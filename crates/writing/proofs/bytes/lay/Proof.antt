@@ -4,7 +4,7 @@ use mathlib.Core.Path.{refl}
 use native.Mathlib.Omega.{arith}
 use borrow.Author.Needs.{needs}
 use lib.ListN.{length}
-use Rattle.writing.specs.Laying.{Copied, copied-none, copied-next, copied-length, copied-all}
+use Rattle.low_first.specs.Copying.{Copied, copied-none, copied-next, copied-length, copied-all}
 use Rattle.writing.proofs.bytes.lay.Statement.{statement}
 use Rattle.writing.proofs.bytes.lay.Tie as tie
 

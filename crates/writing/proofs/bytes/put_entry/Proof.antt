@@ -7,7 +7,8 @@ use borrow.Author.Needs.{needs}
 use lib.ListN.{length, take}
 use lib.Seq.{length-take-le}
 use Rattle.format.specs.Quantities.{widthOf}
-use Rattle.writing.specs.Laying.{laid, EntryCut, entry-cut, entry-laid}
+use Rattle.low_first.specs.Copying.{laid}
+use Rattle.writing.specs.Laying.{EntryCut, entry-cut, entry-laid}
 use Rattle.writing.proofs.bytes.put_entry.Statement.{statement}
 use Rattle.writing.proofs.bytes.put_entry.Tie as tie
 

@@ -7,7 +7,7 @@ use native.Mathlib.Numerals.{add-one}
 use native.Mathlib.Omega.{arith}
 use lib.Arith.{lt-one}
 use lib.ListN.{length, getD, take, drop, length-drop}
-use lib.Seq.{drop-cons, take-add, drop-drop, length-take-le}
+use lib.Seq.{take-nil, drop-nil, drop-cons, take-add, drop-drop, length-take-le}
 
 -- the number that the bytes are
 unfoldable pub number : List ℕ → ℕ
@@ -47,3 +47,30 @@ number-bytes zero n h = sym (lt-one h)
 number-bytes (suc k) n h =
     let p : n < 256 ^ k * 256 = rw pow-suc at h in
     rw (number-bytes k (n / 256) (omega arith)) (omega arith)
+
+-- the first bytes one by one, those past the end being 0
+number-at : (k i : ℕ) (s : List ℕ) → number (take (suc k) (drop i s)) ≡ getD s i 0 + 256 * number (take k (drop (suc i) s))
+unfolding number
+number-at k i [] = rw (drop-nil i, take-nil k)
+number-at k zero (b ∷ s) = refl
+number-at k (suc i) (b ∷ s) = number-at k i s
+
+none-at : (i : ℕ) (s : List ℕ) → number (take 0 (drop i s)) ≡ 0
+unfolding number
+none-at i s = refl
+
+pub first-two : (s : List ℕ) → getD s 0 0 + 256 * getD s 1 0 ≡ number (take 2 s)
+first-two s = omega (arith, number-at 1 0 s, number-at 0 1 s, none-at 2 s)
+
+pub first-four : (s : List ℕ) → getD s 0 0 + 256 * (getD s 1 0 + 256 * (getD s 2 0 + 256 * getD s 3 0)) ≡ number (take 4 s)
+first-four s = omega (arith, number-at 3 0 s, number-at 2 1 s, number-at 1 2 s, number-at 0 3 s, none-at 4 s)
+
+-- the last four of eight
+next-four : (s : List ℕ) → getD s 4 0 + 256 * (getD s 5 0 + 256 * (getD s 6 0 + 256 * getD s 7 0)) ≡ number (take 4 (drop 4 s))
+next-four s = omega (arith, number-at 3 4 s, number-at 2 5 s, number-at 1 6 s, number-at 0 7 s, none-at 8 s)
+
+pub first-eight : (s : List ℕ)
+    → number (take 4 s) + 4294967296 * (getD s 4 0 + 256 * (getD s 5 0 + 256 * (getD s 6 0 + 256 * getD s 7 0))) ≡ number (take 8 s)
+first-eight s =
+    omega
+    (arith, first-four s, number-at 7 0 s, number-at 6 1 s, number-at 5 2 s, number-at 4 3 s, number-at 3 4 s, number-at 2 5 s, number-at 1 6 s, number-at 0 7 s, none-at 8 s)
