@@ -1,6 +1,8 @@
 -- What every function for C answers, and what it leaves in memory that was lent to it.
-use Prim.Native.Nat.{ℕ, _+_}
+use Prim.Native.Nat.{ℕ, _+_, _≤_}
 use mathlib.Core.List.{List, _++_}
+use mathlib.Core.Path.{_≡_, ap, _∙_}
+use borrow.Author.Tests.{le-ltb}
 use lib.Dec.{ltb}
 use lib.ListN.{length, drop}
 use Rattle.format.specs.Answers.{Answer, reads, refusal, refuse, follow}
@@ -22,3 +24,9 @@ needs n out next = refuse 21 (ltb (length out) n) next
 -- The same where everything else is tried first.
 abbrev pub placed : {A B : Type 0} → ℕ → List B → Answer A → Answer A
 placed n out answer = follow answer (λ a. needs n out (reads a))
+
+-- Law: bytes for which there is room, as `store` leaves them.
+pub stored-whole : {A : Type 0} (written : A → List ℕ) (a : A) (out : List ℕ) {w after : List ℕ} → w ≡ written a → length (written a) ≤ length out
+    → after ≡ stored (λ b. b) out (needs (length w) out (reads w)) → after ≡ stored written out (reads a)
+stored-whole written a out {w} {after} e h l =
+    l ∙ ap (λ (b : List ℕ). stored (λ c. c) out (needs (length b) out (reads b))) e ∙ rw (le-ltb (length out) (length (written a)) h)

@@ -1,0 +1,132 @@
+// The exchange for C: include/skarrowith.h says how.
+ghost use mathlib.Core.Path.{_≡_};
+ghost use Prim.Native.Nat.{_≤_};
+ghost use lib.ListN.{length};
+ghost use Rattle.format.specs.Lines.{readLine};
+ghost use Rattle.format.specs.Telegrams.{shown};
+ghost use Rattle.host_exchange.specs.Calls.{Answers, Hears, answerOf, startFor, tickFor, sentFor, heardFor};
+use clock::Clock;
+use exchange::Exchange;
+use exchange::Heard;
+use exchange::Stepped;
+use reading::body::plain;
+use record::exchange_bytes;
+use record::exchange_from;
+use record::state_number;
+use records::store;
+use records::telegrams::kind_in;
+use records::telegrams::telegram_bytes;
+
+mod record;
+
+// Keeps the exchange as it then stands in its record, and answers its state, or 256 plus the number by which the step was refused.
+fn keep(stepped: Stepped, kept: &mut [u8]) -> u32
+    requires { ⌜ 24 ≤ length (now kept) ⌝ }
+    ensures { λ r. ⌜ Answers (answerOf stepped) (now (kept .entry)) (now (kept .exit)) r ⌝ }
+{
+    match stepped {
+        Stepped::Refused(n) => 256 + n as u32,
+        Stepped::To(x) => {
+            let state = x.state;
+            let bytes = exchange_bytes(x);
+            store(&bytes, kept);
+            state_number(state) as u32
+        }
+    }
+}
+
+// Keeps what a line gave, the reply too where it ended the exchange well.
+fn keep_heard(heard: Heard, kept: &mut [u8], reply: &mut [u8]) -> u32
+    requires { ⌜ (24 ≤ length (now kept)) × (136 ≤ length (now reply)) ⌝ }
+    ensures { λ r. ⌜ Hears (answerOf (heard .stepped)) (heard .reply) (now (kept .entry)) (now (kept .exit)) (now (reply .entry)) (now (reply .exit)) r ⌝ }
+{
+    let stepped = heard.stepped;
+    let telegram = heard.reply;
+    let answer = keep(stepped, kept);
+    let well = answer == 3;
+    if well {
+        let bytes = telegram_bytes(telegram);
+        store(&bytes, reply);
+        return answer;
+    }
+    answer
+}
+
+// A request's send has ended at t: 2 a read, 3 an enter with its method, 4 a leave, to the address.
+#[no_mangle]
+pub extern "C" fn skarrowith_exchange_start(
+    kept: &mut [u8],
+    kind: u8,
+    address: u8,
+    method: u8,
+    t: u64,
+) -> u32
+    ensures { λ r. ⌜ Answers (startFor (now (kept .entry)) kind address method t) (now (kept .entry)) (now (kept .exit)) r ⌝ }
+{
+    let short = kept.len() < 24;
+    if short {
+        return 256 + 21;
+    }
+    let kind = kind_in(kind);
+    let request = plain(kind, address, method);
+    let telegram = request.telegram;
+    let started = Exchange::start(telegram, Clock(t));
+    keep(started, kept)
+}
+
+// No line has begun up to t.
+#[no_mangle]
+pub extern "C" fn skarrowith_exchange_tick(kept: &mut [u8], t: u64) -> u32
+    ensures { λ r. ⌜ Answers (tickFor (now (kept .entry)) t) (now (kept .entry)) (now (kept .exit)) r ⌝ }
+{
+    let size = kept.len();
+    let stood = exchange_from(&kept[0..size]);
+    match stood {
+        Stepped::Refused(n) => 256 + n as u32,
+        Stepped::To(x) => {
+            let stepped = x.tick(Clock(t));
+            keep(stepped, kept)
+        }
+    }
+}
+
+// A resend of the request has ended at t.
+#[no_mangle]
+pub extern "C" fn skarrowith_exchange_sent(kept: &mut [u8], t: u64) -> u32
+    ensures { λ r. ⌜ Answers (sentFor (now (kept .entry)) t) (now (kept .entry)) (now (kept .exit)) r ⌝ }
+{
+    let size = kept.len();
+    let stood = exchange_from(&kept[0..size]);
+    match stood {
+        Stepped::Refused(n) => 256 + n as u32,
+        Stepped::To(x) => {
+            let stepped = x.sent(Clock(t));
+            keep(stepped, kept)
+        }
+    }
+}
+
+// A line heard at t, the start of its first character. The telegram of a line that ends the exchange well is written to the reply.
+#[no_mangle]
+pub extern "C" fn skarrowith_exchange_heard(
+    kept: &mut [u8],
+    line: &[u16],
+    t: u64,
+    reply: &mut [u8],
+) -> u32
+    ensures { λ r. ⌜ Hears (heardFor (now (kept .entry)) (now (line .entry)) t (now (reply .entry))) (shown (readLine (now (line .entry))) .telegram) (now (kept .entry)) (now (kept .exit)) (now (reply .entry)) (now (reply .exit)) r ⌝ }
+{
+    let size = kept.len();
+    let stood = exchange_from(&kept[0..size]);
+    match stood {
+        Stepped::Refused(n) => 256 + n as u32,
+        Stepped::To(x) => {
+            let short = reply.len() < 136;
+            if short {
+                return 256 + 21;
+            }
+            let heard = x.heard(line, Clock(t));
+            keep_heard(heard, kept, reply)
+        }
+    }
+}
