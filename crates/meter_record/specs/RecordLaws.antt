@@ -226,7 +226,7 @@ seven-in : (b : List ℕ) → length (telegramIn b .entries) ≡ 7
 unfolding telegramIn entriesIn
 seven-in b = refl
 
-seven-places : (b : List ℕ) (t : Telegram) → telegramFrom b ≡ reads t → length (t .entries) ≡ 7
+pub seven-places : (b : List ℕ) (t : Telegram) → telegramFrom b ≡ reads t → length (t .entries) ≡ 7
 seven-places b t e =
     let p = passed noRecord (not (same b (telegramBytes (telegramIn b)))) (reads (telegramIn b)) t e in
     subst (λ (x : Telegram). length (x .entries) ≡ 7) (reads-same (p .1)) (seven-in b)
