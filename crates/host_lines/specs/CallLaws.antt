@@ -1,0 +1,219 @@
+-- Laws: the ways out of each call.
+use Prim.Native.Nat.{ℕ, _+_, _≤_, _<_}
+use mathlib.Core.Bool.{Bool, true, false}
+use mathlib.Core.List.{List, [], _∷_, _++_}
+use mathlib.Core.Path.{_≡_, refl, sym, ap, ap₂, subst, _∙_}
+use native.Mathlib.Omega.{arith}
+use lib.IntN.{ℤ}
+use lib.Dec.{ltb}
+use lib.ListN.{length, drop, replicate, set, length-replicate}
+use lib.Seq.{set-split}
+use borrow.Author.Tests.{ltb-false}
+use Rattle.capture.specs.declared.Found.{Found}
+use Rattle.capture.specs.declared.Found.the-variants as founds
+use Rattle.capture.specs.Searching.{Spot, findIn, foundShown}
+use Rattle.clock.specs.declared.Gap.{Gap}
+use Rattle.clock.specs.declared.Gap.the-variants as gaps
+use Rattle.clock.specs.declared.Wake.{Wake}
+use Rattle.clock.specs.declared.Wake.the-variants as wakes
+use Rattle.clock.specs.Gaps.{shownGap}
+use Rattle.clock.specs.Wakes.{wakeCharacter, shownWake, held}
+use Rattle.format.specs.declared.Kind.{Kind}
+use Rattle.format.specs.declared.Outcome.{Outcome}
+use Rattle.format.specs.declared.Outcome.the-variants.{Accepted, Refused}
+use Rattle.format.specs.declared.Reading.{Reading}
+use Rattle.format.specs.declared.Telegram.{Telegram}
+use Rattle.format.specs.Answers.{Answer, reads, refusal, refuse, follow, within}
+use Rattle.format.specs.Lines.{readLine}
+use Rattle.format.specs.RoundTrip.{longest-line}
+use Rattle.format.specs.Telegrams.{bare, shown}
+use Rattle.format.specs.Writing.{lineOf, unwritable, writeLine, placesAfter}
+use Rattle.indication.specs.declared.Indication.{Indication}
+use Rattle.indication.specs.declared.Indication.the-variants as indications
+use Rattle.indication.specs.Errors.{indicationOf, shownIndication}
+use Rattle.writing.specs.declared.Written.{Written}
+use Rattle.writing.specs.declared.Written.the-variants as writtens
+use Rattle.writing.specs.Answering as answering
+use Rattle.records.specs.Lent.{told, stored, needs, placed}
+use Rattle.records.specs.Telegrams.{telegramSize, telegramBytes, telegramFrom, kindIn}
+use Rattle.host_lines.specs.Calls.{Leaves, done, spotBytes, findFor, readFor, kindOf, writeFor, requestFor, errorFor}
+
+-- ---- gap and wake-up
+
+pub gap-refused : (a : Answer (Unit {0})) {g : Gap} {n : ℕ} → g ≡ shownGap a → g ≡ gaps.Refused n → 256 + n ≡ told done a
+gap-refused (refusal m) e f = cc
+gap-refused (reads u) e f = cc
+
+pub gap-fine : (a : Answer (Unit {0})) {g : Gap} → g ≡ shownGap a → g ≡ gaps.Fine → 0 ≡ told done a
+gap-fine (refusal m) e f = cc
+gap-fine (reads u) e f = refl
+
+wake-told : (a : Answer ℕ) {w : Wake} {n : ℕ} → w ≡ shownWake a → w ≡ wakes.Refused n → 256 + n ≡ told done a
+wake-told (refusal m) e f = cc
+wake-told (reads m) e f = cc
+
+wake-done : (a : Answer ℕ) {w : Wake} {n : ℕ} → w ≡ shownWake a → w ≡ wakes.Written n → 0 ≡ told done a
+wake-done (refusal m) e f = cc
+wake-done (reads m) e f = refl
+
+module _ (out : List ℕ) where
+  wake-held : (a : Answer ℕ) {after : List ℕ} → after ≡ held a out → after ≡ stored (λ n. replicate n wakeCharacter) out a
+  wake-held (refusal n) h = h
+  wake-held (reads n) h = h ∙ ap (λ (k : ℕ). replicate n wakeCharacter ++ drop k out) (sym (length-replicate n wakeCharacter))
+
+  pub wake-refused : (a : Answer ℕ) {after : List ℕ} {w : Wake} {n : ℕ} → w ≡ shownWake a → after ≡ held a out → w ≡ wakes.Refused n → Leaves done (λ n. replicate n wakeCharacter) a out after (256 + n)
+  wake-refused a e h f = record { answer = wake-told a e f; left = wake-held a h }
+
+  pub wake-written : (a : Answer ℕ) {after : List ℕ} {w : Wake} {n : ℕ} → w ≡ shownWake a → after ≡ held a out → w ≡ wakes.Written n → Leaves done (λ n. replicate n wakeCharacter) a out after 0
+  wake-written a e h f = record { answer = wake-done a e f; left = wake-held a h }
+
+-- ---- the error of indication
+
+module _ (m1 m2 s1 s2 : ℕ) (out : List ℤ) where
+  pub error-short : ltb (length out) 1 ≡ true → Leaves done (λ e. e ∷ []) (errorFor m1 m2 s1 s2 out) out out (256 + 21)
+  error-short h = rw h (record { answer = refl; left = refl })
+
+  shows : (a : Answer ℤ) {i : Indication} {n : ℕ} → i ≡ shownIndication a → i ≡ indications.Refused n → a ≡ refusal n
+  shows (refusal m) e f = cc
+  shows (reads x) e f = let z : _≡_ {A = ℕ} 0 1 = cc in absurd (omega arith)
+
+  shows-error : (a : Answer ℤ) {i : Indication} {x : ℤ} → i ≡ shownIndication a → i ≡ indications.Error x → a ≡ reads x
+  shows-error (refusal m) e f = let z : _≡_ {A = ℕ} 0 1 = cc in absurd (omega arith)
+  shows-error (reads x) e f = cc
+
+  pub error-refused : ltb (length out) 1 ≡ false → {i : Indication} {n : ℕ} → i ≡ shownIndication (indicationOf m1 m2 s1 s2) → i ≡ indications.Refused n
+      → Leaves done (λ e. e ∷ []) (errorFor m1 m2 s1 s2 out) out out (256 + n)
+  error-refused h {i} {n} e f =
+      let a : indicationOf m1 m2 s1 s2 ≡ refusal n = shows (indicationOf m1 m2 s1 s2) e f in
+      rw (h, a) (record { answer = refl; left = refl })
+
+  pub error-told : ltb (length out) 1 ≡ false → {i : Indication} {x y : ℤ} → i ≡ shownIndication (indicationOf m1 m2 s1 s2) → i ≡ indications.Error x → y ≡ x
+      → Leaves done (λ e. e ∷ []) (errorFor m1 m2 s1 s2 out) out (set out 0 y) 0
+  error-told h {i} {x} {y} e f g =
+      let a : indicationOf m1 m2 s1 s2 ≡ reads x = shows-error (indicationOf m1 m2 s1 s2) e f in
+      rw (h, a) (record { answer = refl; left = ap (set out 0) g ∙ set-split out 0 x (omega (arith, ltb-false (length out) 1 h)) })
+
+-- ---- what is stored
+
+-- bytes that were handed to `store`, as they are left and told
+module _ {A : Type 0} (number : A → ℕ) (written : A → List ℕ) (k : ℕ) (x : A) (out : List ℕ) {w after : List ℕ} {short : Bool} (e : w ≡ written x) (n : length w ≡ k)
+    (t : short ≡ ltb (length out) (length w)) (l : after ≡ stored (λ b. b) out (needs (length w) out (reads w))) where
+  same-places : (test : Bool) → stored (λ b. b) out (refuse 21 test (reads (written x))) ≡ stored written out (refuse 21 test (reads x))
+  same-places true = refl
+  same-places false = refl
+
+  left-so : after ≡ stored written out (needs k out (reads x))
+  left-so =
+      l ∙ ap (λ (j : ℕ). stored (λ b. b) out (needs j out (reads w))) n
+      ∙ ap (λ (b : List ℕ). stored (λ c. c) out (needs k out (reads b))) e ∙ same-places (ltb (length out) k)
+
+  test-so : ltb (length out) k ≡ short
+  test-so = sym (t ∙ ap (ltb (length out)) n)
+
+  pub placed-short : short ≡ true → Leaves number written (needs k out (reads x)) out after (256 + 21)
+  placed-short s =
+      let so : ltb (length out) k ≡ true = test-so ∙ s in
+      record { answer = rw so; left = left-so }
+
+  pub placed-whole : short ≡ false → {r : ℕ} → r ≡ number x → Leaves number written (needs k out (reads x)) out after r
+  placed-whole s q =
+      let so : ltb (length out) k ≡ false = test-so ∙ s in
+      record { answer = rw so q; left = left-so }
+
+-- ---- search
+
+found-none : (a : Answer Spot) {s : Found} {n : ℕ} → s ≡ foundShown a → s ≡ founds.Refused n → a ≡ refusal n
+found-none (refusal m) e f = cc
+found-none (reads p) e f = let z : _≡_ {A = ℕ} 0 1 = cc in absurd (omega arith)
+
+found-at : (a : Answer Spot) {s : Found} {p n : ℕ} → s ≡ foundShown a → s ≡ founds.At p n → a ≡ reads (record { place = p; length = n })
+found-at (refusal m) e f = let z : _≡_ {A = ℕ} 0 1 = cc in absurd (omega arith)
+found-at (reads q) {s} {p} {n} e f =
+    let place : q .place ≡ p = cc in
+    let length : q .length ≡ n = cc in
+    ap₂ (λ (i j : ℕ). reads (record { place = i; length = j })) place length
+
+module _ (capture out : List ℕ) {s : Found} (e : s ≡ foundShown (findIn capture)) where
+  pub none-found : {n : ℕ} → s ≡ founds.Refused n → Leaves done spotBytes (findFor capture out) out out (256 + n)
+  none-found {n} f =
+      let a : findIn capture ≡ refusal n = found-none (findIn capture) e f in
+      rw a (record { answer = refl; left = refl })
+
+  pub one-found : {p n : ℕ} → s ≡ founds.At p n → {after : List ℕ} {r : ℕ} → Leaves done spotBytes (needs 16 out (reads (record { place = p; length = n }))) out after r
+      → Leaves done spotBytes (findFor capture out) out after r
+  one-found {p} {n} f k =
+      let a : findIn capture ≡ reads (record { place = p; length = n }) = found-at (findIn capture) e f in
+      rw a k
+
+-- ---- reading
+
+pub reading-refused : (a : Answer Telegram) {r : Reading} {n : ℕ} → r ≡ shown a → r .outcome ≡ Refused n → a ≡ refusal n
+reading-refused (refusal m) e f = let o = ap (λ (q : Reading). q .outcome) e in cc
+reading-refused (reads t) e f = let o = ap (λ (q : Reading). q .outcome) e in let z : _≡_ {A = ℕ} 0 1 = cc in absurd (omega arith)
+
+pub reading-read : (a : Answer Telegram) {r : Reading} → r ≡ shown a → r .outcome ≡ Accepted → a ≡ reads (r .telegram)
+reading-read (refusal m) e f = let o = ap (λ (q : Reading). q .outcome) e in let z : _≡_ {A = ℕ} 0 1 = cc in absurd (omega arith)
+reading-read (reads t) e f = let o = ap (λ (q : Reading). q .telegram) e in ap reads (sym o)
+
+module _ (line out : List ℕ) {s : Reading} (e : s ≡ shown (readLine line)) where
+  pub line-refused : {n : ℕ} → s .outcome ≡ Refused n → Leaves kindOf telegramBytes (readFor line out) out out (256 + n)
+  line-refused {n} f =
+      let a : readLine line ≡ refusal n = reading-refused (readLine line) e f in
+      rw a (record { answer = refl; left = refl })
+
+  pub line-read : s .outcome ≡ Accepted → {after : List ℕ} {r : ℕ} → Leaves kindOf telegramBytes (needs telegramSize out (reads (s .telegram))) out after r
+      → Leaves kindOf telegramBytes (readFor line out) out after r
+  line-read f k =
+      let a : readLine line ≡ reads (s .telegram) = reading-read (readLine line) e f in
+      rw a k
+
+-- ---- writing
+
+abbrev Line : Answer (List ℕ) → List ℕ → List ℕ → ℕ → Type 0
+Line a out after r = Leaves length (λ line. line) a out after r
+
+places : (out : List ℕ) (a : Answer (List ℕ)) → placesAfter out a ≡ stored (λ line. line) out a
+places out (refusal n) = refl
+places out (reads s) = refl
+
+write-told : (a : Answer (List ℕ)) {w : Written} {n : ℕ} → w ≡ answering.shown (within length a) → w ≡ writtens.Refused n → 256 + n ≡ told length a
+write-told (refusal m) e f = cc
+write-told (reads s) e f = cc
+
+write-length : (a : Answer (List ℕ)) {w : Written} {n : ℕ} → w ≡ answering.shown (within length a) → w ≡ writtens.Length n → n ≡ told length a
+write-length (refusal m) e f = cc
+write-length (reads s) e f = cc
+
+module _ (t : Telegram) {out after : List ℕ} {w : Written} (l : answering.WritesLine t out after w) where
+  pub not-written : {n : ℕ} → w ≡ writtens.Refused n → Line (writeLine t (length out)) out after (256 + n)
+  not-written f = record { answer = write-told (writeLine t (length out)) (l .answer) f; left = l .places ∙ places out (writeLine t (length out)) }
+
+  pub line-written : {n : ℕ} → w ≡ writtens.Length n → Line (writeLine t (length out)) out after n
+  line-written f = record { answer = write-length (writeLine t (length out)) (l .answer) f; left = l .places ∙ places out (writeLine t (length out)) }
+
+-- no line is longer than 77
+few : (t : Telegram) (u v : Bool) → unwritable t ≡ u → {w : Written} {n : ℕ} → w ≡ answering.shown (within length (refuse 20 u (refuse 21 v (reads (lineOf t))))) → w ≡ writtens.Length n → n ≤ 77
+few t true v g e f = let z : _≡_ {A = ℕ} 0 1 = cc in absurd (omega arith)
+few t false true g e f = let z : _≡_ {A = ℕ} 0 1 = cc in absurd (omega arith)
+few t false false g {w} {n} e f = let same : length (lineOf t) ≡ n = cc in rw (← same) (longest-line t g)
+
+pub written-few : (t : Telegram) {out after : List ℕ} {w : Written} {n : ℕ} → answering.WritesLine t out after w → w ≡ writtens.Length n → n ≤ 77
+written-few t {out} l f = few t (unwritable t) (ltb (length out) (length (lineOf t))) refl (l .answer) f
+
+module _ (b out : List ℕ) {s : Reading} (e : s ≡ shown (telegramFrom b)) where
+  pub no-record : {n : ℕ} → s .outcome ≡ Refused n → Line (writeFor b out) out out (256 + n)
+  no-record {n} f =
+      let a : telegramFrom b ≡ refusal n = reading-refused (telegramFrom b) e f in
+      rw a (record { answer = refl; left = refl })
+
+  pub record-line : s .outcome ≡ Accepted → {after : List ℕ} {r : ℕ} → Line (writeLine (s .telegram) (length out)) out after r → Line (writeFor b out) out after r
+  record-line f k =
+      let a : telegramFrom b ≡ reads (s .telegram) = reading-read (telegramFrom b) e f in
+      rw a k
+
+pub request-line : (kind address method : ℕ) (out : List ℕ) {k : Kind} {request : Reading} {after : List ℕ} {r : ℕ} → k ≡ kindIn kind
+    → request ≡ shown (reads (bare k address method)) → Line (writeLine (request .telegram) (length out)) out after r
+    → Line (requestFor kind address method out) out after r
+request-line kind address method out {k} {request} {after} {r} e f n =
+    let whole : request ≡ shown (reads (bare (kindIn kind) address method)) = f ∙ ap (λ (q : Kind). shown (reads (bare q address method))) e in
+    subst (λ (q : Reading). Line (writeLine (q .telegram) (length out)) out after r) whole n
