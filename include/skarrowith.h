@@ -17,8 +17,8 @@
  * one that the library writes, else it is refused by 101; memory for a record that is written may be longer, and is
  * refused by 21 if it is shorter. Bytes named zero are 0.
  *
- * Build the archives with `rt staticlib host`, `host_lines` and `host_exchange`, and link target/staticlib/libhost.a,
- * libhost_lines.a and libhost_exchange.a into an x86-64 program.
+ * Build the archives with `rt staticlib host`, `host_lines`, `host_exchange` and `host_meter`, and link
+ * target/staticlib/libhost.a, libhost_lines.a, libhost_exchange.a and libhost_meter.a into an x86-64 program.
  */
 #ifndef SKARROWITH_H
 #define SKARROWITH_H
@@ -173,6 +173,44 @@ uint32_t skarrowith_exchange_heard(struct skarrowith_exchange *exchange, size_t 
 	uint64_t t, struct skarrowith_telegram *reply, size_t reply_size);
 uint32_t skarrowith_exchange_tick(struct skarrowith_exchange *exchange, size_t size, uint64_t t);
 uint32_t skarrowith_exchange_sent(struct skarrowith_exchange *exchange, size_t size, uint64_t t);
+
+/* A pair of totals, each a count of the last digit that the data template gives it. */
+struct skarrowith_pair {
+	uint64_t volume, energy;
+};
+
+/*
+ * A simulated meter, 192 bytes, to be read and not to be changed: a record to which no set-up and history of steps leads
+ * is refused by 101. last is the time of the last step, 0 before the first; address is the meter's own. mode is 0 in use
+ * and 1 in verification; method and since, the time of the last instruction, are 0 in use. used is the pair of totals in
+ * use, verified the one in verification, and data the template, with the access number.
+ */
+struct skarrowith_meter {
+	uint64_t last;
+	uint8_t address, mode, method;
+	uint8_t zero[5];
+	uint64_t since;
+	struct skarrowith_pair used, verified;
+	struct skarrowith_telegram data;
+};
+
+/*
+ * Times are counted in bit times of 1/2400 s and must not go back from step to step (70); the first step may carry any.
+ * Each step first returns a meter to use that is in verification and has had no instruction for 4,320,000.
+ *
+ * set_up:  a meter in use, with its own address and a data template, whose address is ignored and whose energy and volume
+ *          have structure 0C. Answers 0, or refuses by 101 (the template), 21 (the meter) or 72.
+ * heard:   a line was heard at t. Answers 0 for silence, SKARROWITH_ACK or SKARROWITH_DATA; then the answer's telegram has
+ *          been written to answer, which silence leaves as it was. Refuses by 101 (the meter), 21 (answer) or 70.
+ * measure: adds to the totals in force, as counts of the template's last digits. Answers 0, or refuses by 101, 70 or 71
+ *          (a total would pass 99,999,999).
+ */
+uint32_t skarrowith_meter_set_up(struct skarrowith_meter *meter, size_t size, uint8_t address,
+	const struct skarrowith_telegram *data, size_t data_size);
+uint32_t skarrowith_meter_heard(struct skarrowith_meter *meter, size_t size, const uint16_t *line, size_t count,
+	uint64_t t, struct skarrowith_telegram *answer, size_t answer_size);
+uint32_t skarrowith_meter_measure(
+	struct skarrowith_meter *meter, size_t size, uint64_t volume, uint64_t energy, uint64_t t);
 
 #ifdef __cplusplus
 }
