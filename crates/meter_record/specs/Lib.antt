@@ -4,3 +4,4 @@ pub mod Laying
 pub mod Recalling
 pub mod RecordLaws
 pub mod Keeping
+pub mod Reaching
