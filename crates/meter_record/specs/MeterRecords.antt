@@ -43,14 +43,13 @@ abbrev pub stateBytes : ℕ → ℕ → Mode → List ℕ
 stateBytes last own mode =
     bytesOf 8 last ++ ((own ∷ modeNumber mode ∷ methodOf mode ∷ 0 ∷ 0 ∷ 0 ∷ 0 ∷ 0 ∷ []) ++ bytesOf 8 (sinceOf mode))
 
-abbrev pub totalsBytes : Pair → Pair → List ℕ
-totalsBytes used verified =
-    bytesOf 8 (used .volume) ++ (bytesOf 8 (used .energy) ++ (bytesOf 8 (verified .volume) ++ bytesOf 8 (verified .energy)))
+abbrev pub pairBytes : Pair → List ℕ
+pairBytes p = bytesOf 8 (p .volume) ++ bytesOf 8 (p .energy)
 
 unfoldable pub meterBytes : Meter → List ℕ
 meterBytes m =
     stateBytes (m .last .0) (m .core .address) (m .core .mode)
-    ++ (totalsBytes (m .core .used) (m .core .verified) ++ telegramBytes (m .core .template))
+    ++ (pairBytes (m .core .used) ++ (pairBytes (m .core .verified) ++ telegramBytes (m .core .template)))
 
 -- ---- read
 

@@ -37,7 +37,7 @@ use Rattle.records.specs.TelegramLaws.{ValueFits, EntriesFit, Fits, telegram-re
 use Rattle.template.specs.declared.Pair.{Pair}
 use Rattle.template.specs.Templates.{unfit, pairIn, totalMost}
 use Rattle.template.specs.TemplateLaws.{fit}
-use Rattle.meter_record.specs.MeterRecords.{modeNumber, methodOf, sinceOf, stateBytes, totalsBytes, meterBytes, wordAt, modeIn, meterIn, wrongMode, wrongTotal, wrongPair, unreached, recalled, meterFrom}
+use Rattle.meter_record.specs.MeterRecords.{modeNumber, methodOf, sinceOf, stateBytes, pairBytes, meterBytes, wordAt, modeIn, meterIn, wrongMode, wrongTotal, wrongPair, unreached, recalled, meterFrom}
 
 -- ---- the fields of a template fit their types
 

@@ -7,7 +7,7 @@ ghost use Rattle.format.specs.Lines.{isMethod};
 ghost use Rattle.low_first.specs.Copying.{laid};
 ghost use Rattle.meter.specs.Meters.{shownSetup};
 ghost use Rattle.records.specs.Recorded.{noRecord};
-ghost use Rattle.meter_record.specs.MeterRecords.{modeNumber, methodOf, sinceOf, stateBytes, totalsBytes, meterBytes, wordAt, modeIn, meterIn, wrongMode, wrongPair, unreached, recalled, meterFrom};
+ghost use Rattle.meter_record.specs.MeterRecords.{modeNumber, methodOf, sinceOf, stateBytes, pairBytes, meterBytes, wordAt, modeIn, meterIn, wrongMode, wrongPair, unreached, recalled, meterFrom};
 use clock::Clock;
 use format::Kind;
 use format::Outcome;
@@ -92,13 +92,11 @@ fn state_bytes(last: u64, own: u8, mode: Mode) -> [u8; 24]
     ]
 }
 
-fn totals_bytes(used: Pair, verified: Pair) -> [u8; 32]
-    ensures { λ r. ⌜ r ≡ totalsBytes used verified ⌝ }
+fn pair_bytes(p: Pair) -> [u8; 16]
+    ensures { λ r. ⌜ r ≡ pairBytes p ⌝ }
 {
-    let a = bytes_of_eight(used.volume);
-    let b = bytes_of_eight(used.energy);
-    let c = bytes_of_eight(verified.volume);
-    let d = bytes_of_eight(verified.energy);
+    let a = bytes_of_eight(p.volume);
+    let b = bytes_of_eight(p.energy);
     [
         a[0],
         a[1],
@@ -116,22 +114,6 @@ fn totals_bytes(used: Pair, verified: Pair) -> [u8; 32]
         b[5],
         b[6],
         b[7],
-        c[0],
-        c[1],
-        c[2],
-        c[3],
-        c[4],
-        c[5],
-        c[6],
-        c[7],
-        d[0],
-        d[1],
-        d[2],
-        d[3],
-        d[4],
-        d[5],
-        d[6],
-        d[7],
     ]
 }
 
@@ -157,11 +139,13 @@ pub fn meter_bytes(m: Meter) -> [u8; 192]
     let verified = core.verified;
     let shown = core.template;
     let state = state_bytes(m.last.0, core.address, mode);
-    let totals = totals_bytes(used, verified);
+    let in_use = pair_bytes(used);
+    let in_verification = pair_bytes(verified);
     let template = telegram_bytes(shown);
     let mut bytes = [0u8; 192];
     lay(&mut bytes, 0, &state);
-    lay(&mut bytes, 24, &totals);
+    lay(&mut bytes, 24, &in_use);
+    lay(&mut bytes, 40, &in_verification);
     lay(&mut bytes, 56, &template);
     bytes
 }

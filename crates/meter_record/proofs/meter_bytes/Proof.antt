@@ -12,8 +12,11 @@ use Rattle.meter_record.proofs.meter_bytes.Tie as tie
 state-bytes-requires : tie.Need-state-bytes-requires
 state-bytes-requires c κs = search needs
 
-totals-bytes-requires : tie.Need-totals-bytes-requires
-totals-bytes-requires c κs = search needs
+pair-bytes-requires : tie.Need-pair-bytes-requires
+pair-bytes-requires c κs = search needs
+
+pair-bytes-requires-2 : tie.Need-pair-bytes-requires-2
+pair-bytes-requires-2 c κs = search needs
 
 telegram-bytes-requires : tie.Need-telegram-bytes-requires
 telegram-bytes-requires c κs = search needs
@@ -45,19 +48,30 @@ slice-aggregate-lay-6 c = search needs
 lay-requires-3 : tie.Need-lay-requires-3
 lay-requires-3 c κs = search needs
 
+slice-aggregate-lay-7 : tie.Need-slice-aggregate-lay-7
+slice-aggregate-lay-7 c = search needs
+
+slice-aggregate-lay-8 : tie.Need-slice-aggregate-lay-8
+slice-aggregate-lay-8 c = search needs
+
+lay-requires-4 : tie.Need-lay-requires-4
+lay-requires-4 c κs = search needs
+
 returns : tie.Need-returns
 returns c =
-    let t = c .before .before .before .before .before .before .before .before .before .before .before .before .before .totals-bytes .result in
-    let u = c .before .before .before .before .before .before .before .before .before .before .before .before .telegram-bytes .result in
-    meter-laid (c .before .before .before .before .before .before .before .before .before .before .before .before .before .before .before .before .before .before .before .args .m) (replicate 192 0) refl (c .before .before .before .before .before .before .before .before .before .before .before .before .before .before .state-bytes .ensures) (c .before .before .before .before .before .before .before .before .before .before .before .before .before .totals-bytes .ensures) (c .before .before .before .before .before .before .before .before .before .before .before .before .telegram-bytes .ensures) (search needs)
-    (c .before .lay3 .ensures ∙ ap (λ (d : List ℕ). laid d 56 u) (c .before .before .before .before .before .lay2 .ensures ∙ ap (λ (d : List ℕ). laid d 24 t) (c .before .before .before .before .before .before .before .before .before .lay .ensures)))
+    let u = c .before .before .before .before .before .before .before .before .before .before .before .before .before .before .before .before .before .before .pair-bytes .result in
+    let v = c .before .before .before .before .before .before .before .before .before .before .before .before .before .before .before .before .before .pair-bytes2 .result in
+    let t = c .before .before .before .before .before .before .before .before .before .before .before .before .before .before .before .before .telegram-bytes .result in
+    meter-laid (c .before .before .before .before .before .before .before .before .before .before .before .before .before .before .before .before .before .before .before .before .before .before .before .before .args .m) (replicate 192 0) refl (c .before .before .before .before .before .before .before .before .before .before .before .before .before .before .before .before .before .before .before .state-bytes .ensures) (c .before .before .before .before .before .before .before .before .before .before .before .before .before .before .before .before .before .before .pair-bytes .ensures) (c .before .before .before .before .before .before .before .before .before .before .before .before .before .before .before .before .before .pair-bytes2 .ensures) (c .before .before .before .before .before .before .before .before .before .before .before .before .before .before .before .before .telegram-bytes .ensures) (search needs)
+    (c .before .lay4 .ensures ∙ ap (λ (d : List ℕ). laid d 56 t) (c .before .before .before .before .before .lay3 .ensures ∙ ap (λ (d : List ℕ). laid d 40 v) (c .before .before .before .before .before .before .before .before .before .lay2 .ensures ∙ ap (λ (d : List ℕ). laid d 24 u) (c .before .before .before .before .before .before .before .before .before .before .before .before .before .lay .ensures))))
 
 pub meter-bytes-spec : {M : Type 1} → statement M
 meter-bytes-spec =
     tie.close
     (tie.spec
     state-bytes-requires
-    totals-bytes-requires
+    pair-bytes-requires
+    pair-bytes-requires-2
     telegram-bytes-requires
     slice-aggregate-lay
     slice-aggregate-lay-2
@@ -68,4 +82,7 @@ meter-bytes-spec =
     slice-aggregate-lay-5
     slice-aggregate-lay-6
     lay-requires-3
+    slice-aggregate-lay-7
+    slice-aggregate-lay-8
+    lay-requires-4
     returns)
