@@ -127,6 +127,7 @@ void compare_exchange(void)
         return;
     for (unsigned steps = between(1, 12); steps > 0; steps--) {
         struct lent *left = step(h.record, sizeof h.record, 0, &h.x);
+        hold_exchange(left, &h.x);
         memcpy(h.record, left->proved, sizeof h.record);
         if (second_take_exchange(h.record, sizeof h.record, &read) != 0)
             fail("a step gives a record that no step gives");

@@ -115,6 +115,8 @@ void compare_read(void)
     if (refusal == 0)
         second_put_telegram(telegram->second, &t);
     end(skarrowith_read_line(line->to, l.n, telegram->to, size), refusal == 0 ? (uint32_t)t.kind + 1 : refused(refusal));
+    if (refusal == 0)
+        hold_telegram(telegram, &t);
 }
 
 /* What a writer of this telegram leaves in the places lent, and answers; `refusal` is one that goes before. */
