@@ -98,7 +98,7 @@ static uint64_t volume_in(const struct skarrowith_telegram *answer)
 {
     for (uint64_t i = 0; i < answer->count; i++)
         if (answer->entries[i].unit >= 0x10 && answer->entries[i].unit <= 0x17)
-            return answer->entries[i].value.number;
+            return answer->entries[i].value.count;
     return 0;
 }
 
@@ -107,10 +107,10 @@ int main(void)
     static const struct skarrowith_telegram template = {
         .kind = SKARROWITH_DATA, .number = 12345678, .maker = 0x4E89, .version = 1, .meter_type = 4, .access = 3, .count = 5,
         .entries = {
-            {.structure = 0x0C, .unit = 0x03, .value.number = 96712345},
-            {.structure = 0x0C, .unit = 0x11, .value.number = 12345678},
-            {.structure = 0x0B, .unit = 0x59, .value.number = 7812},
-            {.structure = 0x0B, .unit = 0x5D, .value.number = 6534},
+            {.structure = 0x0C, .unit = 0x03, .value.count = 96712345},
+            {.structure = 0x0C, .unit = 0x11, .value.count = 12345678},
+            {.structure = 0x0B, .unit = 0x59, .value.count = 7812},
+            {.structure = 0x0B, .unit = 0x5D, .value.count = 6534},
             {.structure = 0x06, .unit = 0x6D, .sort = SKARROWITH_TIME, .value.time = {.year = 18, .month = 7, .day = 23, .hour = 15, .minute = 51, .second = 28}},
         },
     };
@@ -129,7 +129,7 @@ int main(void)
     ask(SKARROWITH_READ, 0, 0, left_over, left, &second);
     ask(SKARROWITH_LEAVE, 0, 0, NULL, 0, &ack);
 
-    expect("error", skarrowith_error(volume_in(&first), volume_in(&second), 0, 10000, &tenths));
+    expect("error", skarrowith_error(volume_in(&first), volume_in(&second), 0, 10000, &tenths, 1));
     printf("error of indication: %c%ld.%ld %%\n", tenths < 0 ? '-' : '+', labs((long)tenths) / 10, labs((long)tenths) % 10);
     expect("listing", skarrowith_bundle_list(bundle, filled, listing, sizeof listing, &written));
     return fwrite(listing, 1, written, stdout) == written ? 0 : 1;

@@ -3,3 +3,4 @@ pub mod Exchanges
 pub mod ExchangeLaws
 pub mod Reached
 pub mod Calls
+pub mod Runs

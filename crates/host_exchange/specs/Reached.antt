@@ -54,13 +54,13 @@ tick-stands sends false few = refl
 
 -- ---- the four parts of `reached`
 
-record Parts (x : Exchange) : Type 0 where
-  some : 0 < x .sends
-  few : x .sends ≤ mostSends
-  in-order : x .began .0 ≤ x .last .0
-  stands : standsAt (x .state) (x .sends) (past x (x .last)) ≡ true
+pub record Parts (x : Exchange) : Type 0 where
+  pub some : 0 < x .sends
+  pub few : x .sends ≤ mostSends
+  pub in-order : x .began .0 ≤ x .last .0
+  pub stands : standsAt (x .state) (x .sends) (past x (x .last)) ≡ true
 
-parts : (x : Exchange) → reached x ≡ true → Parts x
+pub parts : (x : Exchange) → reached x ≡ true → Parts x
 parts x e =
     let one = and-eq-true-iff (ltb 0 (x .sends)) _ .0 e in
     let two = and-eq-true-iff (leb (x .sends) mostSends) _ .0 (one .1) in
@@ -103,13 +103,16 @@ sending-good request sends t f some few = record { fits = record { began = f; la
 moved-good : (x : Exchange) (state : State) (t : Clock) → Good x → t .0 < 256 ^ 8 → x .last .0 ≤ t .0 → standsAt state (x .sends) (past x t) ≡ true → Good (moved x state t)
 moved-good x state t g f l s = record { fits = record { began = g .fits .began; last = f }; so = moved-reached x state t (g .so) l s }
 
+pub begun-good : (request : Request) (t : Clock) → t .0 < 256 ^ 8 → Good (begun request t)
+begun-good request t f = sending-good request 1 t f (omega arith) (omega arith)
+
 pub start-good : (telegram : Telegram) (t : Clock) → t .0 < 256 ^ 8 → Keeps (startOf telegram t)
 start-good telegram t f = go (viewOf (telegram .kind) (telegram .address) (telegram .method))
   where
     go : (v : View) → Keeps (startWith v t)
     go (views.Refused n) = tt
     go views.Ack = tt
-    go (views.Asks request) = sending-good request 1 t f (omega arith) (omega arith)
+    go (views.Asks request) = begun-good request t f
     go (views.Data answers) = tt
 
 module _ (x : Exchange) (g : Good x) (t : Clock) (f : t .0 < 256 ^ 8) where
