@@ -116,7 +116,7 @@ static void miss_moment(unsigned char *v)
 {
     static const unsigned char bit[] = {0x40, 0x80, 0x20, 0x80};
     static const unsigned char byte_of_bit[] = {0, 1, 2, 2};
-    unsigned which = below(4), day = once_in(4) ? 0 : between(27, 31), month = below(16), year = below(104);
+    unsigned which = below(4), day = once_in(4) ? 0 : between(27, 31), month = once_in(3) ? 2 : below(16), year = below(104);
     switch (below(6)) {
     case 0:
         v[which / 2] = (unsigned char)between(58, 64);
