@@ -40,7 +40,7 @@ struct lent {
     uint8_t *before, *proved, *second;
 };
 
-/* A call begins: then what it is lent (n bytes of it have this content, the rest a pattern) and what numbers it is told. */
+/* A call begins; then what it is lent (n bytes have this content, the rest a pattern), and what numbers it is told. */
 void begin(enum function function);
 struct lent *lend(const char *name, size_t size, const void *content, size_t n);
 uint64_t tell(const char *name, uint64_t number);

@@ -6,7 +6,7 @@
 
 #include <string.h>
 
-/* A meter as the two programs keep it: in a record that only the archive writes, and in a struct of the second's own. */
+/* A meter as the two programs keep it: in a record that the archive alone writes, and in the second's own struct. */
 struct held {
     uint8_t record[SECOND_METER_SIZE];
     struct second_meter m;
@@ -31,7 +31,8 @@ static int set_up(struct held *h)
         second_put_meter(meter->second, &h->m);
     tell("address", address);
     end(skarrowith_meter_set_up(meter->to, size, (uint8_t)address, data->to, data_size), refused(refusal));
-    memcpy(h->record, meter->proved, refusal == 0 ? sizeof h->record : 0);
+    if (refusal == 0)
+        memcpy(h->record, meter->proved, sizeof h->record);
     return refusal == 0;
 }
 

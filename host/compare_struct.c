@@ -7,12 +7,13 @@ static int is_entry(const struct skarrowith_entry *e, const struct second_entry 
 {
     const struct skarrowith_moment *m = &e->value.time;
     const unsigned *parts = s->moment;
-    if (e->structure != s->structure || e->unit != s->unit || e->sort != (s->is_time ? SKARROWITH_TIME : SKARROWITH_DECIMAL))
+    unsigned sort = s->is_time ? SKARROWITH_TIME : SKARROWITH_DECIMAL;
+    if (e->structure != s->structure || e->unit != s->unit || e->sort != sort)
         return 0;
     if (!s->is_time)
         return e->value.count == s->count;
-    return m->year == parts[0] && m->month == parts[1] && m->day == parts[2] && m->hour == parts[3] && m->minute == parts[4] &&
-           m->second == parts[5];
+    return m->year == parts[0] && m->month == parts[1] && m->day == parts[2] && m->hour == parts[3] &&
+           m->minute == parts[4] && m->second == parts[5];
 }
 
 static int is_telegram(const struct skarrowith_telegram *t, const struct second_telegram *s)
@@ -20,9 +21,9 @@ static int is_telegram(const struct skarrowith_telegram *t, const struct second_
     for (size_t i = 0; i < SECOND_ENTRIES; i++)
         if (!is_entry(&t->entries[i], &s->entries[i]))
             return 0;
-    return t->kind == (unsigned)s->kind + 1 && t->address == s->address && t->method == s->method && t->version == s->version &&
-           t->number == s->number && t->maker == s->maker && t->meter_type == s->type && t->access == s->access &&
-           t->status == s->status && t->count == s->count;
+    return t->kind == (unsigned)s->kind + 1 && t->address == s->address && t->method == s->method &&
+           t->version == s->version && t->number == s->number && t->maker == s->maker && t->meter_type == s->type &&
+           t->access == s->access && t->status == s->status && t->count == s->count;
 }
 
 void hold_telegram(const struct lent *l, const struct second_telegram *s)
@@ -37,9 +38,10 @@ void hold_exchange(const struct lent *l, const struct second_exchange *s)
 {
     struct skarrowith_exchange x;
     int has_cause = s->state == SECOND_RESEND || s->state == SECOND_FAILED;
+    unsigned cause = has_cause ? (unsigned)s->cause + 1 : 0;
     memcpy(&x, l->proved, sizeof x);
     if (x.kind != (unsigned)s->request.kind + 1 || x.address != s->request.address || x.state != (unsigned)s->state + 1 ||
-        x.cause != (has_cause ? (unsigned)s->cause + 1 : 0) || x.sends != s->sends || x.began != s->began || x.last != s->last ||
+        x.cause != cause || x.sends != s->sends || x.began != s->began || x.last != s->last ||
         (x.kind == SKARROWITH_ENTER && x.method != s->request.method))
         fail("a field of the exchange's struct is another");
 }
