@@ -219,7 +219,7 @@ void near_miss(struct line *l)
 {
     struct bytes body;
     unsigned refusal = between(2, 17);
-    write_good(l, refusal > 9 ? SECOND_DATA : some_kind());
+    write_good(l, refusal > 9 ? SECOND_DATA : refusal == 9 && once_in(2) ? SECOND_ENTER : some_kind());
     if (refusal == 2)
         flip_one(l, one_bit(9, 15));
     else if (refusal == 3)
