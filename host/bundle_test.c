@@ -97,9 +97,8 @@ static void test_example(void)
     remember();
     refused("no second row", row_at(example, sizeof example, 1), 39);
     refused("no last row", row_at(example, sizeof example, SIZE_MAX), 39);
-    refused("a byte short", row_of_size(example, sizeof example, sizeof lent.row - 1), SKARROWITH_NO_RECORD);
-    refused("a byte long", row_of_size(example, sizeof example, sizeof lent.row + 1), SKARROWITH_NO_RECORD);
-    refused("the size before the bundle", row_of_size(example, 1, 0), SKARROWITH_NO_RECORD);
+    refused("a byte short", row_of_size(example, sizeof example, sizeof lent.row - 1), 21);
+    refused("the room before the bundle", row_of_size(example, 1, 0), 21);
     refused("a place too few", skarrowith_bundle_list(example, sizeof example, lent.bytes, size - 1, &lent.number), 21);
     refused("no place", skarrowith_bundle_list(example, sizeof example, NULL, 0, &lent.number), 21);
     expect("its listing", skarrowith_bundle_list(example, sizeof example, lent.bytes, size, &lent.number), 0);

@@ -245,8 +245,7 @@ uint32_t skarrowith_bundle_check(const uint8_t *bundle, size_t len, size_t *rows
  * i:         which row; the first is 0.
  * row, size: takes the row; size is sizeof(struct skarrowith_row).
  *
- * Refuses by SKARROWITH_NO_RECORD if size is another; then by 30 to 37, and by 39 if there is no such row. The whole bundle
- * is checked at each call.
+ * Refuses by 21, by 30 to 37, and by 39 if there is no such row. The whole bundle is checked at each call.
  */
 uint32_t skarrowith_bundle_row(const uint8_t *bundle, size_t len, size_t i, struct skarrowith_row *row, size_t size);
 

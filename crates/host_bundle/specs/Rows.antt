@@ -1,17 +1,16 @@
 -- A row as a record for C: the fields of struct skarrowith_row, numbers low byte first.
 use Prim.Native.Nat.{ℕ, _+_, _^_, _≤_, _<_}
-use mathlib.Core.Bool.{true, false, not}
+use mathlib.Core.Bool.{true, false}
 use mathlib.Core.List.{List, [], _∷_, _++_}
 use mathlib.Core.Path.{_≡_, refl, sym, _∙_}
 use native.Mathlib.Omega.{arith}
-use lib.Dec.{eqb}
+use borrow.Author.Tests.{ltb-false}
+use lib.Dec.{ltb}
 use lib.ListN.{length, take, drop}
 use Rattle.format.specs.Lists.{at}
-use Rattle.format.specs.Tests.{not-different}
-use Rattle.format.specs.Answers.{Answer, reads, refusal, refuse}
+use Rattle.format.specs.Answers.{Answer, reads, refusal}
 use Rattle.low_first.specs.Numbers.{number, bytesOf, number-bytes}
 use Rattle.records.specs.Lent.{told, stored, needs, stored-whole}
-use Rattle.records.specs.Recorded.{noRecord}
 use Rattle.bundle.specs.declared.Row.{Row}
 use Rattle.bundle.specs.declared.RowFound.{RowFound}
 use Rattle.bundle.specs.declared.RowFound.the-variants.{Fields, Refused}
@@ -23,16 +22,16 @@ use Rattle.host_bundle.specs.Lent.{done}
 abbrev pub rowRecord : Row → List ℕ
 rowRecord r = bytesOf 4 (r .time) ++ (bytesOf 4 (r .offset) ++ (bytesOf 2 (r .length) ++ (r .position ∷ (r .direction ∷ []))))
 
--- a record of another size is refused by 101, before all others
+-- 21 where there is no room for the record, before all others
 abbrev pub rowInto : List ℕ → ℕ → List ℕ → Answer Row
-rowInto b i out = refuse noRecord (not (eqb (length out) 12)) (rowAt b i)
+rowInto b i out = needs 12 out (rowAt b i)
 
 -- 0, and the row's record in the places lent for it; or 256 plus the refusal number, and they are as they were.
 pub record GivesRow (a : Answer Row) (before : List ℕ) (r : ℕ) (after : List ℕ) : Type 0 where
   pub number : r ≡ told done a
   pub places : after ≡ stored rowRecord before a
 
--- Laws: the record's size; a record of another size, and the two cases of the row.
+-- Laws: the record's size; too little room, and the two cases of the row.
 pub length-record : (r : Row) → length (rowRecord r) ≡ 12
 unfolding bytesOf
 length-record r = refl
@@ -56,10 +55,10 @@ fields-read r t o l = record {
 }
 
 module _ (b : List ℕ) (i : ℕ) (out : List ℕ) where
-  pub row-other : not (eqb (length out) 12) ≡ true → GivesRow (rowInto b i out) out (256 + noRecord) out
-  row-other e = record { number = rw e; places = rw e }
+  pub row-short : ltb (length out) 12 ≡ true → GivesRow (rowInto b i out) out (256 + 21) out
+  row-short e = record { number = rw e; places = rw e }
 
-  module _ {s : RowFound} (e : not (eqb (length out) 12) ≡ false) (f : s ≡ shownRow (rowAt b i)) where
+  module _ {s : RowFound} (e : ltb (length out) 12 ≡ false) (f : s ≡ shownRow (rowAt b i)) where
     pub row-number : {n : ℕ} → s ≡ Refused n → GivesRow (rowInto b i out) out (256 + n) out
     row-number {n} g = let a : rowAt b i ≡ refusal n = shownRow-same (rowAt b i) (refusal n) (sym f ∙ g) in record { number = rw (e, a); places = rw (e, a) }
 
@@ -67,5 +66,5 @@ module _ (b : List ℕ) (i : ℕ) (out : List ℕ) where
         → GivesRow (rowInto b i out) out 0 after
     row-value {r} g h k =
         let a : rowAt b i ≡ reads r = shownRow-same (rowAt b i) (reads r) (sym f ∙ g) in
-        let room : length (rowRecord r) ≤ length out = omega (arith, length-record r, not-different (length out) 12 e) in
+        let room : length (rowRecord r) ≤ length out = omega (arith, length-record r, ltb-false (length out) 12 e) in
         record { number = rw (e, a); places = rw (e, a) (stored-whole rowRecord r out h room k) }

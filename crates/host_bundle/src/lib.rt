@@ -32,14 +32,14 @@ pub extern "C" fn skarrowith_bundle_check(bundle: &[u8], rows: &mut usize) -> u3
     }
 }
 
-// 0 and the record of row i, or 256 plus 101, 30 to 37 or 39.
+// 0 and the record of row i, or 256 plus 21, 30 to 37 or 39.
 #[no_mangle]
 pub extern "C" fn skarrowith_bundle_row(bundle: &[u8], i: usize, out: &mut [u8]) -> u32
     ensures { λ r. ⌜ GivesRow (rowInto (now (bundle .entry)) i (now (out .entry))) (now (out .entry)) r (now (out .exit)) ⌝ }
 {
-    let other = out.len() != ROW_BYTES;
-    if other {
-        return 256 + 101;
+    let short = out.len() < ROW_BYTES;
+    if short {
+        return 256 + 21;
     }
     match row(bundle, i) {
         RowFound::Fields(fields) => {

@@ -41,7 +41,7 @@ fn bare(kind: Kind, address: u8, method: u8) -> Telegram
 }
 
 // The number of a refusal, beside the blank telegram.
-pub(crate) fn refused(n: u16) -> Reading
+pub fn refused(n: u16) -> Reading
     ensures { λ r. ⌜ r ≡ shown (refusal n) ⌝ }
 {
     Reading {

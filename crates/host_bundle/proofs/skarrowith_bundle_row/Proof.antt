@@ -1,7 +1,7 @@
--- `host_bundle::skarrowith_bundle_row` meets its contract: another size, and the two cases of the row. Assumes nothing.
+-- `host_bundle::skarrowith_bundle_row` meets its contract: too little room, and the two cases of the row. Assumes nothing.
 use borrow.Author.Needs.{needs}
 use denote.Ref.{now}
-use Rattle.host_bundle.specs.Rows.{row-other, row-value, row-number}
+use Rattle.host_bundle.specs.Rows.{row-short, row-value, row-number}
 use Rattle.host_bundle.proofs.skarrowith_bundle_row.Statement.{statement}
 use Rattle.host_bundle.proofs.skarrowith_bundle_row.Tie as tie
 
@@ -9,7 +9,7 @@ add-result : tie.Need-add-result
 add-result c = search needs
 
 returns : tie.Need-returns
-returns c = let a = c .before .before .before .args in row-other (now (a .bundle)) (a .i) (now (a .out)) (c .if1 .taken)
+returns c = let a = c .before .before .before .args in row-short (now (a .bundle)) (a .i) (now (a .out)) (c .if1 .taken)
 
 row-requires : tie.Need-row-requires
 row-requires c κs = search needs
