@@ -77,6 +77,9 @@ uint32_t skarrowith_refusal_text(uint32_t number, char *out, size_t len);
  * Lines
  */
 
+/* The most characters of a line that is written. */
+#define SKARROWITH_LINE_MOST 77u
+
 /* A point in time. Year 0 to 99 means 2000 to 2099. */
 struct skarrowith_moment {
     uint8_t year, month, day, hour, minute, second;
@@ -186,7 +189,8 @@ struct skarrowith_exchange {
  * Times are counted in bit times of 1/2400 s and must not go back from step to step (40). A step that the state does not
  * call for is refused by 41.
  *
- * start: the request's first send has ended at t. Refuses by 21, or 42 for a kind that is no request.
+ * start: the request's first send has ended at t; method is looked at for an enter only. Refuses by 21, or 42 for a kind
+ *        that is no request.
  * heard: a line was heard that began at t. If the exchange then stands SKARROWITH_WELL, its telegram has been written to
  *        reply; if not, reply is as it was. Refuses by 101, 21 (reply), 40 or 41.
  * tick:  no line has begun up to t; more than 450 after the send that is silence. Do not tick past the window while a
@@ -201,7 +205,50 @@ uint32_t skarrowith_exchange_heard(struct skarrowith_exchange *exchange, size_t 
 uint32_t skarrowith_exchange_tick(struct skarrowith_exchange *exchange, size_t size, uint64_t t);
 uint32_t skarrowith_exchange_sent(struct skarrowith_exchange *exchange, size_t size, uint64_t t);
 
-/*METER*/
+/*
+ * The simulated meter
+ */
+
+/* A meter's answer where it says nothing. */
+#define SKARROWITH_SILENCE 0u
+
+/* A pair of totals, each a count of the last digit that the data template gives it. */
+struct skarrowith_pair {
+    uint64_t volume, energy;
+};
+
+/*
+ * A simulated meter, 192 bytes, to be read and not to be changed: a record to which no set-up and history of steps leads
+ * is refused by 101. last is the time of the last step, 0 before the first; address is the meter's own. mode is 0 in use
+ * and 1 in verification; method and since, the time of the last instruction, are 0 in use. used is the pair of totals in
+ * use, verified the one in verification, and data the template, with the access number.
+ */
+struct skarrowith_meter {
+    uint64_t last;
+    uint8_t address, mode, method;
+    uint8_t zero[5];
+    uint64_t since;
+    struct skarrowith_pair used, verified;
+    struct skarrowith_telegram data;
+};
+
+/*
+ * Times are counted in bit times of 1/2400 s and must not go back from step to step (70); the first step may carry any.
+ * Each step first returns a meter to use that is in verification and has had no instruction for 4,320,000.
+ *
+ * set_up:  a meter in use, with its own address and a data template, whose address is ignored and whose energy and volume
+ *          have structure 0C. Answers 0, or refuses by 101 (the template), 21 (the meter) or 72.
+ * heard:   a line was heard at t. Answers SKARROWITH_SILENCE, SKARROWITH_ACK or SKARROWITH_DATA; then the answer's telegram has
+ *          been written to answer, which silence leaves as it was. Refuses by 101 (the meter), 21 (answer) or 70.
+ * measure: adds to the totals in force, as counts of the template's last digits. Answers 0, or refuses by 101, 70 or 71
+ *          (a total would pass 99,999,999).
+ */
+uint32_t skarrowith_meter_set_up(struct skarrowith_meter *meter, size_t size, uint8_t address,
+    const struct skarrowith_telegram *data, size_t data_size);
+uint32_t skarrowith_meter_heard(struct skarrowith_meter *meter, size_t size, const uint16_t *line, size_t count,
+    uint64_t t, struct skarrowith_telegram *answer, size_t answer_size);
+uint32_t skarrowith_meter_measure(
+    struct skarrowith_meter *meter, size_t size, uint64_t volume, uint64_t energy, uint64_t t);
 
 /*
  * The run bundle

@@ -1,2 +1,2 @@
--- A number for each answer that is counted.
+-- A number for the answer that is counted.
 pub mod Numbers

@@ -1,4 +1,4 @@
--- The value of an answer, or the refusal number.
+-- The host's number of what reading answers.
 use Prim.Native.Nat.{ℕ, _+_}
 use mathlib.Core.Path.{_≡_, refl}
 use Rattle.format.specs.declared.Kind.{Kind}
@@ -9,24 +9,6 @@ use Rattle.format.specs.declared.Telegram.{Telegram}
 use Rattle.format.specs.Answers.{Answer, reads, refusal}
 use Rattle.format.specs.Host.{kindNumber, lineNumber}
 use Rattle.format.specs.Telegrams.{shown}
-use Rattle.bundle.specs.declared.Checked.{Checked}
-use Rattle.bundle.specs.declared.Checked.the-variants as checked
-use Rattle.capture.specs.declared.Found.{Found}
-use Rattle.capture.specs.declared.Found.the-variants as found
-use Rattle.listing.specs.declared.Listed.{Listed}
-use Rattle.listing.specs.declared.Listed.the-variants as listed
-
-abbrev pub placeIn : Found → ℕ
-placeIn (found.At place length) = place
-placeIn (found.Refused n) = n
-
-abbrev pub rowsIn : Checked → ℕ
-rowsIn (checked.Rows n) = n
-rowsIn (checked.Refused n) = n
-
-abbrev pub bytesIn : Listed → ℕ
-bytesIn (listed.Written n) = n
-bytesIn (listed.Refused n) = n
 
 -- the host's number by the outcome and the kind
 abbrev pub numberIn : Outcome → Kind → ℕ

@@ -148,17 +148,17 @@ data-kind kinds.Leave e = absurd (true≢false e)
 data-kind kinds.Data e = refl
 
 -- what a template has to be
-record Fit (t : Telegram) : Type 0 where
-  kind : t .kind ≡ kinds.Data
-  method : ltb 0 (t .method) ≡ false
-  header : unwrittenHeader (t .header) ≡ false
-  count : ltb 7 (t .count) ≡ false
-  right : any wrongEntry (entriesOf t) ≡ false
-  once : repeats [] (entriesOf t) ≡ false
-  whole : missing (entriesOf t) ≡ false
-  past : any usedEntry (drop (t .count) (t .entries)) ≡ false
+pub record Fit (t : Telegram) : Type 0 where
+  pub kind : t .kind ≡ kinds.Data
+  pub method : ltb 0 (t .method) ≡ false
+  pub header : unwrittenHeader (t .header) ≡ false
+  pub count : ltb 7 (t .count) ≡ false
+  pub right : any wrongEntry (entriesOf t) ≡ false
+  pub once : repeats [] (entriesOf t) ≡ false
+  pub whole : missing (entriesOf t) ≡ false
+  pub past : any usedEntry (drop (t .count) (t .entries)) ≡ false
 
-fit : (t : Telegram) → unfit t ≡ false → Fit t
+pub fit : (t : Telegram) → unfit t ≡ false → Fit t
 unfolding unwritable
 fit t e =
     let a = neither (not (isData (t .kind))) (unwritable t) (neither (not (isData (t .kind)) || unwritable t) (lacks energy (t .entries)) (neither (not (isData (t .kind)) || unwritable t || lacks energy (t .entries)) (lacks volume (t .entries)) e .0) .0) in

@@ -1,0 +1,85 @@
+-- `host_meter::skarrowith_meter_heard` meets its contract. Assumes nothing.
+use borrow.Author.Needs.{needs}
+use denote.Ref.{now}
+use borrow.Author.Tests.{ltb-false}
+use lib.ListN.{length}
+use Rattle.host_meter.specs.CallLaws.{lent-whole, room, hears-none, hears-short, hears-line}
+use Rattle.host_meter.proofs.skarrowith_meter_heard.Statement.{statement}
+use Rattle.host_meter.proofs.skarrowith_meter_heard.Tie as tie
+
+sub-meter-from : tie.Need-sub-meter-from
+sub-meter-from c = search needs
+
+part-meter-from-start : tie.Need-part-meter-from-start
+part-meter-from-start c = search needs
+
+part-meter-from-end : tie.Need-part-meter-from-end
+part-meter-from-end c = search needs
+
+meter-from-requires : tie.Need-meter-from-requires
+meter-from-requires c κs = search needs
+
+enum-known-outcome : tie.Need-enum-known-outcome
+enum-known-outcome c = search needs
+
+cast-result : tie.Need-cast-result
+cast-result c = search needs
+
+add-result : tie.Need-add-result
+add-result c = search needs
+
+enum-told : tie.Need-enum-told
+enum-told c = search needs
+
+add-result-2 : tie.Need-add-result-2
+add-result-2 c = search needs
+
+same-length : tie.Need-same-length
+same-length c = search needs
+
+returns : tie.Need-returns
+returns c = let args = c .before .before .before .before .before .before .before .before .before .args in hears-short (now (args .kept)) (lent-whole (now (args .kept)) (c .before .before .before .meter-from .ensures)) (now (args .line)) (record { 0 = args .t }) (now (args .answer)) (c .before .enum-told .given .1) (c .if1 .taken)
+
+heard-requires : tie.Need-heard-requires
+heard-requires c κs = search needs
+
+keep-heard-requires : tie.Need-keep-heard-requires
+keep-heard-requires c κs = let args = c .before .before .before .before .before .before .before .before .before .before .before .before .before .args in (room (now (args .kept)) (lent-whole (now (args .kept)) (c .before .before .before .before .before .before .before .meter-from .ensures)) (c .before .before .before .before .before .enum-told .given .1), ltb-false (length (now (args .answer))) 136 (c .before .before .before .before .if1 .left))
+
+same-length-2 : tie.Need-same-length-2
+same-length-2 c = search needs
+
+returns-2 : tie.Need-returns-2
+returns-2 c = let args = c .before .before .before .before .before .before .before .before .before .args in hears-none (now (args .kept)) (lent-whole (now (args .kept)) (c .before .before .before .meter-from .ensures)) (now (args .line)) (record { 0 = args .t }) (now (args .answer)) (c .before .outcome .given .1)
+
+same-length-3 : tie.Need-same-length-3
+same-length-3 c = search needs
+
+same-length-4 : tie.Need-same-length-4
+same-length-4 c = search needs
+
+returns-3 : tie.Need-returns-3
+returns-3 c = let args = c .before .before .before .before .before .before .before .before .before .before .before .before .before .before .before .before .before .before .args in hears-line (now (args .kept)) (lent-whole (now (args .kept)) (c .before .before .before .before .before .before .before .before .before .before .before .before .meter-from .ensures)) (now (args .line)) (record { 0 = args .t }) (now (args .answer)) (c .before .before .before .before .before .before .before .before .before .before .enum-told .given .1) (c .before .before .before .before .before .before .before .before .before .if1 .left) (c .before .before .before .before .before .before .before .heard .ensures) (c .before .before .before .before .keep-heard .ensures)
+
+pub skarrowith-meter-heard-spec : {M : Type 1} → statement M
+skarrowith-meter-heard-spec =
+    tie.close
+    (tie.spec
+    sub-meter-from
+    part-meter-from-start
+    part-meter-from-end
+    meter-from-requires
+    enum-known-outcome
+    cast-result
+    add-result
+    enum-told
+    add-result-2
+    same-length
+    returns
+    heard-requires
+    keep-heard-requires
+    same-length-2
+    returns-2
+    same-length-3
+    same-length-4
+    returns-3)

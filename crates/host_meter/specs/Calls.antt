@@ -1,0 +1,53 @@
+-- 01, "The simulated meter", as C calls it: what set-up and the two steps answer, and what they leave in the records lent to them.
+use Prim.Native.Nat.{ℕ}
+use mathlib.Core.List.{List, []}
+use mathlib.Core.Path.{_≡_}
+use Rattle.clock.specs.declared.Clock.{Clock}
+use Rattle.format.specs.Answers.{Answer, follow}
+use Rattle.format.specs.Host.{kindNumber}
+use Rattle.meter.specs.declared.Meter.{Meter}
+use Rattle.meter.specs.Meters.{Said, silence, says, Deed, setUp, heardAt, measuredAt}
+use Rattle.meter_record.specs.Keeping.{leaves}
+use Rattle.meter_record.specs.MeterRecords.{meterSize, meterBytes, meterFrom}
+use Rattle.records.specs.Lent.{told, stored, needs}
+use Rattle.records.specs.Telegrams.{telegramSize, telegramBytes, telegramFrom}
+
+-- ---- what each call answers
+
+-- Set-up: 101 for the template's record, then 21 where the meter's record is too short, then 72.
+abbrev pub setUpFor : List ℕ → ℕ → List ℕ → Answer Meter
+setUpFor out own template = follow (telegramFrom template) (λ t. needs meterSize out (setUp own t))
+
+-- A line heard: 101 for the meter's record, then 21 where the answer's record is too short, then 70.
+abbrev pub heardFor : List ℕ → List ℕ → Clock → List ℕ → Answer Deed
+heardFor b line t out = follow (meterFrom b) (λ m. needs telegramSize out (heardAt m line t))
+
+-- Measure: 101 for the meter's record, then 70 and 71.
+abbrev pub measureFor : List ℕ → ℕ → ℕ → Clock → Answer Deed
+measureFor b v e t = follow (meterFrom b) (λ m. measuredAt m v e t)
+
+-- 0 for silence, else the number of the answer's kind: 1 ack, 5 data
+abbrev pub saidNumber : Said → ℕ
+saidNumber silence = 0
+saidNumber (says x) = kindNumber (x .kind)
+
+-- ---- what is left
+
+-- Set-up answers 0 and leaves the record of the meter that begins.
+pub record SetsUp (a : Answer Meter) (before after : List ℕ) (r : ℕ) : Type 0 where
+  pub answer : r ≡ told (λ m. 0) a
+  pub left : after ≡ stored meterBytes before a
+
+-- A step at t leaves the record of the meter as it then stands.
+pub record Steps (a : Answer Deed) (t : Clock) (before after : List ℕ) (r : ℕ) : Type 0 where
+  pub answer : r ≡ told (λ d. saidNumber (d .said)) a
+  pub left : after ≡ stored (λ d. meterBytes (leaves t d)) before a
+
+-- A line that is answered leaves the record of that answer too, and silence nothing.
+abbrev pub saidBytes : Said → List ℕ
+saidBytes silence = []
+saidBytes (says x) = telegramBytes x
+
+pub record Hears (a : Answer Deed) (t : Clock) (before after out then : List ℕ) (r : ℕ) : Type 0 where
+  pub step : Steps a t before after r
+  pub said : then ≡ stored (λ d. saidBytes (d .said)) out a

@@ -1,0 +1,4 @@
+-- The simulated meter for C: what each call answers and leaves.
+pub mod Calls
+pub mod CallLaws
+pub mod ReadBack

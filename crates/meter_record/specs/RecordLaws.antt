@@ -1,0 +1,246 @@
+-- Laws about the record of a meter: what is written for a meter is read as that meter, if some history leads to it.
+use Prim.Native.Nat.{ℕ, zero, suc, _+_, _/_, _%_, _*_, _^_, _≤_, _<_}
+use mathlib.Core.Bool.{Bool, true, false, cond, not, _||_}
+use mathlib.Core.List.{List, [], _∷_, _++_, append-assoc}
+use mathlib.Core.Path.{_≡_, refl, sym, ap, subst, _∙_}
+use native.Mathlib.Nat.{lt-of-lt-of-le, lt-of-le-of-lt, pow-le-pow-right, pow-suc}
+use native.Mathlib.Omega.{arith}
+use borrow.Author.Tests.{ltb-true, ltb-false, not-false}
+use lib.Dec.{ltb, eqb, lit<, lit≤}
+use lib.ListN.{length, getD, take, drop, length-append}
+use lib.Seq.{take-at, drop-at, drop-drop, getD-drop}
+use Rattle.clock.specs.Times.{due, earlier}
+use Rattle.format.specs.declared.Entry.{Entry}
+use Rattle.format.specs.declared.Telegram.{Telegram}
+use Rattle.format.specs.declared.Value.{Value}
+use Rattle.format.specs.declared.Value.the-variants.{Number, Time}
+use Rattle.format.specs.Answers.{Answer, reads, refusal, refuse, follow}
+use Rattle.format.specs.AnswerLaws.{reads-same}
+use Rattle.format.specs.Headers.{letter, makerNamed, heatMeter}
+use Rattle.format.specs.LengthLaws.{width-most}
+use Rattle.format.specs.Lines.{isMethod}
+use Rattle.format.specs.Lists.{at, any}
+use Rattle.format.specs.Quantities.{widthOf, paired, isTime}
+use Rattle.format.specs.TestLaws.{none, every}
+use Rattle.format.specs.Tests.{neither, passed}
+use Rattle.format.specs.Writing.{usedValue, usedEntry, wrongValue, wrongEntry}
+use Rattle.low_first.specs.Numbers.{number, bytesOf, number-bytes, length-bytes}
+use Rattle.meter.specs.declared.Core.{Core}
+use Rattle.meter.specs.declared.Meter.{Meter}
+use Rattle.meter.specs.declared.Mode.{Mode}
+use Rattle.meter.specs.declared.Mode.the-variants.{Use, Verifying}
+use Rattle.meter.specs.Meters.{zeros}
+use Rattle.records.specs.Recorded.{noRecord}
+use Rattle.records.specs.Same.{same, same-equal, same-itself}
+use Rattle.records.specs.Telegrams.{telegramBytes, entriesIn, telegramIn, telegramFrom}
+use Rattle.records.specs.TelegramLaws.{ValueFits, EntriesFit, Fits, telegram-read, telegram-written}
+use Rattle.template.specs.declared.Pair.{Pair}
+use Rattle.template.specs.Templates.{unfit, pairIn, totalMost}
+use Rattle.template.specs.TemplateLaws.{fit}
+use Rattle.meter_record.specs.MeterRecords.{modeNumber, methodOf, sinceOf, stateBytes, pairBytes, meterBytes, wordAt, modeIn, meterIn, wrongMode, wrongTotal, wrongPair, unreached, recalled, meterFrom}
+
+-- ---- the fields of a template fit their types
+
+value-small : (e : Entry) → wrongEntry e ≡ false → ValueFits (e .value)
+value-small e right = go (e .value) (neither (not (paired (e .structure) (e .unit))) (wrongValue (widthOf (e .structure)) (e .unit) (e .value)) right .1)
+  where
+    go : (x : Value) → wrongValue (widthOf (e .structure)) (e .unit) x ≡ false → ValueFits x
+    go (Time m) w = tt
+    go (Number d) w =
+        let test = ltb (d .count) (100 ^ widthOf (e .structure)) in
+        let short : d .count < 100 ^ widthOf (e .structure) = ltb-true (d .count) (100 ^ widthOf (e .structure)) (not-false test (neither (isTime (e .unit)) (not test) w .1)) in
+        let most : 100 ^ widthOf (e .structure) ≤ 100 ^ 6 = pow-le-pow-right (lit< tt) (width-most (e .structure)) in
+        lt-of-lt-of-le (lt-of-lt-of-le short most) (lit≤ tt)
+
+blank-small : (e : Entry) → usedEntry e ≡ false → ValueFits (e .value)
+blank-small e blank = go (e .value) (neither (ltb 0 (e .structure) || ltb 0 (e .unit)) (usedValue (e .value)) blank .1)
+  where
+    go : (x : Value) → usedValue x ≡ false → ValueFits x
+    go (Time m) u = tt
+    go (Number d) u = lt-of-le-of-lt (ltb-false 0 (d .count) u) (lit< tt)
+
+entries-small : (n : ℕ) (es : List Entry) → any wrongEntry (take n es) ≡ false → any usedEntry (drop n es) ≡ false → EntriesFit es
+unfolding any EntriesFit
+entries-small n [] w u = tt
+entries-small zero (e ∷ es) w u =
+    let both = neither (usedEntry e) (any usedEntry es) u in
+    (blank-small e (both .0), entries-small zero es refl (both .1))
+entries-small (suc n) (e ∷ es) w u =
+    let both = neither (wrongEntry e) (any wrongEntry (take n es)) w in
+    (value-small e (both .0), entries-small n es (both .1) u)
+
+template-fits : (t : Telegram) → unfit t ≡ false → length (t .entries) ≡ 7 → Fits t
+template-fits t e places =
+    let f = fit t e in
+    let h = t .header in
+    let k = none (not (ltb (h .number) 100000000)) (not (makerNamed (h .maker)) ∷ not (heatMeter (h .«meter_type»)) ∷ []) (f .header) in
+    let m = every (ltb (h .maker) 32768) (letter (h .maker / 1024) ∷ letter (h .maker / 32 % 32) ∷ letter (h .maker % 32) ∷ []) (not-false (makerNamed (h .maker)) (k .1 .0)) in
+    record {
+      number = lt-of-lt-of-le (ltb-true (h .number) 100000000 (not-false _ (k .0))) (lit≤ tt);
+      maker = lt-of-lt-of-le (ltb-true (h .maker) 32768 (m .0)) (lit≤ tt);
+      count = lt-of-le-of-lt (ltb-false 7 (t .count) (f .count)) (lit< tt);
+      places = places;
+      values = entries-small (t .count) (t .entries) (f .right) (f .past);
+    }
+
+-- ---- which meters have a record
+
+-- the parts of `unreached`
+pub record Reached (last : ℕ) (c : Core) : Type 0 where
+  pub template : unfit (c .template) ≡ false
+  pub mode : wrongMode last (c .mode) ≡ false
+  pub used : wrongPair (pairIn (c .template .entries)) (c .used) ≡ false
+  pub verified : wrongPair zeros (c .verified) ≡ false
+
+pub reached : (m : Meter) → unreached m ≡ false → Reached (m .last .0) (m .core)
+reached m e =
+    let k = none (unfit (m .core .template)) (wrongMode (m .last .0) (m .core .mode) ∷ wrongPair (pairIn (m .core .template .entries)) (m .core .used) ∷ wrongPair zeros (m .core .verified) ∷ []) e in
+    record { template = k .0; mode = k .1 .0; used = k .1 .1 .0; verified = k .1 .1 .1 .0 }
+
+pub not-unreached : (m : Meter) → Reached (m .last .0) (m .core) → unreached m ≡ false
+not-unreached m r = rw (r .template, r .mode, r .used, r .verified)
+
+-- A meter that some history leads to, in fields of their types.
+pub record Good (m : Meter) : Type 0 where
+  pub time : m .last .0 < 256 ^ 8
+  pub places : length (m .core .template .entries) ≡ 7
+  pub so : unreached m ≡ false
+
+pub total-within : (least n : ℕ) → wrongTotal least n ≡ false → (least ≤ n) × (n ≤ totalMost)
+total-within least n e =
+    let k = neither (ltb n least) (ltb totalMost n) e in
+    (ltb-false n least (k .0), ltb-false totalMost n (k .1))
+
+pair-small : (least p : Pair) → wrongPair least p ≡ false → (p .volume < 256 ^ 8) × (p .energy < 256 ^ 8)
+pair-small least p e =
+    let k = neither (wrongTotal (least .volume) (p .volume)) (wrongTotal (least .energy) (p .energy)) e in
+    (lt-of-le-of-lt (total-within (least .volume) (p .volume) (k .0) .1) (lit< tt), lt-of-le-of-lt (total-within (least .energy) (p .energy) (k .1) .1) (lit< tt))
+
+since-small : (last : ℕ) (mode : Mode) → last < 256 ^ 8 → wrongMode last mode ≡ false → sinceOf mode < 256 ^ 8
+since-small last Use h e = lit< tt
+since-small last (Verifying s since) h e =
+    let k = none (not (isMethod s)) (earlier (since .0) last ∷ due (since .0) last ∷ []) e in
+    lt-of-le-of-lt (ltb-false last (since .0) (k .1 .0)) h
+
+-- ---- what is written is read: where each field stands
+
+next : (k : ℕ) (l x r : List ℕ) → drop k l ≡ x ++ r → length x ≡ 8 → drop (k + 8) l ≡ r
+next k l x r e h = sym (drop-drop 8 k l) ∙ ap (drop 8) e ∙ drop-at x r 8 h
+
+word : (k : ℕ) (l : List ℕ) (n : ℕ) (r : List ℕ) → drop k l ≡ bytesOf 8 n ++ r → n < 256 ^ 8 → wordAt l k ≡ n
+word k l n r e h =
+    ap (λ (s : List ℕ). number (take 8 s)) e ∙ ap number (take-at (bytesOf 8 n) r 8 (length-bytes 8 n)) ∙ number-bytes 8 n h
+
+mode-read : (mode : Mode) → cond (eqb (modeNumber mode) 1) (Verifying (methodOf mode) (record { 0 = sinceOf mode })) Use ≡ mode
+mode-read Use = refl
+mode-read (Verifying s since) = refl
+
+-- what a record has from each place on
+abbrev from48 : Core → List ℕ
+from48 c = bytesOf 8 (c .verified .energy) ++ telegramBytes (c .template)
+
+abbrev from40 : Core → List ℕ
+from40 c = bytesOf 8 (c .verified .volume) ++ from48 c
+
+abbrev from32 : Core → List ℕ
+from32 c = bytesOf 8 (c .used .energy) ++ from40 c
+
+abbrev from24 : Core → List ℕ
+from24 c = bytesOf 8 (c .used .volume) ++ from32 c
+
+abbrev from16 : Core → List ℕ
+from16 c = bytesOf 8 (sinceOf (c .mode)) ++ from24 c
+
+abbrev ownBytes : Core → List ℕ
+ownBytes c = c .address ∷ modeNumber (c .mode) ∷ methodOf (c .mode) ∷ 0 ∷ 0 ∷ 0 ∷ 0 ∷ 0 ∷ []
+
+module _ (m : Meter) where
+  at-0 : drop 0 (meterBytes m) ≡ bytesOf 8 (m .last .0) ++ (ownBytes (m .core) ++ from16 (m .core))
+  unfolding meterBytes
+  at-0 = simp append-assoc
+
+  at-8 : drop 8 (meterBytes m) ≡ ownBytes (m .core) ++ from16 (m .core)
+  at-8 = next 0 (meterBytes m) (bytesOf 8 (m .last .0)) _ at-0 (length-bytes 8 (m .last .0))
+
+  at-16 : drop 16 (meterBytes m) ≡ from16 (m .core)
+  at-16 = next 8 (meterBytes m) (ownBytes (m .core)) _ at-8 refl
+
+  at-24 : drop 24 (meterBytes m) ≡ from24 (m .core)
+  at-24 = next 16 (meterBytes m) (bytesOf 8 (sinceOf (m .core .mode))) _ at-16 (length-bytes 8 (sinceOf (m .core .mode)))
+
+  at-32 : drop 32 (meterBytes m) ≡ from32 (m .core)
+  at-32 = next 24 (meterBytes m) (bytesOf 8 (m .core .used .volume)) _ at-24 (length-bytes 8 (m .core .used .volume))
+
+  at-40 : drop 40 (meterBytes m) ≡ from40 (m .core)
+  at-40 = next 32 (meterBytes m) (bytesOf 8 (m .core .used .energy)) _ at-32 (length-bytes 8 (m .core .used .energy))
+
+  at-48 : drop 48 (meterBytes m) ≡ from48 (m .core)
+  at-48 = next 40 (meterBytes m) (bytesOf 8 (m .core .verified .volume)) _ at-40 (length-bytes 8 (m .core .verified .volume))
+
+  at-56 : drop 56 (meterBytes m) ≡ telegramBytes (m .core .template)
+  at-56 = next 48 (meterBytes m) (bytesOf 8 (m .core .verified .energy)) _ at-48 (length-bytes 8 (m .core .verified .energy))
+
+  -- the three bytes of address, mode and method
+  own-byte : (i : ℕ) → at (meterBytes m) (8 + i) ≡ at (ownBytes (m .core) ++ from16 (m .core)) i
+  own-byte i = sym (getD-drop 8 (meterBytes m) i 0) ∙ ap (λ (l : List ℕ). at l i) at-8
+
+  taken : Good m → meterIn (meterBytes m) (m .core .template) ≡ m
+  unfolding meterIn
+  taken g =
+      let r = reached m (g .so) in
+      let used = pair-small (pairIn (m .core .template .entries)) (m .core .used) (r .used) in
+      let verified = pair-small zeros (m .core .verified) (r .verified) in
+      let address : at (meterBytes m) 8 ≡ m .core .address = own-byte 0 in
+      let number : at (meterBytes m) 9 ≡ modeNumber (m .core .mode) = own-byte 1 in
+      let method : at (meterBytes m) 10 ≡ methodOf (m .core .mode) = own-byte 2 in
+      rw (word 0 (meterBytes m) (m .last .0) _ at-0 (g .time), address, number, method, word 16 (meterBytes m) (sinceOf (m .core .mode)) _ at-16 (since-small (m .last .0) (m .core .mode) (g .time) (r .mode)), word 24 (meterBytes m) (m .core .used .volume) _ at-24 (used .0), word 32 (meterBytes m) (m .core .used .energy) _ at-32 (used .1), word 40 (meterBytes m) (m .core .verified .volume) _ at-40 (verified .0), word 48 (meterBytes m) (m .core .verified .energy) _ at-48 (verified .1), mode-read (m .core .mode))
+
+  -- The record of a meter that some history leads to reads as that meter,
+  pub meter-read : Good m → meterFrom (meterBytes m) ≡ reads m
+  meter-read g =
+      let template : telegramFrom (drop 56 (meterBytes m)) ≡ reads (m .core .template) =
+      ap telegramFrom at-56 ∙ telegram-read (m .core .template) (template-fits (m .core .template) (reached m (g .so) .template) (g .places)) in
+      ap (λ (a : Answer Telegram). follow a (λ (t : Telegram). recalled (meterBytes m) (meterIn (meterBytes m) t))) template
+      ∙ ap (recalled (meterBytes m)) (taken g) ∙ rw (same-itself (meterBytes m), g .so)
+
+-- and what is read is such a meter, and is written as the same bytes.
+pub record ReadFrom (b : List ℕ) (m : Meter) : Type 0 where
+  pub bytes : meterBytes m ≡ b
+  pub good : Good m
+
+number-small : (k n : ℕ) → number (bytesOf k n) < 256 ^ k
+unfolding number bytesOf
+number-small zero n = lit< tt
+number-small (suc k) n =
+    let small : number (bytesOf k (n / 256)) < 256 ^ k = number-small k (n / 256) in
+    rw pow-suc (omega arith)
+
+-- a number that stands in a record as eight bytes has no more than eight
+time-small : (m : Meter) → wordAt (meterBytes m) 0 ≡ m .last .0 → m .last .0 < 256 ^ 8
+time-small m e =
+    let word : wordAt (meterBytes m) 0 ≡ number (bytesOf 8 (m .last .0)) =
+    ap (λ (s : List ℕ). number (take 8 s)) (at-0 m) ∙ ap number (take-at (bytesOf 8 (m .last .0)) _ 8 (length-bytes 8 (m .last .0))) in
+    subst (λ (n : ℕ). n < 256 ^ 8) (sym word ∙ e) (number-small 8 (m .last .0))
+
+seven-in : (b : List ℕ) → length (telegramIn b .entries) ≡ 7
+unfolding telegramIn entriesIn
+seven-in b = refl
+
+pub seven-places : (b : List ℕ) (t : Telegram) → telegramFrom b ≡ reads t → length (t .entries) ≡ 7
+seven-places b t e =
+    let p = passed noRecord (not (same b (telegramBytes (telegramIn b)))) (reads (telegramIn b)) t e in
+    subst (λ (x : Telegram). length (x .entries) ≡ 7) (reads-same (p .1)) (seven-in b)
+
+pub meter-written : (b : List ℕ) (m : Meter) → meterFrom b ≡ reads m → ReadFrom b m
+unfolding meterIn
+meter-written b m e = go (telegramFrom (drop 56 b)) refl e
+  where
+    go : (a : Answer Telegram) → telegramFrom (drop 56 b) ≡ a → follow a (λ t. recalled b (meterIn b t)) ≡ reads m → ReadFrom b m
+    go (refusal n) r f = let z : _≡_ {A = ℕ} 0 1 = cc in absurd (omega arith)
+    go (reads t) r f =
+        let x = meterIn b t in
+        let p = passed noRecord (not (same b (meterBytes x))) (refuse noRecord (unreached x) (reads x)) m f in
+        let q = passed noRecord (unreached x) (reads x) m (p .1) in
+        let is : x ≡ m = reads-same (q .1) in
+        let bytes : b ≡ meterBytes x = same-equal b (meterBytes x) (not-false (same b (meterBytes x)) (p .0)) in
+        subst (ReadFrom b) is (record { bytes = sym bytes; good = record { time = time-small x (ap (λ (l : List ℕ). wordAt l 0) (sym bytes)); places = seven-places (drop 56 b) t r; so = q .0 } })

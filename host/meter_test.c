@@ -1,0 +1,231 @@
+/* The simulated meter as a bench host calls it: one verification with 000's data line, and every refusal with its memory. */
+#include "skarrowith.h"
+
+#include <stdio.h>
+#include <string.h>
+
+#define OWN 5
+#define FE 0xFE
+#define RETURN 4320000u
+
+/* 000's data example, 5.4.3. */
+static const uint8_t data_bytes[63] = {
+    0x68, 0x39, 0x39, 0x68, 0x08, 0x00, 0x72, 0x78, 0x56, 0x34, 0x12, 0x89, 0x4E, 0x01, 0x04, 0x03,
+    0x00, 0x00, 0x00, 0x0C, 0x03, 0x45, 0x23, 0x71, 0x96, 0x0C, 0x11, 0x78, 0x56, 0x34, 0x12, 0x0B,
+    0x59, 0x12, 0x78, 0x00, 0x0B, 0x5D, 0x34, 0x65, 0x00, 0x0C, 0x2D, 0x78, 0x56, 0x34, 0x12, 0x0C,
+    0x3B, 0x78, 0x56, 0x34, 0x12, 0x06, 0x6D, 0x1C, 0x33, 0x0F, 0x57, 0x27, 0x00, 0x02, 0x16};
+
+static unsigned tried, wrong;
+static struct skarrowith_telegram data, answer;
+static struct skarrowith_meter meter;
+
+static void expect(const char *what, uint64_t got, uint64_t want)
+{
+    tried++;
+    if (got != want) {
+        printf("meter_test: %s: %llu, and not %llu\n", what, (unsigned long long)got, (unsigned long long)want);
+        wrong = 1;
+    }
+}
+
+/* A request heard at t. */
+static uint32_t hear(uint8_t kind, uint8_t address, uint8_t method, uint64_t t)
+{
+    uint16_t line[10];
+    uint32_t count = skarrowith_write_request(kind, address, method, line, 10);
+    memset(&answer, 0x5A, sizeof answer);
+    return skarrowith_meter_heard(&meter, sizeof meter, line, count, t, &answer, sizeof answer);
+}
+
+static int answer_untouched(void)
+{
+    for (size_t i = 0; i < sizeof answer; i++)
+        if (((const uint8_t *)&answer)[i] != 0x5A)
+            return 0;
+    return 1;
+}
+
+/* The totals that a read shows: energy is the first of 000's entries and volume the second. */
+static void shows(const char *what, uint64_t t, uint64_t volume, uint64_t energy, uint8_t access)
+{
+    uint16_t line[77];
+    struct skarrowith_telegram again;
+    expect(what, hear(SKARROWITH_READ, FE, 0, t), SKARROWITH_DATA);
+    expect(what, answer.entries[0].value.count, energy);
+    expect(what, answer.entries[1].value.count, volume);
+    expect(what, answer.access, access);
+    expect(what, answer.address, OWN);
+    uint32_t count = skarrowith_write_line(&answer, sizeof answer, line, 77);
+    expect("its line has 63 characters", count, 63);
+    expect("its line is accepted", skarrowith_read_line(line, count, &again, sizeof again), SKARROWITH_DATA);
+    expect("its line reads as it", memcmp(&again, &answer, sizeof again) == 0, 1);
+}
+
+/* A set-up that is refused leaves the meter's memory as it was. */
+static void no_set_up(const char *what, const struct skarrowith_telegram *given, size_t size, size_t places, uint32_t number)
+{
+    memset(&meter, 0x5A, sizeof meter);
+    expect(what, skarrowith_meter_set_up(&meter, places, OWN, given, size), SKARROWITH_REFUSED + number);
+    for (size_t i = 0; i < sizeof meter; i++)
+        if (((const uint8_t *)&meter)[i] != 0x5A)
+            expect(what, i, sizeof meter);
+}
+
+static void set_ups(void)
+{
+    struct skarrowith_telegram other = data;
+    other.kind = SKARROWITH_READ;
+    no_set_up("a template that is no data", &other, sizeof other, sizeof meter, 72);
+    other = data;
+    other.entries[0].structure = 0x0E;
+    no_set_up("energy in structure 0E", &other, sizeof other, sizeof meter, 72);
+    other = data;
+    other.count = 6;
+    no_set_up("an entry past the count", &other, sizeof other, sizeof meter, 72);
+    other = data;
+    other.zero[0] = 1;
+    no_set_up("a template that is no record", &other, sizeof other, sizeof meter, 101);
+    no_set_up("no record before too few places", &other, sizeof other, 0, 101);
+    no_set_up("a template of 135 bytes", &data, sizeof data - 1, sizeof meter, 101);
+    no_set_up("a meter of 191 bytes", &data, sizeof data, sizeof meter - 1, 21);
+    other = data;
+    other.kind = SKARROWITH_ACK;
+    no_set_up("too few places before a template that is no data", &other, sizeof other, sizeof meter - 1, 21);
+    expect("set-up", skarrowith_meter_set_up(&meter, sizeof meter, OWN, &data, sizeof data), 0);
+    expect("it begins in use", meter.mode, 0);
+    expect("with the template's volume", meter.used.volume, 12345678);
+    expect("and energy", meter.used.energy, 96712345);
+    expect("and nothing verified", meter.verified.volume + meter.verified.energy, 0);
+}
+
+static void verification(void)
+{
+    shows("a read in use", 100, 12345678, 96712345, 4);
+    expect("a measure in use", skarrowith_meter_measure(&meter, sizeof meter, 10, 20, 200), 0);
+    shows("what was measured in use", 300, 12345688, 96712365, 5);
+    expect("enter", hear(SKARROWITH_ENTER, OWN, 0x91, 400), SKARROWITH_ACK);
+    expect("the ack is a record", answer.kind, SKARROWITH_ACK);
+    expect("it is in verification", meter.mode, 1);
+    expect("by simulated flow", meter.method, 0x91);
+    expect("since the enter", meter.since, 400);
+    shows("cleared totals", 500, 0, 0, 6);
+    expect("a measure in verification", skarrowith_meter_measure(&meter, sizeof meter, 7, 8, 600), 0);
+    expect("a repeated enter", hear(SKARROWITH_ENTER, FE, 0x92, 700), SKARROWITH_ACK);
+    shows("totals that a repeated enter keeps", 800, 7, 8, 7);
+    expect("another address gets silence", hear(SKARROWITH_LEAVE, OWN + 1, 0, 900), 0);
+    expect("and no answer", answer_untouched(), 1);
+    expect("but the time goes on", meter.last, 900);
+    expect("leave", hear(SKARROWITH_LEAVE, FE, 0, 1000), SKARROWITH_ACK);
+    expect("it is in use", meter.mode, 0);
+    expect("no method", meter.method, 0);
+    expect("no last instruction", meter.since, 0);
+    shows("the use pair again", 1100, 12345688, 96712365, 8);
+    expect("the verification pair stays", meter.verified.volume, 7);
+    expect("enter from use", hear(SKARROWITH_ENTER, FE, 0x90, 1200), SKARROWITH_ACK);
+    expect("clears it", meter.verified.volume + meter.verified.energy, 0);
+    expect("shortly before 30 minutes", skarrowith_meter_measure(&meter, sizeof meter, 1, 1, 1200 + RETURN - 1), 0);
+    expect("it is in verification still", meter.mode, 1);
+    expect("30 minutes without an instruction", skarrowith_meter_measure(&meter, sizeof meter, 2, 3, 1200 + RETURN), 0);
+    expect("it has returned", meter.mode, 0);
+    shows("and measures in use", 1300 + RETURN, 12345690, 96712368, 9);
+}
+
+/* A step that is refused leaves meter and answer as they were. */
+static void no_step(const char *what, size_t size, uint64_t t, size_t places, uint32_t number)
+{
+    static const uint16_t ack[1] = {0x1E5};
+    const struct skarrowith_meter before = meter;
+    memset(&answer, 0x5A, sizeof answer);
+    expect(what, skarrowith_meter_heard(&meter, size, ack, 1, t, &answer, places), SKARROWITH_REFUSED + number);
+    expect(what, answer_untouched(), 1);
+    expect(what, memcmp(&meter, &before, sizeof meter) == 0, 1);
+}
+
+static void no_measure(const char *what, uint64_t volume, uint64_t energy, uint64_t t, uint32_t number)
+{
+    const struct skarrowith_meter before = meter;
+    expect(what, skarrowith_meter_measure(&meter, sizeof meter, volume, energy, t), SKARROWITH_REFUSED + number);
+    expect(what, memcmp(&meter, &before, sizeof meter) == 0, 1);
+}
+
+static void no_record(const char *what)
+{
+    no_step(what, sizeof meter, UINT64_MAX, sizeof answer, 101);
+    no_step(what, sizeof meter, 0, 0, 101);
+    no_measure(what, 1, 1, UINT64_MAX, 101);
+}
+
+static void refusals(void)
+{
+    const uint64_t t = meter.last;
+    no_step("a time that goes back", sizeof meter, t - 1, sizeof answer, 70);
+    no_measure("a measure whose time goes back", 1, 1, t - 1, 70);
+    no_measure("70 before 71", 99999999, 0, t - 1, 70);
+    no_measure("a volume past the limit", 99999999 - 12345690 + 1, 0, t, 71);
+    no_measure("an energy of 64 bits", 0, UINT64_MAX, t, 71);
+    no_step("an answer of 135 bytes", sizeof meter, t, sizeof answer - 1, 21);
+    no_step("21 before 70", sizeof meter, t - 1, sizeof answer - 1, 21);
+    no_step("a meter of 191 bytes", sizeof meter - 1, t, sizeof answer, 101);
+    no_step("no meter at all", 0, t, sizeof answer, 101);
+
+    const struct skarrowith_meter good = meter;
+    meter.zero[4] = 1;
+    no_record("a byte named zero that is not");
+    meter = good;
+    meter.method = 0x90;
+    no_record("a method in use");
+    meter = good;
+    meter.since = 1;
+    no_record("an instruction in use");
+    meter = good;
+    meter.mode = 2;
+    no_record("mode 2");
+    meter = good;
+    meter.used.energy = 96712344;
+    no_record("an energy below the template's");
+    meter = good;
+    meter.used.volume = 100000000;
+    no_record("a total past the limit");
+    meter = good;
+    meter.verified.energy = 100000000;
+    no_record("a verified total past the limit");
+    meter = good;
+    meter.data.entries[0].structure = 0x0E;
+    no_record("a template that is not fit");
+    meter = good;
+    meter.data.entries[6].zero[0] = 1;
+    no_record("a template that is no record");
+    meter = good;
+    meter.mode = 1;
+    meter.method = 0x93;
+    meter.since = meter.last;
+    no_record("method 93");
+    meter.method = 0x92;
+    meter.since = meter.last + 1;
+    no_record("an instruction after the last step");
+    meter.since = meter.last - RETURN;
+    no_record("a meter that has returned");
+    meter.since = meter.last - RETURN + 1;
+    expect("a meter that has not", skarrowith_meter_measure(&meter, sizeof meter, 0, 0, t), 0);
+    expect("is in verification", meter.mode, 1);
+}
+
+int main(void)
+{
+    uint16_t line[63];
+    for (size_t i = 0; i < 63; i++) {
+        unsigned ones = 0;
+        for (unsigned b = data_bytes[i]; b != 0; b >>= 1)
+            ones ^= b & 1;
+        line[i] = (uint16_t)(data_bytes[i] + 256 * ones);
+    }
+    expect("a telegram has 136 bytes", sizeof data, 136);
+    expect("a meter has 192 bytes", sizeof meter, 192);
+    expect("000's data line", skarrowith_read_line(line, 63, &data, sizeof data), SKARROWITH_DATA);
+    set_ups();
+    verification();
+    refusals();
+    if (!wrong)
+        printf("meter_test: %u answers are right\n", tried);
+    return wrong != 0;
+}
