@@ -35,7 +35,7 @@ static const struct {
     [METER_HEARD] = {"skarrowith_meter_heard", "0 1 5", "21 70 101"},
     [METER_MEASURE] = {"skarrowith_meter_measure", "0", "70 71 101"},
     [BUNDLE_CHECK] = {"skarrowith_bundle_check", "0", "30 31 32 33 34 35 36 37"},
-    [BUNDLE_ROW] = {"skarrowith_bundle_row", "0", "30 31 32 33 34 35 36 37 39 101"},
+    [BUNDLE_ROW] = {"skarrowith_bundle_row", "0", "21 30 31 32 33 34 35 36 37 39"},
     [BUNDLE_ADD] = {"skarrowith_bundle_add", "0", "30 31 32 33 34 35 36 37 38"},
     [BUNDLE_LIST] = {"skarrowith_bundle_list", "0", "21"},
 };
@@ -45,8 +45,9 @@ static const struct {
     void (*compare)(void);
     unsigned often;
 } parts[] = {
-    {compare_check_line, 220}, {compare_read, 50}, {compare_write, 50}, {compare_request, 10}, {compare_find, 5},     {compare_words, 10},
-    {compare_wake, 10},        {compare_gap, 10},  {compare_error, 20}, {compare_exchange, 12}, {compare_meter, 12}, {compare_bundle, 15},
+    {compare_check_line, 240}, {compare_read, 50},      {compare_write, 50},  {compare_request, 10},
+    {compare_find, 5},         {compare_words, 10},     {compare_wake, 10},   {compare_gap, 10},
+    {compare_error, 20},       {compare_exchange, 20},  {compare_meter, 12},  {compare_bundle, 15},
 };
 
 static unsigned long seen[FUNCTIONS][ANSWERS], cases;

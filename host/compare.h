@@ -40,7 +40,7 @@ struct lent {
     uint8_t *before, *proved, *second;
 };
 
-/* A call begins: then what it is lent (n bytes of it have this content, the rest a pattern) and what numbers it is told. */
+/* A call begins; then what it is lent (n bytes have this content, the rest a pattern), and what numbers it is told. */
 void begin(enum function function);
 struct lent *lend(const char *name, size_t size, const void *content, size_t n);
 uint64_t tell(const char *name, uint64_t number);
@@ -59,6 +59,11 @@ void fail(const char *what);
 
 /* Most often so many places, now and then one fewer, none, or some more. */
 size_t some_places(size_t needed);
+
+/* What the archive has left there, taken as the header's struct, has the second program's values in its fields. */
+void hold_telegram(const struct lent *l, const struct second_telegram *s);
+void hold_exchange(const struct lent *l, const struct second_exchange *s);
+void hold_meter(const struct lent *l, const struct second_meter *s);
 
 /* Does to a record what no step does; answers its size. It has room for 8 more bytes. */
 size_t spoil(uint8_t *record, size_t size);

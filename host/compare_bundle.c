@@ -24,7 +24,7 @@ static void row(void)
     struct skarrowith_row fields = {0};
     unsigned many = (unsigned)bundle.rows;
     size_t i = once_in(30) ? (size_t)chance() : once_in(6) || many == 0 ? many : below(many);
-    size_t size = once_in(12) ? some_places(sizeof fields) : sizeof fields;
+    size_t size = some_places(sizeof fields);
     int refusal = size < sizeof fields ? 21 : second_row(bundle.b, bundle.n, i, &r);
     begin(BUNDLE_ROW);
     struct lent *bytes = lend("bundle", bundle.n, bundle.b, bundle.n), *out = lend("row", size, NULL, 0);
@@ -65,8 +65,10 @@ static void add(void)
 {
     uint8_t body[2050] = {0};
     size_t n = new_body(body), filled, length = 0;
-    struct second_row r = {once_in(20) ? 49 * below(2) : some_position(), once_in(20) ? between(2, 255) : below(2), 0, 0, n};
+    struct second_row r = {0, 0, 0, 0, n};
     int refusal;
+    r.position = once_in(20) ? 49 * below(2) : some_position();
+    r.direction = once_in(20) ? between(2, 255) : below(2);
     good_bundle(65536 - 12 - n - 2 + (once_in(3) ? 4 * below(2) : 2)); /* what the new row fills up, or nearly */
     if (once_in(4))
         break_bundle();
@@ -78,15 +80,16 @@ static void add(void)
     if (once_in(12))
         filled = once_in(2) ? bundle.n + below(3) : once_in(2) ? filled + 1 - 2 * below(2) : (size_t)of_any_width();
     begin(BUNDLE_ADD);
-    struct lent *buffer = lend("buffer", bundle.n, bundle.b, bundle.n), *fills = lend("filled", sizeof filled, &filled, sizeof filled);
-    struct lent *characters = lend("body", n, body, n);
+    struct lent *buffer = lend("buffer", bundle.n, bundle.b, bundle.n), *characters = lend("body", n, body, n);
+    struct lent *fills = lend("filled", sizeof filled, &filled, sizeof filled);
     tell("position", r.position);
     tell("direction", r.direction);
     tell("time", r.time);
     refusal = second_add(buffer->second, bundle.n, filled, r, body, &length);
     if (refusal == 0)
         memcpy(fills->second, &length, sizeof length);
-    end(skarrowith_bundle_add(buffer->to, bundle.n, fills->to, (uint8_t)r.position, (uint8_t)r.direction, r.time, characters->to, n),
+    end(skarrowith_bundle_add(buffer->to, bundle.n, fills->to, (uint8_t)r.position, (uint8_t)r.direction, r.time,
+                              characters->to, n),
         refused(refusal));
 }
 

@@ -6,7 +6,7 @@
 
 #include <string.h>
 
-/* An exchange as the two programs keep it: in a record that only the archive writes, and in a struct of the second's own. */
+/* An exchange as the two programs keep it: in a record that the archive alone writes, and in the second's own struct. */
 struct held {
     uint8_t record[SECOND_EXCHANGE_SIZE];
     struct second_exchange x;
@@ -35,13 +35,16 @@ static int start(struct held *h)
     tell("t", t);
     end(skarrowith_exchange_start(exchange->to, size, (uint8_t)kind, (uint8_t)address, (uint8_t)method, t),
         refusal == 0 ? state_of(&h->x) : refused(refusal));
-    memcpy(h->record, exchange->proved, refusal == 0 ? sizeof h->record : 0);
+    if (refusal == 0)
+        memcpy(h->record, exchange->proved, sizeof h->record);
     return refusal == 0;
 }
 
 /* A tick or a sent on the record; `refusal` is one that goes before the step's. */
-static struct lent *pass(enum function f, const uint8_t *record, size_t size, int refusal, struct second_exchange *x, uint64_t t)
+static struct lent *pass(enum function f, const uint8_t *record, size_t size, int refusal, struct second_exchange *x,
+                         uint64_t t)
 {
+    uint32_t proved;
     begin(f);
     struct lent *exchange = lend("exchange", size, record, size);
     tell("t", t);
@@ -49,8 +52,11 @@ static struct lent *pass(enum function f, const uint8_t *record, size_t size, in
         refusal = f == EXCHANGE_TICK ? second_tick(x, t) : second_sent(x, t);
     if (refusal == 0)
         second_put_exchange(exchange->second, x);
-    end(f == EXCHANGE_TICK ? skarrowith_exchange_tick(exchange->to, size, t) : skarrowith_exchange_sent(exchange->to, size, t),
-        refusal == 0 ? state_of(x) : refused(refusal));
+    if (f == EXCHANGE_TICK)
+        proved = skarrowith_exchange_tick(exchange->to, size, t);
+    else
+        proved = skarrowith_exchange_sent(exchange->to, size, t);
+    end(proved, refusal == 0 ? state_of(x) : refused(refusal));
     return exchange;
 }
 
@@ -95,7 +101,7 @@ static void mix(uint8_t *record)
     uint64_t began = first_time(), after = once_in(2) ? between(448, 453) : below(900);
     record[0] = (uint8_t)between(1, 5);
     record[2] = (uint8_t)(once_in(4) ? below(256) : 0);
-    record[3] = (uint8_t)between(once_in(8) ? 0 : 1, once_in(8) ? 5 : 4);
+    record[3] = (uint8_t)(once_in(4) ? below(6) : between(1, 4));
     record[4] = (uint8_t)below(once_in(8) ? 5 : 4);
     record[5] = (uint8_t)below(once_in(4) ? 5 : 4);
     record[6] = record[7] = 0;
@@ -127,6 +133,7 @@ void compare_exchange(void)
         return;
     for (unsigned steps = between(1, 12); steps > 0; steps--) {
         struct lent *left = step(h.record, sizeof h.record, 0, &h.x);
+        hold_exchange(left, &h.x);
         memcpy(h.record, left->proved, sizeof h.record);
         if (second_take_exchange(h.record, sizeof h.record, &read) != 0)
             fail("a step gives a record that no step gives");

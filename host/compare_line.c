@@ -66,15 +66,18 @@ int flips_seen(void)
 
 void compare_words(void)
 {
-    uint32_t number = once_in(8) ? (uint32_t)of_any_width() : below(110) + SKARROWITH_REFUSED * below(2);
+    uint32_t number = once_in(8) ? (uint32_t)of_any_width() : below(110);
+    if (once_in(2))
+        number += SKARROWITH_REFUSED;
     const char *words = second_words(number < SKARROWITH_REFUSED ? number : number - SKARROWITH_REFUSED);
     size_t length = words == NULL ? below(100) : strlen(words), places = some_places(length);
-    uint32_t second = words == NULL ? refused(SKARROWITH_NO_SUCH_NUMBER) : places < length ? refused(21) : (uint32_t)length;
+    int refusal = words == NULL ? (int)SKARROWITH_NO_SUCH_NUMBER : places < length ? 21 : 0;
     begin(REFUSAL_TEXT);
     struct lent *out = lend("out", places, NULL, 0);
-    if (second < SKARROWITH_REFUSED)
+    if (refusal == 0)
         memcpy(out->second, words, length);
-    end(skarrowith_refusal_text((uint32_t)tell("number", number), out->to, places), second);
+    end(skarrowith_refusal_text((uint32_t)tell("number", number), out->to, places),
+        refusal == 0 ? (uint32_t)length : refused(refusal));
 }
 
 static struct lent *lend_line(const char *name, const struct line *l)
@@ -114,7 +117,10 @@ void compare_read(void)
     struct lent *line = lend_line("line", &l), *telegram = lend("telegram", size, NULL, 0);
     if (refusal == 0)
         second_put_telegram(telegram->second, &t);
-    end(skarrowith_read_line(line->to, l.n, telegram->to, size), refusal == 0 ? (uint32_t)t.kind + 1 : refused(refusal));
+    end(skarrowith_read_line(line->to, l.n, telegram->to, size),
+        refusal == 0 ? (uint32_t)t.kind + 1 : refused(refusal));
+    if (refusal == 0)
+        hold_telegram(telegram, &t);
 }
 
 /* What a writer of this telegram leaves in the places lent, and answers; `refusal` is one that goes before. */

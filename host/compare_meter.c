@@ -6,7 +6,7 @@
 
 #include <string.h>
 
-/* A meter as the two programs keep it: in a record that only the archive writes, and in a struct of the second's own. */
+/* A meter as the two programs keep it: in a record that the archive alone writes, and in the second's own struct. */
 struct held {
     uint8_t record[SECOND_METER_SIZE];
     struct second_meter m;
@@ -16,22 +16,23 @@ static int set_up(struct held *h)
 {
     uint8_t record[SECOND_TELEGRAM_SIZE + 8] = {0};
     struct second_telegram t = once_in(30) ? good_telegram(some_kind()) : meter_template();
-    size_t size = some_places(SECOND_METER_SIZE), template_size = SECOND_TELEGRAM_SIZE;
+    size_t size = some_places(SECOND_METER_SIZE), data_size = SECOND_TELEGRAM_SIZE;
     unsigned address = once_in(4) ? 0xFE : below(256);
     int refusal;
     second_put_telegram(record, &t);
     if (once_in(12))
-        template_size = spoil(record, template_size);
-    refusal = second_take_telegram(record, template_size, &t);
+        data_size = spoil(record, data_size);
+    refusal = second_take_telegram(record, data_size, &t);
     if (refusal == 0)
         refusal = size < SECOND_METER_SIZE ? 21 : second_set_up(&h->m, address, &t);
     begin(METER_SET_UP);
-    struct lent *meter = lend("meter", size, NULL, 0), *template = lend("template", template_size, record, template_size);
+    struct lent *meter = lend("meter", size, NULL, 0), *data = lend("data", data_size, record, data_size);
     if (refusal == 0)
         second_put_meter(meter->second, &h->m);
     tell("address", address);
-    end(skarrowith_meter_set_up(meter->to, size, (uint8_t)address, template->to, template_size), refused(refusal));
-    memcpy(h->record, meter->proved, refusal == 0 ? sizeof h->record : 0);
+    end(skarrowith_meter_set_up(meter->to, size, (uint8_t)address, data->to, data_size), refused(refusal));
+    if (refusal == 0)
+        memcpy(h->record, meter->proved, sizeof h->record);
     return refusal == 0;
 }
 
@@ -122,6 +123,8 @@ void compare_meter(void)
         h.m.last = first_time(); /* no step has been: this only leads the first time elsewhere */
     for (unsigned steps = between(1, 16); steps > 0; steps--) {
         struct lent *left = step(h.record, sizeof h.record, 0, &h.m);
+        if (h.m.has_stepped)
+            hold_meter(left, &h.m);
         memcpy(h.record, left->proved, sizeof h.record);
         if (second_take_meter(h.record, sizeof h.record, &read) != 0)
             fail("a step gives a record that no step gives");

@@ -92,6 +92,10 @@ void some_counts(uint64_t c[4])
         c[1] += below(3);
         c[1] -= below(2);
     }
+    if (once_in(8)) /* no rise, or one less or more than none */
+        c[1] = c[0] + below(3) - 1;
+    if (once_in(8))
+        c[3] = c[2] + below(3) - 1;
 }
 
 /* A time: most often a little later than the last, or at an edge after the event that a window counts from. */

@@ -70,8 +70,8 @@ static void miss_form(struct line *l)
         for (body.n = 0; body.n < n;)
             push(&body, body.n == 0 ? (once_in(2) ? 0x53 : 0x08) : body.n == 2 ? (once_in(2) ? 0x50 : 0x72) : below(256));
     else {
-        unsigned at = once_in(3) ? 3 : once_in(2) ? 2 : 0;
-        body.b[at] = (unsigned char)below(256);
+        unsigned at = once_in(3) ? 3 : once_in(2) ? 2 : 0, beside = body.b[at] + (once_in(2) ? 1 : 255);
+        body.b[at] = (unsigned char)(once_in(2) ? beside : below(256));
     }
     frame(l, &body);
 }
@@ -116,7 +116,8 @@ static void miss_moment(unsigned char *v)
 {
     static const unsigned char bit[] = {0x40, 0x80, 0x20, 0x80};
     static const unsigned char byte_of_bit[] = {0, 1, 2, 2};
-    unsigned which = below(4), day = once_in(4) ? 0 : between(27, 31), month = below(16), year = below(104);
+    unsigned which = below(4), day = once_in(4) ? 0 : between(27, 31), month = once_in(3) ? 2 : below(16);
+    unsigned year = below(104);
     switch (below(6)) {
     case 0:
         v[which / 2] = (unsigned char)between(58, 64);
@@ -218,7 +219,7 @@ void near_miss(struct line *l)
 {
     struct bytes body;
     unsigned refusal = between(2, 17);
-    write_good(l, refusal > 9 ? SECOND_DATA : some_kind());
+    write_good(l, refusal > 9 ? SECOND_DATA : refusal == 9 && once_in(2) ? SECOND_ENTER : some_kind());
     if (refusal == 2)
         flip_one(l, one_bit(9, 15));
     else if (refusal == 3)

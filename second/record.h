@@ -12,7 +12,10 @@ void second_put_telegram(uint8_t *to, const struct second_telegram *t);
 void second_put_exchange(uint8_t *to, const struct second_exchange *x);
 void second_put_meter(uint8_t *to, const struct second_meter *m);
 
-/* Each answers 0, or 101 where the bytes are no record; of an exchange or a meter, also where no history leads to what they say. */
+/*
+ * Each answers 0, or 101 where the bytes are no record; of an exchange or a meter, also where no history leads to what
+ * they say.
+ */
 int second_take_telegram(const uint8_t *b, size_t n, struct second_telegram *t);
 int second_take_exchange(const uint8_t *b, size_t n, struct second_exchange *x);
 int second_take_meter(const uint8_t *b, size_t n, struct second_meter *m);

@@ -1,0 +1,58 @@
+/* The structs of the header name the bytes of a record: each field against the second program's. */
+#include "compare.h"
+
+#include <string.h>
+
+static int is_entry(const struct skarrowith_entry *e, const struct second_entry *s)
+{
+    const struct skarrowith_moment *m = &e->value.time;
+    const unsigned *parts = s->moment;
+    unsigned sort = s->is_time ? SKARROWITH_TIME : SKARROWITH_DECIMAL;
+    if (e->structure != s->structure || e->unit != s->unit || e->sort != sort)
+        return 0;
+    if (!s->is_time)
+        return e->value.count == s->count;
+    return m->year == parts[0] && m->month == parts[1] && m->day == parts[2] && m->hour == parts[3] &&
+           m->minute == parts[4] && m->second == parts[5];
+}
+
+static int is_telegram(const struct skarrowith_telegram *t, const struct second_telegram *s)
+{
+    for (size_t i = 0; i < SECOND_ENTRIES; i++)
+        if (!is_entry(&t->entries[i], &s->entries[i]))
+            return 0;
+    return t->kind == (unsigned)s->kind + 1 && t->address == s->address && t->method == s->method &&
+           t->version == s->version && t->number == s->number && t->maker == s->maker && t->meter_type == s->type &&
+           t->access == s->access && t->status == s->status && t->count == s->count;
+}
+
+void hold_telegram(const struct lent *l, const struct second_telegram *s)
+{
+    struct skarrowith_telegram t;
+    memcpy(&t, l->proved, sizeof t);
+    if (!is_telegram(&t, s))
+        fail("a field of the telegram's struct is another");
+}
+
+void hold_exchange(const struct lent *l, const struct second_exchange *s)
+{
+    struct skarrowith_exchange x;
+    int has_cause = s->state == SECOND_RESEND || s->state == SECOND_FAILED;
+    unsigned cause = has_cause ? (unsigned)s->cause + 1 : 0;
+    memcpy(&x, l->proved, sizeof x);
+    if (x.kind != (unsigned)s->request.kind + 1 || x.address != s->request.address || x.state != (unsigned)s->state + 1 ||
+        x.cause != cause || x.sends != s->sends || x.began != s->began || x.last != s->last ||
+        (x.kind == SKARROWITH_ENTER && x.method != s->request.method))
+        fail("a field of the exchange's struct is another");
+}
+
+void hold_meter(const struct lent *l, const struct second_meter *s)
+{
+    struct skarrowith_meter m;
+    memcpy(&m, l->proved, sizeof m);
+    if (m.last != s->last || m.address != s->address || m.mode != (unsigned)s->is_verifying ||
+        m.used.volume != s->use[0] || m.used.energy != s->use[1] || m.verified.volume != s->verification[0] ||
+        m.verified.energy != s->verification[1] || !is_telegram(&m.data, &s->template) ||
+        (s->is_verifying && (m.method != s->method || m.since != s->instructed)))
+        fail("a field of the meter's struct is another");
+}
