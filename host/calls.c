@@ -13,9 +13,6 @@
 #include <string.h>
 #include <ucontext.h>
 
-/* The crate counted: reading without a record, for measuring only. */
-uint32_t counted_read(const uint16_t *line, size_t len);
-
 enum { MOST = 65536, ROWS = 512 };
 
 static uint8_t bytes[2 * MOST], text[MOST];
@@ -28,8 +25,7 @@ static struct skarrowith_telegram telegram;
 
 static uint32_t check(void) { return skarrowith_check_line(bytes, 2 * count); }
 static uint32_t words(void) { return skarrowith_refusal_text(9, (char *)text, sizeof text); }
-static uint32_t read_line(void) { return counted_read(characters, count); }
-static uint32_t record_line(void) { return skarrowith_read_line(characters, count, &telegram, sizeof telegram); }
+static uint32_t read_line(void) { return skarrowith_read_line(characters, count, &telegram, sizeof telegram); }
 static uint32_t find(void) { return skarrowith_find_line(characters, count, &found, sizeof found); }
 static uint32_t check_bundle(void) { return skarrowith_bundle_check(bytes, count, &told); }
 static uint32_t list_bundle(void) { return skarrowith_bundle_list(bytes, count, text, sizeof text, &told); }
@@ -154,7 +150,6 @@ static const struct {
     {"noise-500", put_noise_500, check, second_check},
     {"words", put_ack, words, NULL},
     {"read-data", put_data, read_line, second_check},
-    {"record-data", put_data, record_line, NULL},
     {"search-data", put_data, find, NULL},
     {"find-noise", put_noise, find, NULL},
     {"find-starts", put_starts, find, NULL},

@@ -137,7 +137,8 @@ uint32_t skarrowith_write_line(const struct skarrowith_telegram *telegram, size_
 
 /*
  * Writes a request: SKARROWITH_READ, SKARROWITH_ENTER with its method, or SKARROWITH_LEAVE, to an address, FE for all.
- * method is 0 for a read and a leave. Answers the number of characters, at most 10, or refuses by 20 or 21.
+ * method is 0 for a read and a leave. SKARROWITH_ACK with address and method 0 is written too. Answers the number of
+ * characters, at most 10, or refuses by 20 or 21.
  */
 uint32_t skarrowith_write_request(uint8_t kind, uint8_t address, uint8_t method, uint16_t *line, size_t places);
 

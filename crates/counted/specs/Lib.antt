@@ -1,2 +1,0 @@
--- A number for the answer that is counted.
-pub mod Numbers
