@@ -13,13 +13,23 @@ use Rattle.meter.specs.declared.Meter.{Meter}
 use Rattle.meter.specs.declared.Mode.{Mode}
 use Rattle.records.specs.Telegrams.{telegramBytes}
 use Rattle.template.specs.declared.Pair.{Pair}
-use Rattle.meter_record.specs.MeterRecords.{stateBytes, pairBytes, meterBytes}
+use Rattle.meter_record.specs.MeterRecords.{modeNumber, methodOf, sinceOf, stateBytes, pairBytes, meterBytes}
 
 -- eight bytes one by one
 eight-listed : (n : ℕ) {a : List ℕ} (r : List ℕ) → a ≡ bytesOf 8 n
     → at a 0 ∷ at a 1 ∷ at a 2 ∷ at a 3 ∷ at a 4 ∷ at a 5 ∷ at a 6 ∷ at a 7 ∷ r ≡ bytesOf 8 n ++ r
 unfolding bytesOf
 eight-listed n {a} r e = rw e
+
+pub state-listed : (last own : ℕ) (mode : Mode) {n k since : ℕ} {l s : List ℕ} → n ≡ modeNumber mode → k ≡ methodOf mode → since ≡ sinceOf mode
+    → l ≡ bytesOf 8 last → s ≡ bytesOf 8 since
+    → at l 0 ∷ at l 1 ∷ at l 2 ∷ at l 3 ∷ at l 4 ∷ at l 5 ∷ at l 6 ∷ at l 7 ∷ own ∷ n ∷ k ∷ 0 ∷ 0 ∷ 0 ∷ 0 ∷ 0 ∷ at s 0 ∷ at s 1 ∷ at s 2 ∷ at s 3 ∷ at s 4 ∷ at s 5 ∷ at s 6 ∷ at s 7 ∷ []
+    ≡ stateBytes last own mode
+state-listed last own mode {n} {k} en ek et el es =
+    let time = eight-listed (sinceOf mode) [] (es ∙ ap (bytesOf 8) et) ∙ append-nil (bytesOf 8 (sinceOf mode)) in
+    eight-listed last _ el
+    ∙ ap (λ (r : List ℕ). bytesOf 8 last ++ (own ∷ n ∷ k ∷ 0 ∷ 0 ∷ 0 ∷ 0 ∷ 0 ∷ r)) time
+    ∙ ap₂ (λ (x y : ℕ). bytesOf 8 last ++ (own ∷ x ∷ y ∷ 0 ∷ 0 ∷ 0 ∷ 0 ∷ 0 ∷ bytesOf 8 (sinceOf mode))) en ek
 
 pub pair-listed : (p : Pair) {a b : List ℕ} → a ≡ bytesOf 8 (p .volume) → b ≡ bytesOf 8 (p .energy)
     → at a 0 ∷ at a 1 ∷ at a 2 ∷ at a 3 ∷ at a 4 ∷ at a 5 ∷ at a 6 ∷ at a 7 ∷ at b 0 ∷ at b 1 ∷ at b 2 ∷ at b 3 ∷ at b 4 ∷ at b 5 ∷ at b 6 ∷ at b 7 ∷ []

@@ -1,6 +1,6 @@
 -- `meter_record::state_bytes` meets its contract. Assumes nothing.
 use borrow.Author.Needs.{needs}
-use Rattle.low_first.specs.Numbers.{bytesOf}
+use Rattle.meter_record.specs.Laying.{state-listed}
 use Rattle.meter_record.proofs.state_bytes.Statement.{statement}
 use Rattle.meter_record.proofs.state_bytes.Tie as tie
 
@@ -68,8 +68,7 @@ array-read-t57 : tie.Need-array-read-t57
 array-read-t57 c = search needs
 
 returns : tie.Need-returns
-unfolding bytesOf
-returns c = rw (c .bytes-of-eight2 .ensures, c .before .bytes-of-eight .ensures, c .before .before .since-of .ensures, c .before .before .before .method-of .ensures, c .before .before .before .before .mode-number .ensures)
+returns c = let args = c .before .before .before .before .before .args in state-listed (args .last) (args .own) (args .mode) (c .before .before .before .before .mode-number .ensures) (c .before .before .before .method-of .ensures) (c .before .before .since-of .ensures) (c .before .bytes-of-eight .ensures) (c .bytes-of-eight2 .ensures)
 
 pub state-bytes-spec : {M : Type 1} → statement M
 state-bytes-spec =
