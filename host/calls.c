@@ -20,6 +20,8 @@ static uint16_t characters[MOST];
 static size_t count, places = 4096, told;
 static struct skarrowith_found found;
 static struct skarrowith_telegram telegram;
+static struct skarrowith_exchange waiting, exchange;
+static struct skarrowith_meter set_up, meter;
 
 /* ---- what is called */
 
@@ -27,6 +29,20 @@ static uint32_t check(void) { return skarrowith_check_line(bytes, 2 * count); }
 static uint32_t words(void) { return skarrowith_refusal_text(9, (char *)text, sizeof text); }
 static uint32_t read_line(void) { return skarrowith_read_line(characters, count, &telegram, sizeof telegram); }
 static uint32_t find(void) { return skarrowith_find_line(characters, count, &found, sizeof found); }
+
+/* A step from a copy, so that each call finds the same state. */
+static uint32_t exchange_heard(void)
+{
+    exchange = waiting;
+    return skarrowith_exchange_heard(&exchange, sizeof exchange, characters, count, 1100, &telegram, sizeof telegram);
+}
+
+static uint32_t meter_heard(void)
+{
+    meter = set_up;
+    return skarrowith_meter_heard(&meter, sizeof meter, characters, count, 1100, &telegram, sizeof telegram);
+}
+
 static uint32_t check_bundle(void) { return skarrowith_bundle_check(bytes, count, &told); }
 static uint32_t list_bundle(void) { return skarrowith_bundle_list(bytes, count, text, sizeof text, &told); }
 static uint32_t none(void) { return (uint32_t)count; }
@@ -67,6 +83,21 @@ static void put_ack(void) { put(ack, sizeof ack); }
 static void put_request(void) { put(request, sizeof request); }
 static void put_enter(void) { put(enter, sizeof enter); }
 static void put_data(void) { put(data, sizeof data); }
+
+/* A read that waits for 000's data line, and a meter with that line as its template that is asked by a read. */
+static void put_waiting(void)
+{
+    put_data();
+    skarrowith_exchange_start(&waiting, sizeof waiting, SKARROWITH_READ, 0xFE, 0, 1000);
+}
+
+static void put_meter(void)
+{
+    put_data();
+    skarrowith_read_line(characters, count, &telegram, sizeof telegram);
+    skarrowith_meter_set_up(&set_up, sizeof set_up, 5, &telegram, sizeof telegram);
+    put_request();
+}
 
 static void put_odd_last(void)
 {
@@ -150,6 +181,8 @@ static const struct {
     {"noise-500", put_noise_500, check, second_check},
     {"words", put_ack, words, NULL},
     {"read-data", put_data, read_line, second_check},
+    {"hear-data", put_waiting, exchange_heard, NULL},
+    {"meter-read", put_meter, meter_heard, NULL},
     {"search-data", put_data, find, NULL},
     {"find-noise", put_noise, find, NULL},
     {"find-starts", put_starts, find, NULL},
