@@ -7,8 +7,8 @@
  *
  * Answers. Every function answers one number. Below 256 it is the answer, 0 where there is nothing to say;
  * SKARROWITH_REFUSED plus n is refusal n. On a refusal nothing that was lent has changed, and otherwise only the places
- * that are named have. Where several refusals apply, SKARROWITH_NO_RECORD goes first and then the lowest number, except
- * that a wake-up gives 52 before 21.
+ * that are named have. Where several refusals apply, the library's own (100, 101) go first and then the lowest number,
+ * except that a wake-up gives 52 before 21.
  *
  * Lent memory is a pointer and the number of its places; with 0 of them the pointer may be null. Output that is too short
  * for what is to be written is refused by 21; a longer one is changed in its first places alone. A count that is answered

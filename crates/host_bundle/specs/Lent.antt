@@ -2,16 +2,12 @@
 use Prim.Native.Nat.{ℕ, _+_}
 use mathlib.Core.Path.{_≡_}
 use Rattle.format.specs.Answers.{Answer, reads, refusal}
-use Rattle.records.specs.Lent.{told}
+use Rattle.records.specs.Lent.{told, done}
 
 -- The place holds the number; a refusal leaves it as it was.
 abbrev pub left : ℕ → Answer ℕ → ℕ
 left before (refusal n) = before
 left before (reads a) = a
-
--- where there is nothing to tell but that it was done
-abbrev pub done : {A : Type 0} → A → ℕ
-done a = 0
 
 -- 0, and the number in its place; or 256 plus the refusal number, and the place as it was.
 pub record Gives (a : Answer ℕ) (before r after : ℕ) : Type 0 where

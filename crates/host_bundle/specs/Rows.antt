@@ -10,13 +10,12 @@ use lib.ListN.{length, take, drop}
 use Rattle.format.specs.Lists.{at}
 use Rattle.format.specs.Answers.{Answer, reads, refusal}
 use Rattle.low_first.specs.Numbers.{number, bytesOf, number-bytes}
-use Rattle.records.specs.Lent.{told, stored, needs, stored-whole}
+use Rattle.records.specs.Lent.{told, done, stored, needs, stored-whole}
 use Rattle.bundle.specs.declared.Row.{Row}
 use Rattle.bundle.specs.declared.RowFound.{RowFound}
 use Rattle.bundle.specs.declared.RowFound.the-variants.{Fields, Refused}
 use Rattle.bundle.specs.Bundles.{rowAt}
 use Rattle.bundle.specs.Shown.{shownRow, shownRow-same}
-use Rattle.host_bundle.specs.Lent.{done}
 
 -- time 4 bytes; offset 4; body length 2; position; direction
 abbrev pub rowRecord : Row → List ℕ

@@ -34,9 +34,9 @@ use Rattle.indication.specs.Errors.{indicationOf, shownIndication}
 use Rattle.writing.specs.declared.Written.{Written}
 use Rattle.writing.specs.declared.Written.the-variants as writtens
 use Rattle.writing.specs.Answering as answering
-use Rattle.records.specs.Lent.{told, stored, needs, placed}
+use Rattle.records.specs.Lent.{told, done, stored, needs, placed}
 use Rattle.records.specs.Telegrams.{telegramSize, telegramBytes, telegramFrom, kindIn}
-use Rattle.host_lines.specs.Calls.{Leaves, done, spotBytes, findFor, readFor, kindOf, writeFor, requestFor, errorFor}
+use Rattle.host_lines.specs.Calls.{Leaves, spotBytes, findFor, readFor, kindOf, writeFor, requestFor, errorFor}
 
 -- ---- gap and wake-up
 

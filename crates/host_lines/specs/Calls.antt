@@ -25,10 +25,6 @@ pub record Leaves {A B : Type 0} (number : A → ℕ) (written : A → List B) (
   pub answer : r ≡ told number a
   pub left : after ≡ stored written before a
 
--- where there is nothing to tell but that it was done
-abbrev pub done : {A : Type 0} → A → ℕ
-done a = 0
-
 -- ---- what each call answers
 
 -- The record of a place: two numbers of eight bytes.

@@ -12,6 +12,10 @@ abbrev pub told : {A : Type 0} → (A → ℕ) → Answer A → ℕ
 told number (refusal n) = 256 + n
 told number (reads a) = number a
 
+-- where there is nothing to tell but that it was done
+abbrev pub done : {A : Type 0} → A → ℕ
+done a = 0
+
 -- What is written stands in the first places and nothing beyond; a refusal leaves everything as it was.
 abbrev pub stored : {A B : Type 0} → (A → List B) → List B → Answer A → List B
 stored written out (refusal n) = out

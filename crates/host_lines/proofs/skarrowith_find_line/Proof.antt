@@ -1,7 +1,8 @@
 -- `host_lines::skarrowith_find_line` meets its contract. Assumes nothing.
 use borrow.Author.Needs.{needs}
 use denote.Ref.{now}
-use Rattle.host_lines.specs.Calls.{done, spotBytes}
+use Rattle.records.specs.Lent.{done}
+use Rattle.host_lines.specs.Calls.{spotBytes}
 use Rattle.host_lines.specs.CallLaws.{none-found, one-found, placed-short, placed-whole}
 use mathlib.Core.Path.{refl}
 use Rattle.host_lines.proofs.skarrowith_find_line.Statement.{statement}
