@@ -12,9 +12,10 @@ use Rattle.format.specs.Lists.{any}
 use Rattle.format.specs.Characters.{over}
 use Rattle.format.specs.Answers.{Answer, reads, refusal, refuse, follow}
 use Rattle.format.specs.TestLaws.{none}
-use Rattle.bundle.specs.declared.Row.{Row}
+use Rattle.contents.specs.declared.Row.{Row}
 use Rattle.bundle.specs.Walks.{endOf}
-use Rattle.bundle.specs.Rows.{mostRows, rowsOf, wrongRow, timeOf, blankRow, rowIn, length-rows}
+use Rattle.contents.specs.Rows.{mostRows, rowsOf, blankRow, rowIn, length-rows}
+use Rattle.bundle.specs.Rows.{wrongRow, timeOf}
 use Rattle.format.specs.Host.{chars}
 use Rattle.bundle.specs.Bundles.{mostBytes, countOf, contentsOf, checkOf}
 use Rattle.bundle.specs.Accepted.{accepted-sound, row-there}

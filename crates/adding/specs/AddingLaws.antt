@@ -14,15 +14,19 @@ use Rattle.format.specs.Answers.{Answer, reads, refusal, refuse, within, follow
 use Rattle.format.specs.AnswerLaws.{reads-same}
 use Rattle.format.specs.Tests.{neither}
 use Rattle.format.specs.TestLaws.{none, not-refused, all-passed}
-use Rattle.bundle.specs.declared.Row.{Row}
+use Rattle.contents.specs.declared.Row.{Row}
 use Rattle.low_first.specs.Numbers.{number}
 use Rattle.bundle.specs.Walks.{someWrong, endOf}
-use Rattle.bundle.specs.Rows.{mostRows, rowsOf, wrongField, wrongRow, wrongRows, timeOf, firstOffset, nextOffset, wrongPlaces, blankRow, length-rows, places-right}
+use Rattle.contents.specs.Rows.{mostRows, rowsOf, firstOffset, blankRow, length-rows}
+use Rattle.bundle.specs.Rows.{wrongRow, wrongRows, timeOf, nextOffset, wrongPlaces, places-right}
 use Rattle.format.specs.Host.{chars}
-use Rattle.bundle.specs.Bundles.{mostBytes, countOf, contentsOf, bodiesOf, checkOf, bodyAt, placeOf}
+use Rattle.bundle.specs.Bundles.{mostBytes, countOf, contentsOf, bodiesOf, checkOf}
 use Rattle.bundle.specs.Records.{Recorded, recordsIn, recordsOf, rowFor, rowsFor, bodiesFor, bundleOf}
-use Rattle.bundle.specs.Accepted.{Sound, accepted-sound, sound-accepted, row-reads}
-use Rattle.bundle.specs.Stretches.{bytesAt}
+use Rattle.bundle.specs.Accepted.{Sound, accepted-sound, sound-accepted}
+use Rattle.ranges.specs.Fields.{wrongField}
+use Rattle.rows.specs.Handing.{bodyAt, placeOf}
+use Rattle.rows.specs.HandingLaws.{row-reads}
+use Rattle.rows.specs.Stretches.{bytesAt}
 use Rattle.adding.specs.Adding.{lastTime, grown, noRoom, addOf, held, room-left}
 use Rattle.adding.specs.Lists.{Each, IsByte, each-append, each-take, any-append, some-append}
 use Rattle.adding.specs.RecordLaws.{wrongRecord, recordTime, Timely, Good, contents-back, count-back, held-back, length-bundle, good-sound}

@@ -7,7 +7,7 @@ use Rattle.format.specs.Lists.{any}
 use Rattle.format.specs.Answers.{reads, refusal}
 use Rattle.low_first.specs.Numbers.{number, bytesOf}
 use Rattle.bundle.specs.Walks.{someWrong, endOf}
-use Rattle.bundle.specs.Rows.{rowsOf}
+use Rattle.contents.specs.Rows.{rowsOf}
 use Rattle.format.specs.Host.{chars}
 use Rattle.bundle.specs.Bundles.{checkOf}
 use Rattle.bundle.specs.Records.{recordsIn, rowsFor, bodiesFor, bytesOfRows}

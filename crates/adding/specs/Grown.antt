@@ -7,9 +7,9 @@ use native.Mathlib.Omega.{arith}
 use lib.ListN.{length, take, drop, length-append}
 use lib.Seq.{take-append-le, take-take, take-nil, drop-at, getD-take, length-take-le, slice}
 use Rattle.format.specs.Answers.{reads}
-use Rattle.bundle.specs.declared.Row.{Row}
+use Rattle.contents.specs.declared.Row.{Row}
 use Rattle.low_first.specs.Numbers.{bytesOf}
-use Rattle.bundle.specs.Rows.{mostRows, rowOf, rowsOf, firstOffset}
+use Rattle.contents.specs.Rows.{mostRows, rowOf, rowsOf, firstOffset}
 use Rattle.bundle.specs.Bundles.{mostBytes, countOf, contentsOf, bodiesOf, checkOf}
 use Rattle.bundle.specs.Records.{Recorded, recordsOf, rowFor, rowsFor, bodiesFor, bytesOfRow, bytesOfRows, bundleOf}
 use Rattle.bundle.specs.Accepted.{Sound, accepted-sound}

@@ -8,10 +8,11 @@ use native.Mathlib.Omega.{arith}
 use lib.Dec.{lit<}
 use lib.ListN.{length, take, drop, length-drop, take-append-drop}
 use lib.Seq.{length-take-le}
-use Rattle.bundle.specs.declared.Row.{Row}
+use Rattle.contents.specs.declared.Row.{Row}
 use Rattle.low_first.specs.Numbers.{number}
 use Rattle.bundle.specs.Walks.{someWrong, endOf}
-use Rattle.bundle.specs.Rows.{rowsOf, wrongRow, wrongRows, firstOffset, nextOffset, wrongPlaces, bodiesEnd, length-rows, places-right}
+use Rattle.contents.specs.Rows.{rowsOf, firstOffset, length-rows}
+use Rattle.bundle.specs.Rows.{wrongRow, wrongRows, nextOffset, wrongPlaces, bodiesEnd, places-right}
 use Rattle.bundle.specs.Bundles.{countOf, contentsOf, bodiesOf}
 use Rattle.bundle.specs.Records.{recordsIn, recordsOf, rowsFor, bodiesFor}
 use Rattle.bundle.specs.Accepted.{Sound}

@@ -10,10 +10,11 @@ use lib.ListN.{length, drop, length-append}
 use lib.Seq.{take-at, drop-at, drop-drop, take-append-seam, drop-append-seam}
 use Rattle.format.specs.Lists.{any}
 use Rattle.format.specs.Characters.{over}
-use Rattle.bundle.specs.declared.Row.{Row}
+use Rattle.contents.specs.declared.Row.{Row}
 use Rattle.low_first.specs.Numbers.{number, bytesOf, length-bytes, number-bytes}
 use Rattle.bundle.specs.Walks.{someWrong, endOf}
-use Rattle.bundle.specs.Rows.{mostRows, rowOf, rowsOf, wrongRow, wrongRows, firstOffset, wrongPlaces, bodiesEnd}
+use Rattle.contents.specs.Rows.{mostRows, rowOf, rowsOf, firstOffset}
+use Rattle.bundle.specs.Rows.{wrongRow, wrongRows, wrongPlaces, bodiesEnd}
 use Rattle.format.specs.Host.{chars}
 use Rattle.bundle.specs.Bundles.{mostBytes, countOf, contentsOf, bodiesOf}
 use Rattle.bundle.specs.Records.{Recorded, recordsIn, recordsOf, rowFor, rowsFor, bodiesFor, bytesOfRow, bytesOfRows, bundleOf}

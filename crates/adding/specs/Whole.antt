@@ -6,9 +6,10 @@ use mathlib.Core.Path.{_≡_, refl, sym, ap, ap₂, _∙_}
 use native.Mathlib.Omega.{arith}
 use lib.ListN.{length, getD, take, drop, length-drop, take-append-drop}
 use lib.Seq.{take-add, drop-drop, drop-cons, length-take-le}
-use Rattle.bundle.specs.declared.Row.{Row}
+use Rattle.contents.specs.declared.Row.{Row}
 use Rattle.low_first.specs.Numbers.{number, bytesOf}
-use Rattle.bundle.specs.Rows.{rowOf, rowsOf, firstOffset, nextOffset, wrongPlaces, places-right}
+use Rattle.contents.specs.Rows.{rowOf, rowsOf, firstOffset}
+use Rattle.bundle.specs.Rows.{nextOffset, wrongPlaces, places-right}
 use Rattle.bundle.specs.Bundles.{countOf, contentsOf}
 use Rattle.bundle.specs.Records.{recordsOf, bytesOfRow, bytesOfRows, bundleOf}
 use Rattle.bundle.specs.Accepted.{Sound}

@@ -6,9 +6,9 @@ use native.Mathlib.Numerals.{add-one}
 use native.Mathlib.Omega.{arith}
 use lib.ListN.{length, getD, take, drop, set, length-set, length-append, take-append-drop, List·getD-append, drop-of-length-le}
 use lib.Seq.{paste, paste-zero, paste-suc, slice, slice-empty, slice-cons, take-suc, set-at, take-all, length-take-le, getD-take, append-snoc, take-at, drop-at, drop-drop, drop-cons, length-slice}
-use Rattle.bundle.specs.declared.Row.{Row}
+use Rattle.contents.specs.declared.Row.{Row}
 use Rattle.low_first.specs.Numbers.{bytesOf, length-bytes}
-use Rattle.bundle.specs.Rows.{mostRows, rowOf, rowsOf, firstOffset, blankRow, rowIn, length-rows, row-at, row-in}
+use Rattle.contents.specs.Rows.{mostRows, rowOf, rowsOf, firstOffset, blankRow, rowIn, length-rows, row-at, row-in}
 use Rattle.bundle.specs.Bundles.{mostBytes}
 use Rattle.bundle.specs.Records.{bytesOfRow, bytesOfRows}
 use Rattle.adding.specs.HeldLaws.{moved, placed, length-placed}

@@ -7,18 +7,18 @@ ghost use Rattle.bundle.specs.Bundles.{mostBytes, contentsOf, checkOf};
 ghost use Rattle.adding.specs.Adding.{recorded, lastTime, held};
 ghost use Rattle.adding.specs.Shown.{Adds};
 use crate::bodies::move_bodies;
-use crate::contents::grow_contents;
+use crate::growing::grow_contents;
 use bundle::Checked;
 use bundle::MOST_BYTES;
-use bundle::MOST_ROWS;
-use bundle::Row;
-use bundle::checking::any_over;
 use bundle::checking::check;
-use bundle::contents::wrong_field;
-use bundle::reading::unchecked_row;
+use contents::MOST_ROWS;
+use contents::Row;
+use contents::unchecked_row;
+use ranges::any_over;
+use ranges::wrong_field;
 
 mod bodies;
-mod contents;
+mod growing;
 mod writing;
 
 // What became of adding: the bytes that the bundle then fills, or refused by 30 to 38.

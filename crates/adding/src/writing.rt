@@ -4,7 +4,7 @@ ghost use Prim.Native.Nat.{_+_, _≤_};
 ghost use lib.ListN.{length};
 ghost use Rattle.bundle.specs.Records.{bytesOfRow};
 ghost use Rattle.adding.specs.Writing.{pasted};
-use bundle::Row;
+use contents::Row;
 
 // The bytes stand in the buffer from a place on.
 pub(crate) fn put(buffer: &mut [u8], at: usize, bytes: &[u8])

@@ -1,23 +1,23 @@
--- What is known of a bundle that the check accepts, and what the readings of rows and bodies answer.
+-- What is known of a bundle that the check accepts.
 use Prim.Native.Nat.{ℕ, _+_, _*_, _≤_, _<_}
-use mathlib.Core.Bool.{Bool, true, false}
+use mathlib.Core.Bool.{Bool, false}
 use mathlib.Core.List.{List, [], _∷_}
-use mathlib.Core.Path.{_≡_, refl, sym, ap, _∙_}
+use mathlib.Core.Path.{_≡_, sym, ap, _∙_}
 use native.Mathlib.Omega.{arith}
-use borrow.Author.Tests.{ltb-false, le-ltb, lt-leb, le-leb, leb-false}
-use lib.Dec.{ltb, leb}
+use borrow.Author.Tests.{ltb-false, le-ltb}
+use lib.Dec.{ltb}
 use lib.ListN.{length, getD, take, drop}
 use lib.Seq.{drop-drop}
 use Rattle.format.specs.Lists.{any}
 use Rattle.format.specs.Characters.{over}
-use Rattle.format.specs.Answers.{Answer, reads, refusal, refuse, within, follow}
+use Rattle.format.specs.Answers.{reads}
 use Rattle.format.specs.AnswerLaws.{reads-same}
-use Rattle.format.specs.TestLaws.{not-refused, all-passed, all-passing}
-use Rattle.bundle.specs.declared.Row.{Row}
+use Rattle.format.specs.TestLaws.{all-passed, all-passing}
 use Rattle.bundle.specs.Walks.{none-wrong, endOf}
-use Rattle.bundle.specs.Rows.{mostRows, rowOf, wrongRows, firstOffset, nextOffset, wrongPlace, wrongPlaces, bodiesEnd, blankRow, rowIn, length-rows, row-at, row-in, place-right}
+use Rattle.contents.specs.Rows.{mostRows, rowOf, firstOffset, blankRow, rowIn, length-rows, row-at, row-in}
+use Rattle.bundle.specs.Rows.{wrongRows, nextOffset, wrongPlace, wrongPlaces, bodiesEnd, place-right}
 use Rattle.format.specs.Host.{chars}
-use Rattle.bundle.specs.Bundles.{mostBytes, countOf, contentsOf, bodiesOf, checkOf, rowAt, bodyAt, placeOf, Place}
+use Rattle.bundle.specs.Bundles.{mostBytes, countOf, contentsOf, bodiesOf, checkOf}
 
 -- none of the refusals applies
 pub record Sound (b : List ℕ) : Type 0 where
@@ -89,58 +89,9 @@ body-inside b i s h =
     (omega (arith, length-rows (countOf b) (drop 2 b)))) in
     omega (arith, p)
 
--- What is answered of a row: the check's refusal, 39, or the row.
-module _ (b : List ℕ) (i : ℕ) where
-  pub row-refused : (k : ℕ) → checkOf b ≡ refusal k → rowAt b i ≡ refusal k
-  unfolding rowAt
-  row-refused k e = rw e
-
-  pub row-none : (n : ℕ) → checkOf b ≡ reads n → n ≤ i → rowAt b i ≡ refusal 39
-  unfolding rowAt
-  row-none n e h = rw (e, le-leb n i h)
-
-  pub row-reads : (n : ℕ) → checkOf b ≡ reads n → i < n → rowAt b i ≡ reads (getD (contentsOf b) i blankRow)
-  unfolding rowAt
-  row-reads n e h = rw (e, lt-leb n i h)
-
-  pub row-found : (n : ℕ) → checkOf b ≡ reads n → i < n → rowAt b i ≡ reads (rowOf (drop (2 + 12 * i) b))
-  row-found n e h =
-      row-reads n e h ∙ ap reads (row-at (countOf b) i (drop 2 b) (omega (arith, accepted-sound b n e .1)) ∙ ap rowOf (drop-drop (12 * i) 2 b))
-
-  -- the row that is read without the check
-  pub row-there : (n : ℕ) → checkOf b ≡ reads n → i < n → rowIn b i ≡ getD (contentsOf b) i blankRow
-  row-there n e h =
-      let s = accepted-sound b n e in
-      row-in b i (omega (arith, s .0 .few, s .1)) (omega (arith, s .0 .whole, s .1))
-      ∙ sym (row-at (countOf b) i (drop 2 b) (omega (arith, s .1)) ∙ ap rowOf (drop-drop (12 * i) 2 b))
-
-  pub row-unchecked : (n : ℕ) → checkOf b ≡ reads n → i < n → rowAt b i ≡ reads (rowIn b i)
-  row-unchecked n e h = row-reads n e h ∙ ap reads (sym (row-there n e h))
-
-  -- a row that is found lies whole in the bundle, and so does its body
-  pub row-inside : (n : ℕ) → checkOf b ≡ reads n → i < n → 2 + 12 * i + 12 ≤ length b
-  row-inside n e h = let s = accepted-sound b n e in omega (arith, s .0 .whole, s .1)
-
-  pub found-inside : (r : Row) → rowAt b i ≡ reads r → r .offset + r .length ≤ length b
-  unfolding rowAt
-  found-inside r e = go (checkOf b) refl e
-    where
-      pick : (n : ℕ) (t : Bool) → checkOf b ≡ reads n → leb n i ≡ t → refuse 39 t (reads (getD (contentsOf b) i blankRow)) ≡ reads r → r .offset + r .length ≤ length b
-      pick n true f h g = absurd (not-refused g)
-      pick n false f h g =
-          let s = accepted-sound b n f in
-          let same : r ≡ getD (contentsOf b) i blankRow = cc in
-          rw same (body-inside b i (s .0) (omega (arith, leb-false n i h, s .1)))
-
-      go : (a : Answer ℕ) → checkOf b ≡ a → follow a (λ n. refuse 39 (leb n i) (reads (getD (contentsOf b) i blankRow))) ≡ reads r → r .offset + r .length ≤ length b
-      go (refusal k) f g = absurd (not-refused g)
-      go (reads n) f g = pick n (leb n i) f refl g
-
-  pub place-inside : (p : Place) → bodyAt b i ≡ reads p → p .offset + p .size ≤ length b
-  place-inside p e = go (rowAt b i) refl e
-    where
-      go : (a : Answer Row) → rowAt b i ≡ a → within placeOf a ≡ reads p → p .offset + p .size ≤ length b
-      go (refusal k) f g = absurd (not-refused g)
-      go (reads r) f g =
-          let same : placeOf r ≡ p = cc in
-          rw (← same) (found-inside r f)
+-- The row that is read without the check.
+pub row-there : (b : List ℕ) (i n : ℕ) → checkOf b ≡ reads n → i < n → rowIn b i ≡ getD (contentsOf b) i blankRow
+row-there b i n e h =
+    let s = accepted-sound b n e in
+    row-in b i (omega (arith, s .0 .few, s .1)) (omega (arith, s .0 .whole, s .1))
+    ∙ sym (row-at (countOf b) i (drop 2 b) (omega (arith, s .1)) ∙ ap rowOf (drop-drop (12 * i) 2 b))

@@ -2,9 +2,9 @@
 use Prim.Native.Nat.{ℕ, _+_}
 use mathlib.Core.List.{List, [], _∷_, _++_}
 use lib.ListN.{length, take, drop}
-use Rattle.bundle.specs.declared.Row.{Row}
+use Rattle.contents.specs.declared.Row.{Row}
 use Rattle.low_first.specs.Numbers.{bytesOf}
-use Rattle.bundle.specs.Rows.{firstOffset}
+use Rattle.contents.specs.Rows.{firstOffset}
 use Rattle.bundle.specs.Bundles.{contentsOf, bodiesOf}
 
 -- What was sent or heard at a position, the start of its first character, and its bytes.

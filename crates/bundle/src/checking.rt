@@ -1,26 +1,40 @@
 // Checking a bundle.
 ghost use mathlib.Core.Path.{_≡_};
-ghost use Rattle.format.specs.Lists.{any};
-ghost use Rattle.format.specs.Characters.{over};
-ghost use Rattle.format.specs.Host.{chars};
-ghost use Rattle.bundle.specs.Bundles.{checkOf};
+ghost use Prim.Native.Nat.{_≤_};
+ghost use lib.ListN.{length};
+ghost use Rattle.contents.specs.Rows.{mostRows, firstOffset};
+ghost use Rattle.bundle.specs.Bundles.{checkRows, checkOf};
 ghost use Rattle.bundle.specs.Shown.{shownChecked};
 use crate::Checked;
 use crate::MOST_BYTES;
-use crate::MOST_ROWS;
-use crate::contents::walk_bodies;
-use crate::contents::wrong_rows;
-use crate::numbers::two;
+use crate::walk::walk_rows;
+use contents::MOST_ROWS;
+use low_first::two;
+use ranges::any_over;
 
-// A character of the bodies is over 511: its second byte is over 1.
-pub fn any_over(bodies: &[u8]) -> bool
-    ensures { λ r. ⌜ r ≡ any over (chars (now (bodies .entry))) ⌝ }
+// The number of rows, or the lowest of 34 to 37 that applies to them and their bodies.
+fn check_rows(bundle: &[u8], count: usize) -> Checked
+    requires { ⌜ (count ≤ mostRows) × (firstOffset count ≤ length (now bundle)) ⌝ }
+    ensures { λ r. ⌜ r ≡ shownChecked (checkRows count (now (bundle .entry))) ⌝ }
 {
-    let mut found = false;
-    for i in 0..bodies.len() / 2 {
-        found = found | (1 < bodies[2 * i + 1]);
+    let walk = walk_rows(bundle, count);
+    let field = walk.field;
+    if field {
+        return Checked::Refused(34);
     }
-    found
+    let place = walk.place;
+    if place {
+        return Checked::Refused(35);
+    }
+    let more = walk.end < bundle.len();
+    if more {
+        return Checked::Refused(36);
+    }
+    let wide = any_over(&bundle[2 + 12 * count..]);
+    if wide {
+        return Checked::Refused(37);
+    }
+    Checked::Rows(count)
 }
 
 // The number of rows, or the lowest refusal that applies to the whole bundle.
@@ -35,32 +49,14 @@ pub fn check(bundle: &[u8]) -> Checked
     if short {
         return Checked::Refused(31);
     }
-    let count = two(bundle, 0) as usize;
+    let count = two(bundle) as usize;
     let many = MOST_ROWS < count;
     if many {
         return Checked::Refused(32);
     }
-    let first = 2 + 12 * count;
-    let cut = bundle.len() < first;
+    let cut = bundle.len() < 2 + 12 * count;
     if cut {
         return Checked::Refused(33);
     }
-    let field = wrong_rows(bundle, count);
-    let places = walk_bodies(bundle, count);
-    let place = places.wrong;
-    if field {
-        return Checked::Refused(34);
-    }
-    if place {
-        return Checked::Refused(35);
-    }
-    let more = places.end < bundle.len();
-    if more {
-        return Checked::Refused(36);
-    }
-    let wide = any_over(&bundle[first..]);
-    if wide {
-        return Checked::Refused(37);
-    }
-    Checked::Rows(count)
+    check_rows(bundle, count)
 }

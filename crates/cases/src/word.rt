@@ -44,7 +44,7 @@ fn of_sort(sort: Sort) -> Word {
 }
 
 impl Word {
-    pub fn new() -> Word {
+    pub(crate) fn new() -> Word {
         of_sort(Sort::Nothing)
     }
 
@@ -69,7 +69,7 @@ impl Word {
         }
     }
 
-    pub fn with(self, b: u8) -> Word {
+    pub(crate) fn with(self, b: u8) -> Word {
         let sort = self.sort;
         match sort {
             Sort::Nothing => first(b),
@@ -81,11 +81,11 @@ impl Word {
     }
 
     // Whether it is a number or a name.
-    pub fn is_whole(self) -> bool {
+    pub(crate) fn is_whole(self) -> bool {
         0 < self.count
     }
 
-    pub fn is_name(self) -> bool {
+    pub(crate) fn is_name(self) -> bool {
         let sort = self.sort;
         match sort {
             Sort::Name => true,

@@ -203,7 +203,7 @@ module _ {rest : List ℕ} {at count : ℕ} {marks : List Bool} {entries : List 
       ∙ ap entriesShown (sym (walked-all h ∙ ap (λ (t : Bool). refuse 16 t (reads (take count entries))) e))
 
 -- the rest from a place on, as the code cuts it out
-pub rest-cut : (rest : List ℕ) (at : ℕ) → map byteOf (take (length rest - at) (drop at rest)) ≡ map byteOf (drop at rest)
+rest-cut : (rest : List ℕ) (at : ℕ) → map byteOf (take (length rest - at) (drop at rest)) ≡ map byteOf (drop at rest)
 rest-cut rest at = ap (map byteOf) (take-all (length rest - at) (drop at rest) (omega (arith, length-drop at rest)))
 
 -- one turn of the walk, on what the code was told of the entry: it is passed over, or it is what the rest is refused by

@@ -6,7 +6,7 @@ ghost use Prim.Native.Nat.{_+_, _≤_};
 ghost use lib.ListN.{length};
 ghost use Rattle.format.specs.Answers.{refusal, alone};
 ghost use Rattle.format.specs.Characters.{byteOf};
-ghost use Rattle.format.specs.Entries.{entryOf, entryWidth, unfit, valueOf, readEntries};
+ghost use Rattle.format.specs.Entries.{entryOf, unfit, valueOf, readEntries};
 ghost use Rattle.format.specs.Telegrams.{blankEntry, outcomeShown};
 ghost use Rattle.entries.specs.Walking.{entriesShown, unmarked};
 use entry::Tried;
@@ -18,7 +18,7 @@ use format::Value;
 use moments::moment_of;
 use parts::bytes::byte_at;
 use parts::digits::digits_of;
-use parts::quantities::width_of;
+use quantities::width_of;
 
 // The answer of reading entries. Where the outcome is a refusal, count and entries are blank.
 pub struct Entries {

@@ -11,8 +11,8 @@ ghost use Rattle.entry.specs.Trying.{Other, tried, triedShown, nextOf};
 use moments::wrong_moment;
 use parts::bytes::byte_at;
 use parts::digits::any_over_nine;
-use parts::quantities::is_packed;
-use parts::quantities::quantity_of;
+use quantities::is_packed;
+use quantities::quantity_of;
 
 // The quantity of an entry and the width of its value, or what the entry is refused by.
 pub enum Tried {

@@ -20,7 +20,7 @@ use Rattle.exchange.specs.declared.Cause.the-variants.{Silent}
 use Rattle.exchange.specs.declared.State.{State}
 use Rattle.exchange.specs.declared.State.the-variants.{Waiting, Resend, Well, Failed}
 use Rattle.exchange.specs.declared.Exchange.{Exchange}
-use Rattle.exchange.specs.Fits.{fits}
+use Rattle.replies.specs.Fits.{fits}
 use Rattle.exchange.specs.Steps.{mostSends, failed, causeOf, afterLine, afterTick, waits, asksResend, sending, moved, past, step-cases}
 use Rattle.exchange.specs.Histories.{Step, heard, tick, sent, answer, stands, next, run, noted, sendsMade, EndedWell}
 use Rattle.exchange.specs.Kept.{Kept, kept-step}

@@ -13,7 +13,7 @@ use Rattle.format.specs.Views.{viewed}
 use Rattle.exchange.specs.declared.State.{State}
 use Rattle.exchange.specs.declared.State.the-variants.{Waiting, Resend, Well, Failed}
 use Rattle.exchange.specs.declared.Exchange.{Exchange}
-use Rattle.exchange.specs.Fits.{fits}
+use Rattle.replies.specs.Fits.{fits}
 use Rattle.exchange.specs.Steps.{begun, heardIn, tickIn, sentIn}
 
 -- A step as a host takes it.

@@ -23,7 +23,7 @@ use Rattle.exchange.specs.declared.Exchange.{Exchange}
 use Rattle.exchange.specs.declared.Stepped.{Stepped}
 use Rattle.exchange.specs.declared.Stepped.the-variants.{To, Refused}
 use Rattle.exchange.specs.declared.Heard.{Heard}
-use Rattle.exchange.specs.Fits.{fits}
+use Rattle.replies.specs.Fits.{fits}
 
 -- ---- the state that comes next
 

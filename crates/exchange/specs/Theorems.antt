@@ -17,7 +17,7 @@ use Rattle.exchange.specs.declared.Cause.{Cause}
 use Rattle.exchange.specs.declared.State.{State}
 use Rattle.exchange.specs.declared.State.the-variants.{Waiting, Resend, Well, Failed}
 use Rattle.exchange.specs.declared.Exchange.{Exchange}
-use Rattle.exchange.specs.Fits.{fits}
+use Rattle.replies.specs.Fits.{fits}
 use Rattle.exchange.specs.Steps.{waits, asksResend, begun, moved, heardIn, heardOf, refusedBy, uncalled, past-window, line-taken}
 use Rattle.exchange.specs.Histories.{Step, heard, tick, sent, timeOf, answer, next, run, after, made, ended, EndedWell}
 use Rattle.exchange.specs.Kept.{Agrees, Kept, kept-begun, kept}

@@ -1,6 +1,8 @@
 // One exchange of document 01: a request, at most three sends of it, and how it ends.
+ghost use mathlib.Core.Bool.{cond};
 ghost use mathlib.Core.Path.{_≡_};
 ghost use Rattle.format.specs.Lines.{readLine};
+ghost use Rattle.format.specs.Telegrams.{blank};
 ghost use Rattle.exchange.specs.Steps.{endsWell, heardIn, heardOf, moved, sending, sentIn, shownStep, startOf, step, tickIn};
 use clock::Clock;
 use format::Kind;
@@ -17,7 +19,6 @@ use states::asks_resend;
 use states::waits;
 use views::view_of;
 
-pub mod fits;
 mod states;
 
 // Why a send failed: no line in time, a refused line, or an accepted line that does not fit.
@@ -91,6 +92,17 @@ fn ends_well(stepped: Stepped) -> bool
     }
 }
 
+// The reply of a reading: its telegram where it ended the exchange well, and the blank one where it did not.
+fn reply_of(reading: Reading, well: bool) -> Telegram
+    ensures { λ r. ⌜ r ≡ cond well (reading .telegram) blank ⌝ }
+{
+    if well {
+        return reading.telegram;
+    }
+    let none = plain(Kind::Ack, 0, 0);
+    none.telegram
+}
+
 impl Exchange {
     // A request's send has ended at t. Only the telegram's kind, address and method are looked at: whether it can be written
     // is the writer's to say.
@@ -158,12 +170,7 @@ impl Exchange {
         let view = view_of(reading);
         let stepped = self.seen(view, t);
         let well = ends_well(stepped);
-        if well {
-            let reply = reading.telegram;
-            return Heard { stepped, reply };
-        }
-        let none = plain(Kind::Ack, 0, 0);
-        let reply = none.telegram;
+        let reply = reply_of(reading, well);
         Heard { stepped, reply }
     }
 

@@ -3,9 +3,9 @@ ghost use mathlib.Core.Path.{_≡_};
 ghost use Rattle.exchange.specs.Steps.{afterLine, afterTick, asksResend, causeOf, failed, waits};
 use crate::Cause;
 use crate::State;
-use crate::fits::fits;
 use format::Request;
 use format::View;
+use replies::fits;
 
 // The most sends of one exchange.
 const MOST: u8 = 3;

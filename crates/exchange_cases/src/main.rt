@@ -1,11 +1,34 @@
 // Answers the cases `exchange` of docs/CASES.md.
-use cases::Run;
 use clock::Clock;
 use exchange::Exchange;
 use exchange::Stepped;
 
 mod put;
 mod steps;
+
+fn is_start(names: &[bool; 4096], values: &[u64; 4096], count: usize) -> bool {
+    cases::has_name(names, values, count, 0, b"exchange")
+        & cases::has_name(names, values, count, 1, b"start")
+}
+
+// The start of an exchange and the steps from a place on, and their answers.
+fn answer_exchange(
+    names: &[bool; 4096],
+    values: &[u64; 4096],
+    count: usize,
+    from: usize,
+    started: Stepped,
+    out: &mut [u8; 4096],
+    at: usize,
+) -> usize {
+    match started {
+        Stepped::Refused(n) => answers::put_refusal(out, at, n),
+        Stepped::To(x) => {
+            let said = put::put_exchange(out, at, x);
+            steps::answer_steps(names, values, count, from, x, out, said)
+        }
+    }
+}
 
 fn answer(
     names: &[bool; 4096],
@@ -14,19 +37,12 @@ fn answer(
     out: &mut [u8; 4096],
     at: usize,
 ) -> usize {
-    let is_named = cases::has_name(names, values, count, 0, b"exchange")
-        & cases::has_name(names, values, count, 1, b"start");
-    let t = cases::number_at(names, values, count, 2, u64::MAX);
     let taken = telegrams::take_telegram(names, values, count, 3);
-    let request = taken.telegram;
-    let is_start = is_named & t.is_there & taken.is_there;
-    if is_start & steps::is_history(names, values, count, taken.next) {
-        let started = Exchange::start(request, Clock(t.value));
-        let said = put::put_stepped(out, at, started);
-        return match started {
-            Stepped::Refused(_) => said,
-            Stepped::To(x) => steps::answer_steps(names, values, count, taken.next, x, out, said),
-        };
+    let is_whole = taken.is_there & steps::is_history(names, values, count, taken.next);
+    let t = cases::number_at(names, values, count, 2, u64::MAX);
+    if is_start(names, values, count) & t.is_there & is_whole {
+        let started = Exchange::start(taken.telegram, Clock(t.value));
+        return answer_exchange(names, values, count, taken.next, started, out, at);
     }
     answers::put_bad(out, at)
 }
@@ -43,8 +59,7 @@ fn main() {
             break;
         }
         let said = answer(&names, &values, run.count, &mut out, run.waiting);
-        let waiting = answers::end_line(&mut out, said);
-        run = Run { waiting, ..run };
+        run.waiting = answers::end_line(&mut out, said);
     }
     answers::write_out(&out, run.waiting);
 }

@@ -3,7 +3,6 @@ use answers::put_decimal;
 use answers::put_text;
 use exchange::Cause;
 use exchange::Exchange;
-use exchange::Heard;
 use exchange::State;
 use exchange::Stepped;
 use format::Telegram;
@@ -16,58 +15,51 @@ fn put_cause(out: &mut [u8; 4096], at: usize, cause: Cause) -> usize {
     }
 }
 
+fn put_resend(out: &mut [u8; 4096], at: usize, cause: Cause) -> usize {
+    let named = put_text(out, at, b"resend");
+    put_cause(out, named, cause)
+}
+
+fn put_failed(out: &mut [u8; 4096], at: usize, cause: Cause) -> usize {
+    let named = put_text(out, at, b"failed");
+    put_cause(out, named, cause)
+}
+
 fn put_state(out: &mut [u8; 4096], at: usize, state: State) -> usize {
     match state {
         State::Waiting => put_text(out, at, b"waiting"),
-        State::Resend(cause) => {
-            let named = put_text(out, at, b"resend");
-            put_cause(out, named, cause)
-        }
+        State::Resend(cause) => put_resend(out, at, cause),
         State::Well => put_text(out, at, b"well"),
-        State::Failed(cause) => {
-            let named = put_text(out, at, b"failed");
-            put_cause(out, named, cause)
-        }
+        State::Failed(cause) => put_failed(out, at, cause),
     }
 }
 
-fn put_exchange(out: &mut [u8; 4096], at: usize, x: Exchange) -> usize {
+pub(crate) fn put_exchange(out: &mut [u8; 4096], at: usize, x: Exchange) -> usize {
     let state = x.state;
-    let began = x.began;
-    let last = x.last;
     let named = put_state(out, at, state);
     let counted = put_decimal(out, named, x.sends as u64);
-    let begun = put_decimal(out, counted, began.0);
-    put_decimal(out, begun, last.0)
+    let begun = put_decimal(out, counted, x.began.0);
+    put_decimal(out, begun, x.last.0)
 }
 
-pub fn put_stepped(out: &mut [u8; 4096], at: usize, stepped: Stepped) -> usize {
-    match stepped {
-        Stepped::Refused(n) => answers::put_refusal(out, at, n),
-        Stepped::To(x) => put_exchange(out, at, x),
-    }
+fn put_spaced(out: &mut [u8; 4096], at: usize, reply: Telegram) -> usize {
+    let spaced = answers::put(out, at, b' ');
+    telegrams::put_telegram(out, spaced, reply)
 }
 
-// The reply behind an exchange that has ended well.
-fn put_reply(out: &mut [u8; 4096], at: usize, state: State, reply: Telegram) -> usize {
+// The reply behind an exchange that the step has ended well.
+pub(crate) fn put_reply(
+    out: &mut [u8; 4096],
+    at: usize,
+    stepped: Stepped,
+    reply: Telegram,
+) -> usize {
+    let Stepped::To(x) = stepped else {
+        return at;
+    };
+    let state = x.state;
     match state {
-        State::Well => {
-            let spaced = put_text(out, at, b" ");
-            telegrams::put_telegram(out, spaced, reply)
-        }
+        State::Well => put_spaced(out, at, reply),
         _ => at,
-    }
-}
-
-pub fn put_heard(out: &mut [u8; 4096], at: usize, heard: Heard) -> usize {
-    let stepped = heard.stepped;
-    let reply = heard.reply;
-    let said = put_stepped(out, at, stepped);
-    match stepped {
-        Stepped::Refused(_) => said,
-        Stepped::To(x) => {
-            let state = x.state;
-            put_reply(out, said, state, reply)
-        }
     }
 }

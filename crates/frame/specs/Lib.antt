@@ -1,2 +1,3 @@
 -- What the functions of this crate answer in between.
 pub mod Forms
+pub mod Bodies

@@ -1,26 +1,23 @@
 -- Laws about the characters that bytes carry, as the check on bytes uses them.
 use Prim.Native.Nat.{ℕ, zero, suc, _+_, _*_, _-_, _/_, _%_, _≤_, _<_, zero-le}
-use mathlib.Core.Bool.{Bool, true, false, cond, not, _||_, or-true}
+use mathlib.Core.Bool.{Bool, true, false, not, _||_}
 use mathlib.Core.List.{List, [], _∷_, _++_, map}
 use mathlib.Core.Path.{_≡_, refl, sym, ap, ap₂, subst, _∙_}
-use native.Mathlib.Nat.{not-suc-le-zero}
 use native.Mathlib.Numerals.{add-one}
 use native.Mathlib.Omega.{arith}
 use borrow.Author.Tests.{eq-eqb, ne-eqb}
-use lib.Dec.{ltb, eqb}
-use lib.ListN.{length, getD, take, drop, set, replicate, length-set, length-map, List·getD-eq-default}
+use lib.Dec.{eqb}
+use lib.ListN.{length, getD, take, set, replicate, length-set, List·getD-eq-default}
 use lib.Seq.{take-all, take-suc, take-suc-set}
 use Rattle.format.specs.Lists.{at, any}
-use Rattle.format.specs.ListLaws.{Gathered, gathered-none, gathered-next, gathered-all, at-bytes}
+use Rattle.format.specs.ListLaws.{Gathered, gathered-next, gathered-all, at-bytes}
 use Rattle.format.specs.Characters.{over, odd, byteOf}
-use Rattle.format.specs.Answers.{reads, refusal}
 use Rattle.format.specs.Host.{chars, lineNumber, hostNumber}
 use Rattle.format.specs.Lines.{readBody, readFrame, readLine}
-use Rattle.format.specs.Telegrams.{ack}
 use Rattle.frame.specs.declared.Frame.{Frame}
 use Rattle.frame.specs.declared.Frame.the-variants.{Ack, Refused}
 use Rattle.frame.specs.Forms.{ShortCount, LongCount, Left, startShown, started}
-use Rattle.reading.specs.Bodies.{sound-line, frame-refused, frame-ack}
+use Rattle.frame.specs.Bodies.{sound-line, frame-refused, frame-ack}
 
 pub length-chars : (b : List ℕ) → length (chars b) ≡ length b / 2
 unfolding chars

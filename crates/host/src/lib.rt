@@ -9,10 +9,10 @@ ghost use Rattle.format.specs.Characters.{over, odd, byteOf};
 ghost use Rattle.format.specs.Host.{chars, lineNumber, hostNumber};
 ghost use Rattle.format.specs.Lines.{readBody, readFrame};
 ghost use Rattle.frame.specs.Forms.{ShortCount, LongCount};
+use checking::check_form;
+use checking::check_request;
 use frame::Frame;
 use frame::start_of;
-use reading::check::check_form;
-use reading::check::check_request;
 use scan::counts_odd;
 use scan::is_odd;
 

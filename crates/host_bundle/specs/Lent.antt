@@ -2,7 +2,7 @@
 use Prim.Native.Nat.{ℕ, _+_}
 use mathlib.Core.Path.{_≡_}
 use Rattle.format.specs.Answers.{Answer, reads, refusal}
-use Rattle.records.specs.Lent.{told, done}
+use Rattle.lent.specs.Lent.{told, done}
 
 -- The place holds the number; a refusal leaves it as it was.
 abbrev pub left : ℕ → Answer ℕ → ℕ

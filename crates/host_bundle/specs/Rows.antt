@@ -10,12 +10,12 @@ use lib.ListN.{length, take, drop}
 use Rattle.format.specs.Lists.{at}
 use Rattle.format.specs.Answers.{Answer, reads, refusal}
 use Rattle.low_first.specs.Numbers.{number, bytesOf, number-bytes}
-use Rattle.records.specs.Lent.{told, done, stored, needs, stored-whole}
-use Rattle.bundle.specs.declared.Row.{Row}
-use Rattle.bundle.specs.declared.RowFound.{RowFound}
-use Rattle.bundle.specs.declared.RowFound.the-variants.{Fields, Refused}
-use Rattle.bundle.specs.Bundles.{rowAt}
-use Rattle.bundle.specs.Shown.{shownRow, shownRow-same}
+use Rattle.lent.specs.Lent.{done, stored, needs, stored-whole, Leaves}
+use Rattle.contents.specs.declared.Row.{Row}
+use Rattle.rows.specs.declared.RowFound.{RowFound}
+use Rattle.rows.specs.declared.RowFound.the-variants.{Fields, Refused}
+use Rattle.rows.specs.Handing.{rowAt}
+use Rattle.rows.specs.Shown.{shownRow, shownRow-same}
 
 -- time 4 bytes; offset 4; body length 2; position; direction
 abbrev pub rowRecord : Row → List ℕ
@@ -26,9 +26,8 @@ abbrev pub rowInto : List ℕ → ℕ → List ℕ → Answer Row
 rowInto b i out = needs 12 out (rowAt b i)
 
 -- 0, and the row's record in the places lent for it; or 256 plus the refusal number, and they are as they were.
-pub record GivesRow (a : Answer Row) (before : List ℕ) (r : ℕ) (after : List ℕ) : Type 0 where
-  pub number : r ≡ told done a
-  pub places : after ≡ stored rowRecord before a
+abbrev pub GivesRow : Answer Row → List ℕ → ℕ → List ℕ → Type 0
+GivesRow a before r after = Leaves done rowRecord a before after r
 
 -- Laws: the record's size; too little room, and the two cases of the row.
 pub length-record : (r : Row) → length (rowRecord r) ≡ 12
@@ -55,15 +54,15 @@ fields-read r t o l = record {
 
 module _ (b : List ℕ) (i : ℕ) (out : List ℕ) where
   pub row-short : ltb (length out) 12 ≡ true → GivesRow (rowInto b i out) out (256 + 21) out
-  row-short e = record { number = rw e; places = rw e }
+  row-short e = record { answer = rw e; left = rw e }
 
   module _ {s : RowFound} (e : ltb (length out) 12 ≡ false) (f : s ≡ shownRow (rowAt b i)) where
     pub row-number : {n : ℕ} → s ≡ Refused n → GivesRow (rowInto b i out) out (256 + n) out
-    row-number {n} g = let a : rowAt b i ≡ refusal n = shownRow-same (rowAt b i) (refusal n) (sym f ∙ g) in record { number = rw (e, a); places = rw (e, a) }
+    row-number {n} g = let a : rowAt b i ≡ refusal n = shownRow-same (rowAt b i) (refusal n) (sym f ∙ g) in record { answer = rw (e, a); left = rw (e, a) }
 
     pub row-value : {r : Row} {x after : List ℕ} → s ≡ Fields r → x ≡ rowRecord r → after ≡ stored (λ w. w) out (needs (length x) out (reads x))
         → GivesRow (rowInto b i out) out 0 after
     row-value {r} g h k =
         let a : rowAt b i ≡ reads r = shownRow-same (rowAt b i) (reads r) (sym f ∙ g) in
         let room : length (rowRecord r) ≤ length out = omega (arith, length-record r, ltb-false (length out) 12 e) in
-        record { number = rw (e, a); places = rw (e, a) (stored-whole rowRecord r out h room k) }
+        record { answer = rw (e, a); left = rw (e, a) (stored-whole rowRecord r out h room k) }

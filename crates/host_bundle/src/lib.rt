@@ -4,19 +4,19 @@ ghost use Rattle.adding.specs.Adding.{recorded};
 ghost use Rattle.host_bundle.specs.Lent.{Gives};
 ghost use Rattle.host_bundle.specs.Rows.{rowInto, GivesRow};
 ghost use Rattle.host_bundle.specs.Bundled.{AddsIn, ListsIn};
+use crate::record::ROW_BYTES;
+use crate::record::record_of;
 use adding::Added;
 use adding::add;
 use bundle::Checked;
-use bundle::RowFound;
 use bundle::checking::check;
-use bundle::reading::row;
+use lent::store;
 use listing::Listed;
 use listing::list;
-use records::store;
-use rows::ROW_BYTES;
-use rows::record_of;
+use rows::RowFound;
+use rows::row;
 
-mod rows;
+mod record;
 
 // 0 and the count of rows, or 256 plus 30 to 37.
 #[no_mangle]

@@ -1,7 +1,7 @@
 -- 01, "The exchange", as C calls it: what start and the three steps answer, and what they leave in the records lent to them.
 use Prim.Native.Nat.{ℕ, _+_, _-_, _≤_}
 use mathlib.Core.Bool.{Bool, true, false, cond}
-use mathlib.Core.List.{List, _++_}
+use mathlib.Core.List.{List}
 use mathlib.Core.Path.{_≡_, refl, sym, ap, ap₂, subst, _∙_}
 use native.Mathlib.Nat.{sub-zero}
 use native.Mathlib.Omega.{arith}
@@ -15,6 +15,7 @@ use Rattle.format.specs.declared.Reading.{Reading}
 use Rattle.format.specs.declared.Telegram.{Telegram}
 use Rattle.format.specs.Answers.{Answer, reads, refusal, follow}
 use Rattle.format.specs.Lines.{readLine}
+use Rattle.format.specs.Lists.{at}
 use Rattle.format.specs.Telegrams.{bare, blank, shown}
 use Rattle.format.specs.Views.{viewed}
 use Rattle.exchange.specs.declared.State.{State}
@@ -24,10 +25,11 @@ use Rattle.exchange.specs.declared.Heard.{Heard}
 use Rattle.exchange.specs.declared.Stepped.{Stepped}
 use Rattle.exchange.specs.declared.Stepped.the-variants.{To, Refused}
 use Rattle.exchange.specs.Steps.{shownStep, isWell, endsWell, startOf, heardIn, heardOf, tickIn, sentIn}
-use Rattle.records.specs.Lent.{told, stored, needs, stored-whole}
-use Rattle.records.specs.Telegrams.{telegramSize, telegramBytes, kindIn}
-use Rattle.host_exchange.specs.Exchanges.{stateNumber, exchangeSize, exchangeBytes, exchangeFrom}
-use Rattle.host_exchange.specs.ExchangeLaws.{exchange-length, exchange-size}
+use Rattle.lent.specs.Lent.{Leaves, told, stored, needs, stored-whole}
+use Rattle.kinds.specs.Kinds.{kindIn}
+use Rattle.records.specs.Telegrams.{telegramSize, telegramBytes}
+use Rattle.exchange_record.specs.Exchanges.{stateNumber, exchangeSize, exchangeBytes, exchangeFrom}
+use Rattle.exchange_record.specs.ExchangeLaws.{exchange-length, exchange-size, state-told}
 
 -- ---- what each call answers
 
@@ -49,9 +51,8 @@ heardFor b line t reply = follow (exchangeFrom b) (λ x. needs telegramSize repl
 -- ---- what is left
 
 -- The answer is the number of the state as it then stands, and the record is that of the exchange as it then stands.
-pub record Answers (a : Answer Exchange) (before after : List ℕ) (r : ℕ) : Type 0 where
-  pub answer : r ≡ told (λ x. stateNumber (x .state)) a
-  pub left : after ≡ stored exchangeBytes before a
+abbrev pub Answers : Answer Exchange → List ℕ → List ℕ → ℕ → Type 0
+Answers a before after r = Leaves (λ x. stateNumber (x .state)) exchangeBytes a before after r
 
 -- The line's telegram is written where the line ended the exchange well, and nothing in any other case.
 abbrev pub replied : Answer Exchange → Telegram → List ℕ → List ℕ
@@ -93,9 +94,9 @@ pub kept-refused : (b : List ℕ) {s : Stepped} {n : ℕ} → s ≡ Refused n �
 kept-refused b e = rw e (record { answer = refl; left = refl })
 
 pub kept-to : (b : List ℕ) {s : Stepped} {x : Exchange} {w after : List ℕ} {r : ℕ} → s ≡ To x → w ≡ exchangeBytes x → exchangeSize ≤ length b
-    → after ≡ stored (λ c. c) b (needs (length w) b (reads w)) → r ≡ stateNumber (x .state) → Answers (answerOf s) b after r
+    → after ≡ stored (λ c. c) b (needs (length w) b (reads w)) → r ≡ at w 3 → Answers (answerOf s) b after r
 kept-to b {s} {x} e w h l n =
-    rw e (record { answer = n; left = stored-whole exchangeBytes x b w (omega (arith, exchange-length x)) l })
+    rw e (record { answer = n ∙ ap (λ (c : List ℕ). at c 3) w ∙ state-told x; left = stored-whole exchangeBytes x b w (omega (arith, exchange-length x)) l })
 
 -- and the length of the record stays
 pub kept-length : {a : Answer Exchange} {before after : List ℕ} {r : ℕ} → exchangeSize ≤ length before → Answers a before after r → length after ≡ length before
@@ -165,6 +166,18 @@ replied-well (reads x) u v out = go (isWell (x .state))
     go true = refl
     go false = refl
 
+-- a line on an exchange, by what keeping the answer left
+pub heard-line : (x : Exchange) (line : List ℕ) (t : Clock) {h : Heard} {b after out then : List ℕ} {r : ℕ} → h ≡ heardOf x (readLine line) t
+    → Hears (answerOf (h .stepped)) (h .reply) b after out then r → Hears (heardIn x (viewed (readLine line)) t) (shown (readLine line) .telegram) b after out then r
+heard-line x line t {h} {b} {after} {out} {then} {r} g k =
+    let next : Answer Exchange = heardIn x (viewed (readLine line)) t in
+    let answer : answerOf (h .stepped) ≡ next = shown-as next (h .stepped) (ap (λ (q : Heard). q .stepped) g) in
+    let reply : h .reply ≡ cond (endsWell (shownStep next)) (shown (readLine line) .telegram) blank = ap (λ (q : Heard). q .reply) g in
+    record {
+      step = subst (λ (q : Answer Exchange). Answers q b after r) answer (k .step);
+      reply = k .reply ∙ ap₂ (λ (q : Answer Exchange) (w : Telegram). replied q w out) answer reply ∙ replied-well next (shown (readLine line) .telegram) blank out;
+    }
+
 -- a line on a record that is refused, with a reply's record that is too short, and with one that is not
 module _ (b line : List ℕ) (t : ℕ) (out : List ℕ) {s : Stepped} (e : s ≡ shownStep (exchangeFrom b)) where
   abbrev Told : List ℕ → List ℕ → ℕ → Type 0
@@ -180,15 +193,8 @@ module _ (b line : List ℕ) (t : ℕ) (out : List ℕ) {s : Stepped} (e : s ≡
       let a : exchangeFrom b ≡ reads x = sym (shown-as (exchangeFrom b) s e) ∙ ap answerOf f in
       rw (a, h) (record { step = record { answer = refl; left = refl }; reply = refl })
 
-  pub hears-line : {x : Exchange} {h : Heard} {after then : List ℕ} {r : ℕ} → s ≡ To x → ltb (length out) telegramSize ≡ false
-      → h ≡ heardOf x (readLine line) (record { 0 = t }) → Hears (answerOf (h .stepped)) (h .reply) b after out then r → Told after then r
-  hears-line {x} {h} {after} {then} {r} f l g k =
+  pub hears-line : {x : Exchange} {after then : List ℕ} {r : ℕ} → s ≡ To x → ltb (length out) telegramSize ≡ false
+      → Hears (heardIn x (viewed (readLine line)) (record { 0 = t })) (shown (readLine line) .telegram) b after out then r → Told after then r
+  hears-line {x} f l k =
       let a : exchangeFrom b ≡ reads x = sym (shown-as (exchangeFrom b) s e) ∙ ap answerOf f in
-      let next : Answer Exchange = heardIn x (viewed (readLine line)) (record { 0 = t }) in
-      let answer : answerOf (h .stepped) ≡ next = shown-as next (h .stepped) (ap (λ (q : Heard). q .stepped) g) in
-      let reply : h .reply ≡ cond (endsWell (shownStep next)) (shown (readLine line) .telegram) blank = ap (λ (q : Heard). q .reply) g in
-      rw (a, l)
-      (record {
-        step = subst (λ (q : Answer Exchange). Answers q b after r) answer (k .step);
-        reply = k .reply ∙ ap₂ (λ (q : Answer Exchange) (w : Telegram). replied q w out) answer reply ∙ replied-well next (shown (readLine line) .telegram) blank out;
-      })
+      rw (a, l) k

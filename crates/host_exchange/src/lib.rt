@@ -1,25 +1,23 @@
 // The exchange for C: include/skarrowith.h says how.
-ghost use mathlib.Core.Path.{_≡_};
 ghost use Prim.Native.Nat.{_≤_};
 ghost use lib.ListN.{length};
 ghost use Rattle.format.specs.Lines.{readLine};
 ghost use Rattle.format.specs.Telegrams.{shown};
+ghost use Rattle.format.specs.Views.{viewed};
+ghost use Rattle.exchange.specs.Steps.{heardIn};
 ghost use Rattle.host_exchange.specs.Calls.{Answers, Hears, answerOf, startFor, tickFor, sentFor, heardFor};
 use clock::Clock;
 use exchange::Exchange;
-use exchange::Heard;
 use exchange::Stepped;
+use exchange_record::exchange_bytes;
+use exchange_record::exchange_from;
+use kinds::kind_in;
+use lent::store;
 use reading::body::plain;
-use record::exchange_bytes;
-use record::exchange_from;
-use record::state_number;
-use records::store;
-use records::telegrams::kind_in;
 use records::telegrams::telegram_bytes;
 
-mod record;
-
-// Keeps the exchange as it then stands in its record, and answers its state, or 256 plus the number by which the step was refused.
+// Keeps the exchange as it then stands in its record, and answers its state, the fourth byte, or 256 plus the number by which the
+// step was refused.
 fn keep(stepped: Stepped, kept: &mut [u8]) -> u32
     requires { ⌜ 24 ≤ length (now kept) ⌝ }
     ensures { λ r. ⌜ Answers (answerOf stepped) (now (kept .entry)) (now (kept .exit)) r ⌝ }
@@ -27,25 +25,24 @@ fn keep(stepped: Stepped, kept: &mut [u8]) -> u32
     match stepped {
         Stepped::Refused(n) => 256 + n as u32,
         Stepped::To(x) => {
-            let state = x.state;
             let bytes = exchange_bytes(x);
             store(&bytes, kept);
-            state_number(state) as u32
+            bytes[3] as u32
         }
     }
 }
 
-// Keeps what a line gave, the reply too where it ended the exchange well.
-fn keep_heard(heard: Heard, kept: &mut [u8], reply: &mut [u8]) -> u32
+// A line heard at t by the exchange as it stood: keeps it as it then stands, and the reply too where the line ended it well.
+fn hear(x: Exchange, line: &[u16], t: Clock, kept: &mut [u8], reply: &mut [u8]) -> u32
     requires { ⌜ (24 ≤ length (now kept)) × (136 ≤ length (now reply)) ⌝ }
-    ensures { λ r. ⌜ Hears (answerOf (heard .stepped)) (heard .reply) (now (kept .entry)) (now (kept .exit)) (now (reply .entry)) (now (reply .exit)) r ⌝ }
+    ensures { λ r. ⌜ Hears (heardIn x (viewed (readLine (now (line .entry)))) t) (shown (readLine (now (line .entry))) .telegram) (now (kept .entry)) (now (kept .exit)) (now (reply .entry)) (now (reply .exit)) r ⌝ }
 {
+    let heard = x.heard(line, t);
     let stepped = heard.stepped;
-    let telegram = heard.reply;
     let answer = keep(stepped, kept);
     let well = answer == 3;
     if well {
-        let bytes = telegram_bytes(telegram);
+        let bytes = telegram_bytes(heard.reply);
         store(&bytes, reply);
         return answer;
     }
@@ -125,8 +122,7 @@ pub extern "C" fn skarrowith_exchange_heard(
             if short {
                 return 256 + 21;
             }
-            let heard = x.heard(line, Clock(t));
-            keep_heard(heard, kept, reply)
+            hear(x, line, Clock(t), kept, reply)
         }
     }
 }

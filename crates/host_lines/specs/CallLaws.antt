@@ -1,97 +1,28 @@
 -- Laws: the ways out of each call.
-use Prim.Native.Nat.{ℕ, _+_, _≤_, _<_}
+use Prim.Native.Nat.{ℕ, _+_, _≤_}
 use mathlib.Core.Bool.{Bool, true, false}
-use mathlib.Core.List.{List, [], _∷_, _++_}
-use mathlib.Core.Path.{_≡_, refl, sym, ap, ap₂, subst, _∙_}
+use mathlib.Core.List.{List}
+use mathlib.Core.Path.{_≡_, refl, sym, ap, subst, _∙_}
 use native.Mathlib.Omega.{arith}
-use lib.IntN.{ℤ}
 use lib.Dec.{ltb}
-use lib.ListN.{length, drop, replicate, set, length-replicate}
-use lib.Seq.{set-split}
-use borrow.Author.Tests.{ltb-false}
-use Rattle.capture.specs.declared.Found.{Found}
-use Rattle.capture.specs.declared.Found.the-variants as founds
-use Rattle.capture.specs.Searching.{Spot, findIn, foundShown}
-use Rattle.clock.specs.declared.Gap.{Gap}
-use Rattle.clock.specs.declared.Gap.the-variants as gaps
-use Rattle.clock.specs.declared.Wake.{Wake}
-use Rattle.clock.specs.declared.Wake.the-variants as wakes
-use Rattle.clock.specs.Gaps.{shownGap}
-use Rattle.clock.specs.Wakes.{wakeCharacter, shownWake, held}
+use lib.ListN.{length}
 use Rattle.format.specs.declared.Kind.{Kind}
 use Rattle.format.specs.declared.Outcome.{Outcome}
 use Rattle.format.specs.declared.Outcome.the-variants.{Accepted, Refused}
 use Rattle.format.specs.declared.Reading.{Reading}
 use Rattle.format.specs.declared.Telegram.{Telegram}
-use Rattle.format.specs.Answers.{Answer, reads, refusal, refuse, follow, within}
+use Rattle.format.specs.Answers.{Answer, reads, refusal, refuse, within}
 use Rattle.format.specs.Lines.{readLine}
 use Rattle.format.specs.RoundTrip.{longest-line}
 use Rattle.format.specs.Telegrams.{bare, shown}
 use Rattle.format.specs.Writing.{lineOf, unwritable, writeLine, placesAfter}
-use Rattle.indication.specs.declared.Indication.{Indication}
-use Rattle.indication.specs.declared.Indication.the-variants as indications
-use Rattle.indication.specs.Errors.{indicationOf, shownIndication}
 use Rattle.writing.specs.declared.Written.{Written}
 use Rattle.writing.specs.declared.Written.the-variants as writtens
 use Rattle.writing.specs.Answering as answering
-use Rattle.records.specs.Lent.{told, done, stored, needs, placed}
-use Rattle.records.specs.Telegrams.{telegramSize, telegramBytes, telegramFrom, kindIn}
-use Rattle.host_lines.specs.Calls.{Leaves, spotBytes, findFor, readFor, kindOf, writeFor, requestFor, errorFor}
-
--- ---- gap and wake-up
-
-pub gap-refused : (a : Answer (Unit {0})) {g : Gap} {n : ℕ} → g ≡ shownGap a → g ≡ gaps.Refused n → 256 + n ≡ told done a
-gap-refused (refusal m) e f = cc
-gap-refused (reads u) e f = cc
-
-pub gap-fine : (a : Answer (Unit {0})) {g : Gap} → g ≡ shownGap a → g ≡ gaps.Fine → 0 ≡ told done a
-gap-fine (refusal m) e f = cc
-gap-fine (reads u) e f = refl
-
-wake-told : (a : Answer ℕ) {w : Wake} {n : ℕ} → w ≡ shownWake a → w ≡ wakes.Refused n → 256 + n ≡ told done a
-wake-told (refusal m) e f = cc
-wake-told (reads m) e f = cc
-
-wake-done : (a : Answer ℕ) {w : Wake} {n : ℕ} → w ≡ shownWake a → w ≡ wakes.Written n → 0 ≡ told done a
-wake-done (refusal m) e f = cc
-wake-done (reads m) e f = refl
-
-module _ (out : List ℕ) where
-  wake-held : (a : Answer ℕ) {after : List ℕ} → after ≡ held a out → after ≡ stored (λ n. replicate n wakeCharacter) out a
-  wake-held (refusal n) h = h
-  wake-held (reads n) h = h ∙ ap (λ (k : ℕ). replicate n wakeCharacter ++ drop k out) (sym (length-replicate n wakeCharacter))
-
-  pub wake-refused : (a : Answer ℕ) {after : List ℕ} {w : Wake} {n : ℕ} → w ≡ shownWake a → after ≡ held a out → w ≡ wakes.Refused n → Leaves done (λ n. replicate n wakeCharacter) a out after (256 + n)
-  wake-refused a e h f = record { answer = wake-told a e f; left = wake-held a h }
-
-  pub wake-written : (a : Answer ℕ) {after : List ℕ} {w : Wake} {n : ℕ} → w ≡ shownWake a → after ≡ held a out → w ≡ wakes.Written n → Leaves done (λ n. replicate n wakeCharacter) a out after 0
-  wake-written a e h f = record { answer = wake-done a e f; left = wake-held a h }
-
--- ---- the error of indication
-
-module _ (m1 m2 s1 s2 : ℕ) (out : List ℤ) where
-  pub error-short : ltb (length out) 1 ≡ true → Leaves done (λ e. e ∷ []) (errorFor m1 m2 s1 s2 out) out out (256 + 21)
-  error-short h = rw h (record { answer = refl; left = refl })
-
-  shows : (a : Answer ℤ) {i : Indication} {n : ℕ} → i ≡ shownIndication a → i ≡ indications.Refused n → a ≡ refusal n
-  shows (refusal m) e f = cc
-  shows (reads x) e f = let z : _≡_ {A = ℕ} 0 1 = cc in absurd (omega arith)
-
-  shows-error : (a : Answer ℤ) {i : Indication} {x : ℤ} → i ≡ shownIndication a → i ≡ indications.Error x → a ≡ reads x
-  shows-error (refusal m) e f = let z : _≡_ {A = ℕ} 0 1 = cc in absurd (omega arith)
-  shows-error (reads x) e f = cc
-
-  pub error-refused : ltb (length out) 1 ≡ false → {i : Indication} {n : ℕ} → i ≡ shownIndication (indicationOf m1 m2 s1 s2) → i ≡ indications.Refused n
-      → Leaves done (λ e. e ∷ []) (errorFor m1 m2 s1 s2 out) out out (256 + n)
-  error-refused h {i} {n} e f =
-      let a : indicationOf m1 m2 s1 s2 ≡ refusal n = shows (indicationOf m1 m2 s1 s2) e f in
-      rw (h, a) (record { answer = refl; left = refl })
-
-  pub error-told : ltb (length out) 1 ≡ false → {i : Indication} {x y : ℤ} → i ≡ shownIndication (indicationOf m1 m2 s1 s2) → i ≡ indications.Error x → y ≡ x
-      → Leaves done (λ e. e ∷ []) (errorFor m1 m2 s1 s2 out) out (set out 0 y) 0
-  error-told h {i} {x} {y} e f g =
-      let a : indicationOf m1 m2 s1 s2 ≡ reads x = shows-error (indicationOf m1 m2 s1 s2) e f in
-      rw (h, a) (record { answer = refl; left = ap (set out 0) g ∙ set-split out 0 x (omega (arith, ltb-false (length out) 1 h)) })
+use Rattle.lent.specs.Lent.{told, stored, needs, Leaves}
+use Rattle.kinds.specs.Kinds.{kindIn}
+use Rattle.records.specs.Telegrams.{telegramSize, telegramBytes, telegramFrom}
+use Rattle.host_lines.specs.Calls.{readFor, kindOf, writeFor, requestFor}
 
 -- ---- what is stored
 
@@ -119,31 +50,6 @@ module _ {A : Type 0} (number : A → ℕ) (written : A → List ℕ) (k : ℕ) 
   placed-whole s q =
       let so : ltb (length out) k ≡ false = test-so ∙ s in
       record { answer = rw so q; left = left-so }
-
--- ---- search
-
-found-none : (a : Answer Spot) {s : Found} {n : ℕ} → s ≡ foundShown a → s ≡ founds.Refused n → a ≡ refusal n
-found-none (refusal m) e f = cc
-found-none (reads p) e f = let z : _≡_ {A = ℕ} 0 1 = cc in absurd (omega arith)
-
-found-at : (a : Answer Spot) {s : Found} {p n : ℕ} → s ≡ foundShown a → s ≡ founds.At p n → a ≡ reads (record { place = p; length = n })
-found-at (refusal m) e f = let z : _≡_ {A = ℕ} 0 1 = cc in absurd (omega arith)
-found-at (reads q) {s} {p} {n} e f =
-    let place : q .place ≡ p = cc in
-    let length : q .length ≡ n = cc in
-    ap₂ (λ (i j : ℕ). reads (record { place = i; length = j })) place length
-
-module _ (capture out : List ℕ) {s : Found} (e : s ≡ foundShown (findIn capture)) where
-  pub none-found : {n : ℕ} → s ≡ founds.Refused n → Leaves done spotBytes (findFor capture out) out out (256 + n)
-  none-found {n} f =
-      let a : findIn capture ≡ refusal n = found-none (findIn capture) e f in
-      rw a (record { answer = refl; left = refl })
-
-  pub one-found : {p n : ℕ} → s ≡ founds.At p n → {after : List ℕ} {r : ℕ} → Leaves done spotBytes (needs 16 out (reads (record { place = p; length = n }))) out after r
-      → Leaves done spotBytes (findFor capture out) out after r
-  one-found {p} {n} f k =
-      let a : findIn capture ≡ reads (record { place = p; length = n }) = found-at (findIn capture) e f in
-      rw a k
 
 -- ---- reading
 

@@ -1,3 +1,3 @@
--- Lines, search, wake-up, gap and error of indication for C.
+-- What the calls on lines answer to C, and what they leave in memory that was lent to them.
 pub mod Calls
 pub mod CallLaws

@@ -1,79 +1,20 @@
-// Lines, search, wake-up, gap and error of indication for C: include/skarrowith.h says how.
-ghost use mathlib.Core.Path.{_≡_};
-ghost use mathlib.Core.List.{[], _∷_, _++_};
-ghost use lib.ListN.{length, replicate};
-ghost use Rattle.format.specs.Answers.{within};
+// Lines for C, read into a telegram's record and written from it: include/skarrowith.h says how.
+ghost use lib.ListN.{length};
 ghost use Rattle.format.specs.Writing.{writeLine};
-ghost use Rattle.clock.specs.Gaps.{gapOf};
-ghost use Rattle.clock.specs.Wakes.{wakeOf, wakeCharacter};
-ghost use Rattle.records.specs.Lent.{told, done};
+ghost use Rattle.lent.specs.Lent.{Leaves};
 ghost use Rattle.records.specs.Telegrams.{telegramBytes};
-ghost use Rattle.host_lines.specs.Calls.{Leaves, spotBytes, findFor, readFor, kindOf, writeFor, requestFor, errorFor};
-use capture::Found;
-use capture::find_line;
-use clock::Clock;
-use clock::Gap;
-use clock::Wake;
-use clock::write_wake;
+ghost use Rattle.host_lines.specs.Calls.{readFor, kindOf, writeFor, requestFor};
 use format::Outcome;
 use format::Telegram;
-use indication::Indication;
-use indication::error_of;
-use low_first::bytes_of_eight;
+use kinds::kind_in;
+use kinds::kind_number;
+use lent::store;
 use reading::body::plain;
 use reading::read_line;
-use records::store;
-use records::telegrams::kind_in;
-use records::telegrams::kind_number;
 use records::telegrams::telegram_bytes;
 use records::telegrams::telegram_from;
 use writing::Written;
 use writing::write_line;
-
-// The record of a place that was found.
-fn spot_bytes(place: usize, length: usize) -> [u8; 16]
-    ensures { λ r. ⌜ r ≡ spotBytes (record { place = place; length = length }) ⌝ }
-{
-    let p = bytes_of_eight(place as u64);
-    let l = bytes_of_eight(length as u64);
-    [
-        p[0],
-        p[1],
-        p[2],
-        p[3],
-        p[4],
-        p[5],
-        p[6],
-        p[7],
-        l[0],
-        l[1],
-        l[2],
-        l[3],
-        l[4],
-        l[5],
-        l[6],
-        l[7],
-    ]
-}
-
-// The lowest place of a capture at which an accepted line begins, with its length, both in characters.
-#[no_mangle]
-pub extern "C" fn skarrowith_find_line(capture: &[u16], found: &mut [u8]) -> u32
-    ensures { λ r. ⌜ Leaves done spotBytes (findFor (now (capture .entry)) (now (found .entry))) (now (found .entry)) (now (found .exit)) r ⌝ }
-{
-    let search = find_line(capture);
-    match search {
-        Found::Refused(n) => 256 + n as u32,
-        Found::At { place, length } => {
-            let bytes = spot_bytes(place, length);
-            let short = store(&bytes, found);
-            if short {
-                return 256 + 21;
-            }
-            0
-        }
-    }
-}
 
 // Reads a line into a telegram's record, and answers its kind.
 #[no_mangle]
@@ -136,48 +77,4 @@ pub extern "C" fn skarrowith_write_request(
     let request = plain(kind, address, method);
     let telegram = request.telegram;
     write(telegram, out)
-}
-
-// Writes a wake-up of so many characters.
-#[no_mangle]
-pub extern "C" fn skarrowith_write_wake(count: usize, out: &mut [u16]) -> u32
-    ensures { λ r. ⌜ Leaves done (λ n. replicate n wakeCharacter) (wakeOf count (now (out .entry))) (now (out .entry)) (now (out .exit)) r ⌝ }
-{
-    let wake = write_wake(count, out);
-    match wake {
-        Wake::Refused(n) => 256 + n as u32,
-        Wake::Written(_) => 0,
-    }
-}
-
-// Whether a command that begins at a time stands in the gap after a wake-up that ended at another.
-#[no_mangle]
-pub extern "C" fn skarrowith_gap(ended: u64, begins: u64) -> u32
-    ensures { λ r. ⌜ r ≡ told done (gapOf ended begins) ⌝ }
-{
-    let wake = Clock(ended);
-    let gap = wake.gap(Clock(begins));
-    match gap {
-        Gap::Refused(n) => 256 + n as u32,
-        Gap::Fine => 0,
-    }
-}
-
-// The error of indication in tenths of a percent.
-#[no_mangle]
-pub extern "C" fn skarrowith_error(m1: u64, m2: u64, s1: u64, s2: u64, tenths: &mut [i64]) -> u32
-    ensures { λ r. ⌜ Leaves done (λ e. e ∷ []) (errorFor m1 m2 s1 s2 (now (tenths .entry))) (now (tenths .entry)) (now (tenths .exit)) r ⌝ }
-{
-    let short = tenths.len() < 1;
-    if short {
-        return 256 + 21;
-    }
-    let indication = error_of(m1, m2, s1, s2);
-    match indication {
-        Indication::Refused(n) => 256 + n as u32,
-        Indication::Error(e) => {
-            tenths[0] = e;
-            0
-        }
-    }
 }

@@ -1,11 +1,10 @@
 -- The laws by which the code answers, and the law of the record: what a call leaves is read back as the same meter.
-use Prim.Native.Nat.{ℕ, _+_, _-_, _^_, _≤_, _<_}
+use Prim.Native.Nat.{ℕ, _+_, _-_, _≤_, _<_}
 use mathlib.Core.Bool.{true, false}
 use mathlib.Core.List.{List}
-use mathlib.Core.Path.{_≡_, refl, sym, ap, subst, _∙_}
+use mathlib.Core.Path.{_≡_, refl, sym, ap, _∙_}
 use native.Mathlib.Nat.{sub-zero}
 use native.Mathlib.Omega.{arith}
-use borrow.Author.Tests.{ltb-false}
 use lib.Dec.{ltb}
 use lib.ListN.{length, take, drop}
 use lib.Seq.{take-length}
@@ -14,7 +13,7 @@ use Rattle.format.specs.declared.Outcome.{Outcome}
 use Rattle.format.specs.declared.Outcome.the-variants as outcomes
 use Rattle.format.specs.declared.Reading.{Reading}
 use Rattle.format.specs.declared.Telegram.{Telegram}
-use Rattle.format.specs.Answers.{Answer, reads, refusal, follow}
+use Rattle.format.specs.Answers.{Answer, reads, refusal}
 use Rattle.format.specs.Host.{kindNumber}
 use Rattle.format.specs.Telegrams.{shown}
 use Rattle.meter.specs.declared.Meter.{Meter}
@@ -26,7 +25,7 @@ use Rattle.meter.specs.Meters.{Said, silence, says, Deed, setUp, heardAt, measu
 use Rattle.meter_record.specs.Keeping.{leaves}
 use Rattle.meter_record.specs.MeterRecords.{meterSize, meterBytes, meterFrom}
 use Rattle.meter_record.specs.Recalling.{read-size}
-use Rattle.records.specs.Lent.{told, stored, needs, stored-whole}
+use Rattle.lent.specs.Lent.{told, stored, needs, stored-whole}
 use Rattle.records.specs.Telegrams.{telegramSize, telegramBytes, telegramFrom}
 use Rattle.host_meter.specs.Calls.{setUpFor, heardFor, measureFor, saidNumber, SetsUp, Steps, saidBytes, Hears}
 
@@ -71,10 +70,6 @@ pub record Kept (s : Step) (before after : List ℕ) (r : ℕ) : Type 0 where
   pub answer : r ≡ numberBy (s .reply) (s .telegram)
   pub left : after ≡ keptBy (s .reply) (s .meter) before
 
-pub record KeptHeard (s : Step) (before after out then : List ℕ) (r : ℕ) : Type 0 where
-  pub step : Kept s before after r
-  pub said : then ≡ saidBy (s .reply) (s .telegram) out
-
 module _ (m : Meter) (t : Clock) where
   number-shown : (a : Answer Deed) → numberBy (shownStep m t a .reply) (shownStep m t a .telegram) ≡ told (λ (d : Deed). saidNumber (d .said)) a
   number-shown (refusal n) = refl
@@ -106,23 +101,16 @@ module _ (m : Meter) (t : Clock) where
     left = k .left ∙ ap (λ (x : Step). keptBy (x .reply) (x .meter) before) e ∙ kept-shown before a;
   }
 
-  hears-step : (a : Answer Deed) {s : Step} {before after out then : List ℕ} {r : ℕ} → s ≡ shownStep m t a → KeptHeard s before after out then r → Hears a t before after out then r
-  hears-step a {s} {before} {after} {out} e k = record {
-    step = steps a e (k .step);
-    said = k .said ∙ ap (λ (x : Step). saidBy (x .reply) (x .telegram) out) e ∙ said-shown out a;
+  pub hears-step : (a : Answer Deed) {s : Step} {before after out then : List ℕ} {r : ℕ} → s ≡ shownStep m t a
+      → Kept s before after r → then ≡ saidBy (s .reply) (s .telegram) out → Hears a t before after out then r
+  hears-step a {s} {before} {after} {out} e k said = record {
+    step = steps a e k;
+    said = said ∙ ap (λ (x : Step). saidBy (x .reply) (x .telegram) out) e ∙ said-shown out a;
   }
 
 -- ---- storing
 
--- the meter's record, in as many places as it needs
-pub kept-silent : (b : List ℕ) (m : Meter) {reply : Reply} {w after : List ℕ} → reply ≡ Silence → w ≡ meterBytes m → length w ≤ length b
-    → after ≡ stored (λ c. c) b (needs (length w) b (reads w)) → after ≡ keptBy reply m b
-kept-silent b m e n h l = rw e (stored-whole meterBytes m b n (rw n at h) l)
-
-pub kept-says : (b : List ℕ) (m : Meter) {reply : Reply} {w after : List ℕ} → reply ≡ Says → w ≡ meterBytes m → length w ≤ length b
-    → after ≡ stored (λ c. c) b (needs (length w) b (reads w)) → after ≡ keptBy reply m b
-kept-says b m e n h l = rw e (stored-whole meterBytes m b n (rw n at h) l)
-
+-- the answer's record, in as many places as it needs
 pub said-says : (b : List ℕ) (x : Telegram) {reply : Reply} {w after : List ℕ} → reply ≡ Says → w ≡ telegramBytes x → length w ≤ length b
     → after ≡ stored (λ c. c) b (needs (length w) b (reads w)) → after ≡ saidBy reply x b
 said-says b x e n h l = rw e (stored-whole telegramBytes x b n (rw n at h) l)
@@ -178,9 +166,9 @@ module _ (b : List ℕ) {s : Setup} (e : s ≡ shownSetup (meterFrom b)) where
     pub hears-short : s .outcome ≡ outcomes.Accepted → ltb (length out) telegramSize ≡ true → Hears (heardFor b line t out) t b b out out (256 + 21)
     hears-short f h = rw (is-read f, h) (record { step = record { answer = refl; left = refl }; said = refl })
 
-    pub hears-line : {u : Step} {after then : List ℕ} {r : ℕ} → s .outcome ≡ outcomes.Accepted → ltb (length out) telegramSize ≡ false
-        → u ≡ shownStep (s .meter) t (heardAt (s .meter) line t) → KeptHeard u b after out then r → Hears (heardFor b line t out) t b after out then r
-    hears-line f h g k = rw (is-read f, h) (hears-step (s .meter) t (heardAt (s .meter) line t) g k)
+    pub hears-line : {after then : List ℕ} {r : ℕ} → s .outcome ≡ outcomes.Accepted → ltb (length out) telegramSize ≡ false
+        → Hears (heardAt (s .meter) line t) t b after out then r → Hears (heardFor b line t out) t b after out then r
+    hears-line f h k = rw (is-read f, h) k
 
   module _ (v n : ℕ) (t : Clock) where
     pub measures-none : {k : ℕ} → s .outcome ≡ outcomes.Refused k → Steps (measureFor b v n t) t b b (256 + k)

@@ -9,7 +9,7 @@ use Rattle.meter.specs.declared.Meter.{Meter}
 use Rattle.meter.specs.Meters.{Said, silence, says, Deed, setUp, heardAt, measuredAt}
 use Rattle.meter_record.specs.Keeping.{leaves}
 use Rattle.meter_record.specs.MeterRecords.{meterSize, meterBytes, meterFrom}
-use Rattle.records.specs.Lent.{told, stored, needs}
+use Rattle.lent.specs.Lent.{stored, needs, done, Leaves}
 use Rattle.records.specs.Telegrams.{telegramSize, telegramBytes, telegramFrom}
 
 -- ---- what each call answers
@@ -34,14 +34,12 @@ saidNumber (says x) = kindNumber (x .kind)
 -- ---- what is left
 
 -- Set-up answers 0 and leaves the record of the meter that begins.
-pub record SetsUp (a : Answer Meter) (before after : List ℕ) (r : ℕ) : Type 0 where
-  pub answer : r ≡ told (λ m. 0) a
-  pub left : after ≡ stored meterBytes before a
+abbrev pub SetsUp : Answer Meter → List ℕ → List ℕ → ℕ → Type 0
+SetsUp a before after r = Leaves done meterBytes a before after r
 
 -- A step at t leaves the record of the meter as it then stands.
-pub record Steps (a : Answer Deed) (t : Clock) (before after : List ℕ) (r : ℕ) : Type 0 where
-  pub answer : r ≡ told (λ d. saidNumber (d .said)) a
-  pub left : after ≡ stored (λ d. meterBytes (leaves t d)) before a
+abbrev pub Steps : Answer Deed → Clock → List ℕ → List ℕ → ℕ → Type 0
+Steps a t before after r = Leaves (λ d. saidNumber (d .said)) (λ d. meterBytes (leaves t d)) a before after r
 
 -- A line that is answered leaves the record of that answer too, and silence nothing.
 abbrev pub saidBytes : Said → List ℕ

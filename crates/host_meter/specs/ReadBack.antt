@@ -1,8 +1,7 @@
 -- What a call leaves in the meter's record is read by the next call as the same meter.
 use Prim.Native.Nat.{ℕ, _^_, _≤_, _<_}
-use mathlib.Core.Bool.{true, false}
 use mathlib.Core.List.{List, _++_, append-nil}
-use mathlib.Core.Path.{_≡_, refl, sym, ap, subst, _∙_}
+use mathlib.Core.Path.{_≡_, refl, ap, _∙_}
 use native.Mathlib.Omega.{arith}
 use lib.Dec.{ltb}
 use lib.ListN.{length, take, drop, drop-of-length-le}
@@ -16,8 +15,8 @@ use Rattle.meter.specs.Meters.{Deed, setUp, heardAt, measuredAt}
 use Rattle.meter_record.specs.Keeping.{leaves, set-up-good, heard-good, measured-good}
 use Rattle.meter_record.specs.MeterRecords.{meterSize, meterBytes, meterFrom}
 use Rattle.meter_record.specs.Recalling.{read-size}
-use Rattle.meter_record.specs.RecordLaws.{Good, ReadFrom, meter-read, meter-written, seven-places}
-use Rattle.records.specs.Lent.{stored, needs}
+use Rattle.meter_record.specs.RecordLaws.{Good, meter-read, meter-written, seven-places}
+use Rattle.lent.specs.Lent.{stored, needs}
 use Rattle.records.specs.Telegrams.{telegramSize, telegramFrom}
 use Rattle.host_meter.specs.Calls.{setUpFor, heardFor, measureFor}
 

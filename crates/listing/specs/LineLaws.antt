@@ -1,6 +1,6 @@
 -- Laws about the lines of a listing, as the code that writes them uses them.
 use Prim.Native.Nat.{ℕ, _+_, _*_, _%_, _≤_, _<_, zero-le}
-use mathlib.Core.Bool.{Bool, false, _||_}
+use mathlib.Core.Bool.{false, _||_}
 use mathlib.Core.List.{List, [], _∷_, _++_, append-assoc, append-nil}
 use mathlib.Core.Path.{_≡_, refl, sym, ap, ap₂, _∙_}
 use native.Mathlib.Nat.{add-zero}
@@ -11,10 +11,12 @@ use lib.Dec.{ltb, eqb}
 use lib.ListN.{length, getD, take, drop, length-append}
 use lib.Seq.{take-suc, take-all, length-take-le}
 use Rattle.format.specs.Answers.{reads, refusal}
-use Rattle.bundle.specs.declared.Row.{Row}
+use Rattle.contents.specs.declared.Row.{Row}
 use Rattle.format.specs.Tests.{neither}
+use Rattle.ranges.specs.Fields.{wrongField}
 use Rattle.bundle.specs.Walks.{endOf, none-wrong}
-use Rattle.bundle.specs.Rows.{wrongField, wrongRow, timeOf, blankRow, rowIn, length-rows}
+use Rattle.contents.specs.Rows.{blankRow, rowIn, length-rows}
+use Rattle.bundle.specs.Rows.{wrongRow, timeOf}
 use Rattle.bundle.specs.Bundles.{countOf, contentsOf, checkOf}
 use Rattle.bundle.specs.Accepted.{Sound, accepted-sound, body-inside, row-there}
 use Rattle.listing.specs.declared.texts.Line.{Line}

@@ -1,35 +1,27 @@
 -- 01, "The run bundle", its last paragraph: the listing of a bundle.
 use Prim.Native.Nat.{ℕ}
-use mathlib.Core.Bool.{Bool, cond, not, _&&_}
+use mathlib.Core.Bool.{cond}
 use mathlib.Core.List.{List, [], _∷_, _++_}
 use lib.Dec.{eqb}
-use lib.ListN.{length, take, drop}
-use Rattle.format.specs.Lists.{any}
+use lib.ListN.{take, drop}
 use Rattle.format.specs.Answers.{Answer, reads, refusal}
-use Rattle.format.specs.Lines.{readLine}
-use Rattle.format.specs.Views.{viewed}
 use Rattle.format.specs.declared.Request.the-variants.{Read, Enter, Leave}
 use Rattle.format.specs.declared.View.{View}
 use Rattle.format.specs.declared.View.the-variants.{Refused, Ack, Asks, Data}
-use Rattle.clock.specs.Wakes.{wakeCharacter, outside}
-use Rattle.bundle.specs.declared.Row.{Row}
+use Rattle.column.specs.declared.Column.{Column}
+use Rattle.column.specs.declared.Column.the-variants.{Wake, Reads}
+use Rattle.column.specs.Columns.{columnOf}
+use Rattle.contents.specs.declared.Row.{Row}
 use Rattle.format.specs.Host.{chars}
 use Rattle.bundle.specs.Bundles.{contentsOf, checkOf}
 use Rattle.words.specs.Words.{text}
 use Rattle.listing.specs.Texts.{decimal}
 
--- wake: 459–502 characters, all 55 with parity 0
-abbrev pub noWake : ℕ → Bool
-noWake c = not (eqb c wakeCharacter)
-
-unfoldable pub isWake : List ℕ → Bool
-isWake line = not (outside (length line)) && not (any noWake line)
-
 -- or, say, refused 3
 abbrev pub refusedText : ℕ → List ℕ
 refusedText n = text "refused " ++ decimal n
 
--- the line column of what reading answers
+-- the word for what reading answers
 abbrev pub wordFor : View → List ℕ
 wordFor (Refused n) = refusedText n
 wordFor Ack = text "ack"
@@ -38,9 +30,13 @@ wordFor (Asks (Enter a s)) = text "enter"
 wordFor (Asks (Leave a)) = text "leave"
 wordFor (Data a) = text "data"
 
--- the line column: a wake-up is told before the line is read
+abbrev pub columnText : Column → List ℕ
+columnText Wake = text "wake"
+columnText (Reads view) = wordFor view
+
+-- the line column
 unfoldable pub wordOf : List ℕ → List ℕ
-wordOf line = cond (isWake line) (text "wake") (wordFor (viewed (readLine line)))
+wordOf line = columnText (columnOf line)
 
 -- direction 0 sent or 1 heard
 abbrev pub directionText : ℕ → List ℕ

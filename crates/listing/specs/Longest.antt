@@ -1,14 +1,14 @@
 -- The longest listing: 512 lines of 31 bytes behind the first, 15,901 bytes.
-use Prim.Native.Nat.{ℕ, zero, suc, _+_, _*_, _/_, _%_, _^_, _≤_, _<_, zero-le}
+use Prim.Native.Nat.{ℕ, zero, suc, _+_, _*_, _/_, _^_, _≤_, _<_, zero-le}
 use mathlib.Core.Bool.{Bool, true, false, cond, not}
 use mathlib.Core.List.{List, [], _∷_, _++_, map}
-use mathlib.Core.Path.{_≡_, refl, sym, ap, _∙_}
+use mathlib.Core.Path.{_≡_, refl}
 use native.Mathlib.Nat.{pow-suc, one-le-pow}
 use native.Mathlib.Omega.{arith}
 use borrow.Author.Tests.{eqb-false}
 use lib.Dec.{ltb, eqb}
 use lib.ListN.{length, getD, take, drop, length-append}
-use lib.Seq.{getD-drop, drop-drop}
+use lib.Seq.{getD-drop}
 use Rattle.format.specs.declared.Kind.{Kind}
 use Rattle.format.specs.declared.Kind.the-variants as kinds
 use Rattle.format.specs.declared.Entry.{Entry}
@@ -22,15 +22,18 @@ use Rattle.format.specs.Telegrams.{ack, readOf, dataOf}
 use Rattle.format.specs.Characters.{over, odd, byteOf}
 use Rattle.format.specs.Lines.{isAck, isShort, wrongStart, wrongCount, wrongLengths, wrongEnd, wrongSum, field, isCommand, isData, commandOf, readLong, readBody, readLine}
 use Rattle.format.specs.Views.{viewOf, viewed}
-use Rattle.bundle.specs.declared.Row.{Row}
+use Rattle.contents.specs.declared.Row.{Row}
 use Rattle.low_first.specs.Numbers.{number}
-use Rattle.bundle.specs.Rows.{mostRows, wrongRows, wrongPlaces, bodiesEnd, firstOffset, rowOf, blankRow, row-at, length-rows}
+use Rattle.contents.specs.Rows.{mostRows, firstOffset, blankRow, row-at, length-rows}
+use Rattle.bundle.specs.Rows.{wrongRows, wrongPlaces, bodiesEnd}
 use Rattle.format.specs.Host.{chars}
 use Rattle.bundle.specs.Bundles.{mostBytes, countOf, contentsOf, bodiesOf, checkOf}
-use Rattle.bundle.specs.Accepted.{Sound, accepted-sound}
+use Rattle.bundle.specs.Accepted.{accepted-sound}
 use Rattle.words.specs.Words.{text}
+use Rattle.column.specs.declared.Column.the-variants.{Wake, Reads}
+use Rattle.column.specs.Columns.{isWake, columnOf}
 use Rattle.listing.specs.Texts.{digitsIn, decimal, lastDigit}
-use Rattle.listing.specs.Listings.{isWake, wordFor, wordOf, directionText, rowText, bodyIn, lineFor, linesFor, listed, listingOf, firstLine, refusedText}
+use Rattle.listing.specs.Listings.{wordFor, columnText, wordOf, directionText, rowText, bodyIn, lineFor, linesFor, listed, listingOf, firstLine, refusedText}
 use Rattle.listing.specs.LineLaws.{row-range, count-rows, few-rows}
 
 -- ---- a number below 10 ^ k has at most k digits
@@ -138,8 +141,12 @@ chosen-short true a b n p q = p
 chosen-short false a b n p q = q
 
 line-short : (s : List ℕ) → length (wordOf s) ≤ 10
-unfolding wordOf
-line-short s = chosen-short (isWake s) (text "wake") (wordFor (viewed (readLine s))) 10 (omega arith) (word-short (line-small s))
+unfolding wordOf columnOf
+line-short s = go (isWake s)
+  where
+    go : (t : Bool) → length (columnText (cond t Wake (Reads (viewed (readLine s))))) ≤ 10
+    go true = omega arith
+    go false = word-short (line-small s)
 
 columns-short : (p d t w : List ℕ) → length p ≤ 2 → length d ≤ 5 → length t ≤ 10 → length w ≤ 10
     → length (p ++ (text "," ++ (d ++ (text "," ++ (t ++ (text "," ++ (w ++ text "\n"))))))) ≤ 31

@@ -8,7 +8,7 @@ use lib.ListN.{length, take, drop, set, replicate, length-set, length-append}
 use lib.Seq.{take-at, take-suc, take-all, take-suc-set, length-take-le}
 use Rattle.format.specs.Lists.{at}
 use Rattle.format.specs.Host.{chars}
-use Rattle.bundle.specs.Bodies.{length-characters, character-at}
+use Rattle.ranges.specs.Bodies.{length-characters, character-at}
 use Rattle.listing.specs.declared.texts.Line.{Line}
 
 -- bytes stand from a place on

@@ -6,9 +6,9 @@ ghost use lib.ListN.{length, take, drop};
 ghost use Rattle.format.specs.Answers.{reads};
 ghost use Rattle.format.specs.Host.{chars};
 ghost use Rattle.bundle.specs.Bundles.{contentsOf, checkOf};
-ghost use Rattle.bundle.specs.Rows.{rowIn};
+ghost use Rattle.contents.specs.Rows.{rowIn};
 ghost use Rattle.words.specs.Words.{text};
-ghost use Rattle.listing.specs.Listings.{isWake, refusedText, wordFor, wordOf, directionText, rowText, lineFor, linesFor};
+ghost use Rattle.listing.specs.Listings.{refusedText, wordFor, wordOf, directionText, rowText, lineFor, linesFor};
 ghost use Rattle.listing.specs.Writing.{textOf, Holds};
 use crate::texts::Line;
 use crate::texts::begin;
@@ -16,15 +16,12 @@ use crate::texts::blank;
 use crate::texts::put;
 use crate::texts::with;
 use crate::texts::with_number;
-use bundle::Row;
-use bundle::reading::unchecked_row;
-use clock::WAKE_CHARACTER;
-use clock::WAKE_LEAST;
-use clock::WAKE_MOST;
+use column::Column;
+use column::column_of;
+use contents::Row;
+use contents::unchecked_row;
 use format::Request;
 use format::View;
-use reading::read_line;
-use views::view_of;
 
 // The characters of a body, in the first places.
 fn characters(body: &[u8]) -> [u16; 502]
@@ -36,18 +33,6 @@ fn characters(body: &[u8]) -> [u16; 502]
         line[i] = body[2 * i] as u16 + 256 * body[2 * i + 1] as u16;
     }
     line
-}
-
-// The line is a wake-up.
-fn is_wake(line: &[u16]) -> bool
-    ensures { λ r. ⌜ r ≡ isWake (now (line .entry)) ⌝ }
-{
-    let outside = (line.len() < WAKE_LEAST) | (WAKE_MOST < line.len());
-    let mut other = false;
-    for i in 0..line.len() {
-        other = other | (line[i] != WAKE_CHARACTER);
-    }
-    !outside & !other
 }
 
 // The word refused and the number.
@@ -74,15 +59,14 @@ fn word_for(view: View) -> Line
     }
 }
 
-// The word for a line. A wake-up is told before the line is read.
+// The word for a line.
 fn word_of(line: &[u16]) -> Line
     ensures { λ r. ⌜ Holds 18 r (wordOf (now (line .entry))) ⌝ }
 {
-    let wake = is_wake(line);
-    if wake {
-        return begin(b"wake");
+    match column_of(line) {
+        Column::Wake => begin(b"wake"),
+        Column::Reads(view) => word_for(view),
     }
-    word_for(view_of(read_line(line)))
 }
 
 // Sent or heard, between commas.

@@ -66,8 +66,11 @@ abbrev pub modeAt : Clock → Mode → Mode
 modeAt t Use = Use
 modeAt t (Verifying s since) = cond (due (since .0) (t .0)) Use (Verifying s since)
 
+abbrev pub withMode : Core → Mode → Core
+withMode c m = record { address = c .address; mode = m; used = c .used; verified = c .verified; template = c .template }
+
 abbrev pub returned : Clock → Core → Core
-returned t c = record { address = c .address; mode = modeAt t (c .mode); used = c .used; verified = c .verified; template = c .template }
+returned t c = withMode c (modeAt t (c .mode))
 
 -- ---- instructions
 
@@ -96,7 +99,7 @@ entered t s c = record {
 
 -- Leave: ack; use mode; the totals stay.
 abbrev pub left : Core → Core
-left c = record { address = c .address; mode = Use; used = c .used; verified = c .verified; template = c .template }
+left c = withMode c Use
 
 -- Read: the access number goes up by one, 255 to 0, .. (an instruction that leaves the mode as it is counts as the last one)
 abbrev pub instructedAt : Clock → Mode → Mode
@@ -183,9 +186,13 @@ telegramOf (says t) = t
 abbrev pub takenAt : Clock → Deed → Step
 takenAt t d = record { meter = record { last = t; core = d .core }; reply = replyOf (d .said); telegram = telegramOf (d .said) }
 
+-- a step with no telegram but the ack, which is also the blank one
+abbrev pub plainStep : Meter → Reply → Step
+plainStep m r = record { meter = m; reply = r; telegram = blank }
+
 -- a refusal leaves the meter as it stood
 abbrev pub refusedStep : Meter → ℕ → Step
-refusedStep m n = record { meter = m; reply = replies.Refused n; telegram = blank }
+refusedStep m n = plainStep m (replies.Refused n)
 
 abbrev pub shownStep : Meter → Clock → Answer Deed → Step
 shownStep m t (refusal n) = refusedStep m n

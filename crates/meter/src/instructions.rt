@@ -1,8 +1,7 @@
 // What the return and each instruction make of a meter.
 ghost use mathlib.Core.Path.{_≡_};
 ghost use Rattle.format.specs.Telegrams.{ack};
-ghost use Rattle.template.specs.Templates.{sumOf, shownSum};
-ghost use Rattle.meter.specs.Meters.{modeAt, forceOf, clearedFrom, instructedAt, returned, inForce, withForce, entered, left, read, answer, addressOf, instructed, asked, hears, quiet, answers, takenAt};
+ghost use Rattle.meter.specs.Meters.{modeAt, forceOf, clearedFrom, instructedAt, returned, inForce, withForce, withMode, entered, read, answer, addressOf, instructed, asked, hears, quiet, answers, takenAt, plainStep};
 use crate::Core;
 use crate::Meter;
 use crate::Mode;
@@ -15,7 +14,6 @@ use format::Telegram;
 use format::View;
 use reading::body::plain;
 use template::Pair;
-use template::Sum;
 use template::data_with;
 use template::raised;
 
@@ -95,125 +93,72 @@ impl Mode {
 }
 
 impl Core {
+    // A step that says no more than ack, and leaves this meter with the time of its last step.
+    pub(crate) fn replies(self, last: Clock, reply: Reply) -> Step
+        ensures { λ r. ⌜ r ≡ plainStep (record { last = last; core = self }) reply ⌝ }
+    {
+        let telegram = acknowledgement();
+        Step {
+            meter: Meter { last, core: self },
+            reply,
+            telegram,
+        }
+    }
+
+    // The pair that is read and measured.
+    pub(crate) fn in_force(self) -> Pair
+        ensures { λ r. ⌜ r ≡ inForce self ⌝ }
+    {
+        let mode = self.mode;
+        mode.force(self.used, self.verified)
+    }
+
+    // A measure at t that gave these totals: they stand in the pair in force.
+    pub(crate) fn measured(self, totals: Pair, t: Clock) -> Step
+        ensures { λ r. ⌜ r ≡ takenAt t (quiet (withForce self totals)) ⌝ }
+    {
+        let mut core = self;
+        let mode = self.mode;
+        core.used = mode.force(totals, self.used);
+        core.verified = mode.force(self.verified, totals);
+        core.replies(t, Reply::Silence)
+    }
+
+    // The same meter in another mode.
+    fn with_mode(self, mode: Mode) -> Core
+        ensures { λ r. ⌜ r ≡ withMode self mode ⌝ }
+    {
+        Core { mode, ..self }
+    }
+
     // The return to use, where it is due at t.
     pub(crate) fn returned(self, t: Clock) -> Core
         ensures { λ r. ⌜ r ≡ returned t self ⌝ }
     {
         let before = self.mode;
         let mode = before.at(t);
-        Core { mode, ..self }
+        self.with_mode(mode)
     }
 
-    // A step at t without an answer.
-    pub(crate) fn silent(self, t: Clock) -> Step
-        ensures { λ r. ⌜ r ≡ takenAt t (quiet self) ⌝ }
-    {
-        let telegram = acknowledgement();
-        Step {
-            meter: Meter {
-                last: t,
-                core: self,
-            },
-            reply: Reply::Silence,
-            telegram,
-        }
-    }
-
-    // A step at t that is answered with ack.
-    fn acknowledges(self, t: Clock) -> Step
-        ensures { λ r. ⌜ r ≡ takenAt t (answers self ack) ⌝ }
-    {
-        let telegram = acknowledgement();
-        Step {
-            meter: Meter {
-                last: t,
-                core: self,
-            },
-            reply: Reply::Says,
-            telegram,
-        }
-    }
-
-    // The pair that is read and measured.
-    fn in_force(self) -> Pair
-        ensures { λ r. ⌜ r ≡ inForce self ⌝ }
-    {
-        let mode = self.mode;
-        let used = self.used;
-        let verified = self.verified;
-        mode.force(used, verified)
-    }
-
-    // The pair in force with amounts added, or 71.
-    pub(crate) fn plus(self, volume: u64, energy: u64) -> Sum
-        ensures { λ r. ⌜ r ≡ shownSum (sumOf (inForce self) volume energy) ⌝ }
-    {
-        let pair = self.in_force();
-        pair.plus(volume, energy)
-    }
-
-    // Other totals in the pair in force.
-    fn with_force(self, totals: Pair) -> Core
-        ensures { λ r. ⌜ r ≡ withForce self totals ⌝ }
-    {
-        let mode = self.mode;
-        let old_used = self.used;
-        let old_verified = self.verified;
-        let used = mode.force(totals, old_used);
-        let verified = mode.force(old_verified, totals);
-        Core {
-            used,
-            verified,
-            ..self
-        }
-    }
-
-    // A measure at t that gave these totals.
-    pub(crate) fn measured(self, totals: Pair, t: Clock) -> Step
-        ensures { λ r. ⌜ r ≡ takenAt t (quiet (withForce self totals)) ⌝ }
-    {
-        let core = self.with_force(totals);
-        core.silent(t)
-    }
-
-    // An enter at t.
-    fn entered(self, method: u8, t: Clock) -> Step
-        ensures { λ r. ⌜ r ≡ takenAt t (answers (entered t method self) ack) ⌝ }
+    // The meter after an enter at t.
+    fn entered(self, method: u8, t: Clock) -> Core
+        ensures { λ r. ⌜ r ≡ entered t method self ⌝ }
     {
         let before = self.mode;
-        let totals = self.verified;
-        let verified = before.cleared(totals);
-        let mode = Mode::Verifying(method, t);
-        let core = Core {
-            mode,
-            verified,
-            ..self
-        };
-        core.acknowledges(t)
+        let mut core = self.with_mode(Mode::Verifying(method, t));
+        core.verified = before.cleared(self.verified);
+        core
     }
 
-    // A leave at t.
-    fn left(self, t: Clock) -> Step
-        ensures { λ r. ⌜ r ≡ takenAt t (answers (left self) ack) ⌝ }
-    {
-        let mode = Mode::Use;
-        let core = Core { mode, ..self };
-        core.acknowledges(t)
-    }
-
-    // The access number and the time after a read at t.
+    // The meter after a read at t.
     fn read(self, t: Clock) -> Core
         ensures { λ r. ⌜ r ≡ read t self ⌝ }
     {
         let before = self.mode;
         let mode = before.instructed(t);
-        let shown = self.template;
-        let template = raised(shown);
-        Core {
-            mode,
-            template,
-            ..self
-        }
+        let mut core = self.with_mode(mode);
+        core.template = raised(self.template);
+        core
     }
 
     // The data that a read is answered with.
@@ -221,8 +166,7 @@ impl Core {
         ensures { λ r. ⌜ r ≡ answer self ⌝ }
     {
         let pair = self.in_force();
-        let template = self.template;
-        data_with(self.address, pair, template)
+        data_with(self.address, pair, self.template)
     }
 
     // A read at t.
@@ -243,9 +187,17 @@ impl Core {
         ensures { λ r. ⌜ r ≡ takenAt t (instructed t self request) ⌝ }
     {
         match request {
-            Request::Enter(_, method) => self.entered(method, t),
-            Request::Leave(_) => self.left(t),
-            Request::Read(_) => self.answered(t),
+            Request::Enter(_, method) => {
+                let core = self.entered(method, t);
+                return core.replies(t, Reply::Says);
+            }
+            Request::Leave(_) => {
+                let core = self.with_mode(Mode::Use);
+                return core.replies(t, Reply::Says);
+            }
+            Request::Read(_) => {
+                return self.answered(t);
+            }
         }
     }
 
@@ -256,21 +208,19 @@ impl Core {
         let address = address_of(request);
         let own = (address == BROADCAST) | (address == self.address);
         if own {
-            self.instructed(request, t)
-        } else {
-            self.silent(t)
+            return self.instructed(request, t);
         }
+        self.replies(t, Reply::Silence)
     }
 
-    // A line at t, by its view.
+    // A line at t, by its view, after the return.
     pub(crate) fn hears(self, view: View, t: Clock) -> Step
-        ensures { λ r. ⌜ r ≡ takenAt t (hears t self view) ⌝ }
+        ensures { λ r. ⌜ r ≡ takenAt t (hears t (returned t self) view) ⌝ }
     {
-        match view {
-            View::Asks(request) => self.asked(request, t),
-            View::Refused(_) => self.silent(t),
-            View::Ack => self.silent(t),
-            View::Data(_) => self.silent(t),
+        let core = self.returned(t);
+        if let View::Asks(request) = view {
+            return core.asked(request, t);
         }
+        core.replies(t, Reply::Silence)
     }
 }

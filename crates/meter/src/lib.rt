@@ -1,10 +1,13 @@
 // The simulated meter of document 01: set-up, line heard and measure, each with its whole answer. A meter goes in and comes back
 // by value; a refused step hands it back as it stood.
 ghost use mathlib.Core.Path.{_≡_};
-ghost use Rattle.meter.specs.Meters.{begun, setUp, heardAt, measuredAt, shownSetup, refusedStep, shownStep};
+ghost use Rattle.format.specs.Lines.{readLine};
+ghost use Rattle.format.specs.Views.{viewed};
+ghost use Rattle.meter.specs.Meters.{begun, setUp, heardAt, measuredAt, shownSetup, shownStep};
 use clock::Clock;
 use format::Outcome;
 use format::Telegram;
+use format::View;
 use instructions::acknowledgement;
 use reading::read_line;
 use template::Pair;
@@ -57,23 +60,27 @@ pub struct Step {
 }
 
 impl Meter {
-    // A meter that begins, whatever the template.
-    fn begun(address: u8, template: Telegram) -> Meter
-        ensures { λ r. ⌜ r ≡ begun address template ⌝ }
+    // A meter that begins, whatever the template, beside an outcome.
+    fn begun(outcome: Outcome, address: u8, template: Telegram) -> Setup
+        ensures { λ r. ⌜ r ≡ record { outcome = outcome; meter = begun address template } ⌝ }
     {
         let entries = template.entries;
         let used = Pair::of(entries);
-        Meter {
-            last: Clock(0),
-            core: Core {
-                address,
-                mode: Mode::Use,
-                used,
-                verified: Pair {
-                    volume: 0,
-                    energy: 0,
-                },
-                template,
+        let core = Core {
+            address,
+            mode: Mode::Use,
+            used,
+            verified: Pair {
+                volume: 0,
+                energy: 0,
+            },
+            template,
+        };
+        Setup {
+            outcome,
+            meter: Meter {
+                last: Clock(0),
+                core,
             },
         }
     }
@@ -85,62 +92,45 @@ impl Meter {
         let unfit = is_unfit(template);
         if unfit {
             let blank = acknowledgement();
-            let meter = Meter::begun(0, blank);
-            return Setup {
-                outcome: Outcome::Refused(72),
-                meter,
-            };
+            return Meter::begun(Outcome::Refused(72), 0, blank);
         }
-        let meter = Meter::begun(address, template);
-        Setup {
-            outcome: Outcome::Accepted,
-            meter,
-        }
-    }
-
-    // A step that is refused and leaves the meter as it stood.
-    fn refused(self, n: u16) -> Step
-        ensures { λ r. ⌜ r ≡ refusedStep self n ⌝ }
-    {
-        let telegram = acknowledgement();
-        Step {
-            meter: self,
-            reply: Reply::Refused(n),
-            telegram,
-        }
+        Meter::begun(Outcome::Accepted, address, template)
     }
 
     // A line heard at t.
     pub fn heard(self, line: &[u16], t: Clock) -> Step
         ensures { λ r. ⌜ r ≡ shownStep self t (heardAt self (now (line .entry)) t) ⌝ }
     {
-        let last = self.last;
-        let back = last.earlier(t);
+        let back = self.last.earlier(t);
         if back {
-            return self.refused(70);
+            return self.core.replies(self.last, Reply::Refused(70));
         }
-        let core = self.core;
-        let core = core.returned(t);
-        let reading = read_line(line);
-        let view = view_of(reading);
-        core.hears(view, t)
+        let view = view_in(line);
+        self.core.hears(view, t)
     }
 
     // Volume and energy measured at t, as counts of the template's last digits.
     pub fn measure(self, volume: u64, energy: u64, t: Clock) -> Step
         ensures { λ r. ⌜ r ≡ shownStep self t (measuredAt self volume energy t) ⌝ }
     {
-        let last = self.last;
-        let back = last.earlier(t);
+        let back = self.last.earlier(t);
         if back {
-            return self.refused(70);
+            return self.core.replies(self.last, Reply::Refused(70));
         }
-        let core = self.core;
-        let core = core.returned(t);
-        let sum = core.plus(volume, energy);
+        let core = self.core.returned(t);
+        let pair = core.in_force();
+        let sum = pair.plus(volume, energy);
         match sum {
-            Sum::Refused(n) => self.refused(n),
-            Sum::Totals(totals) => core.measured(totals, t),
+            Sum::Refused(n) => return self.core.replies(self.last, Reply::Refused(n)),
+            Sum::Totals(totals) => return core.measured(totals, t),
         }
     }
+}
+
+// A line as a meter looks at it.
+fn view_in(line: &[u16]) -> View
+    ensures { λ r. ⌜ r ≡ viewed (readLine (now (line .entry))) ⌝ }
+{
+    let reading = read_line(line);
+    view_of(reading)
 }

@@ -1,5 +1,4 @@
 // Answers the cases `meter` of docs/CASES.md.
-use cases::Run;
 use format::Outcome;
 use format::Telegram;
 use meter::Meter;
@@ -20,14 +19,18 @@ fn answer_meter(
 ) -> usize {
     let setup = Meter::set_up(address, template);
     let outcome = setup.outcome;
-    let meter = setup.meter;
     match outcome {
         Outcome::Refused(n) => answers::put_refusal(out, at, n),
         Outcome::Accepted => {
-            let said = put::put_meter(out, at, meter);
-            steps::answer_steps(names, values, count, from, meter, out, said)
+            let said = put::put_meter(out, at, setup.meter.core);
+            steps::answer_steps(names, values, count, from, setup.meter, out, said)
         }
     }
+}
+
+fn is_setup(names: &[bool; 4096], values: &[u64; 4096], count: usize) -> bool {
+    cases::has_name(names, values, count, 0, b"meter")
+        & cases::has_name(names, values, count, 1, b"setup")
 }
 
 fn answer(
@@ -37,15 +40,21 @@ fn answer(
     out: &mut [u8; 4096],
     at: usize,
 ) -> usize {
-    let is_named = cases::has_name(names, values, count, 0, b"meter")
-        & cases::has_name(names, values, count, 1, b"setup");
-    let address = cases::number_at(names, values, count, 2, 0xFF);
     let taken = telegrams::take_telegram(names, values, count, 3);
-    let template = taken.telegram;
-    let is_setup = is_named & address.is_there & taken.is_there;
-    if is_setup & steps::is_history(names, values, count, taken.next) {
-        let own = (address.value % 256) as u8;
-        return answer_meter(names, values, count, taken.next, own, template, out, at);
+    let is_whole = taken.is_there & steps::is_history(names, values, count, taken.next);
+    let own = cases::number_at(names, values, count, 2, 0xFF);
+    if is_setup(names, values, count) & own.is_there & is_whole {
+        let address = (own.value % 256) as u8;
+        return answer_meter(
+            names,
+            values,
+            count,
+            taken.next,
+            address,
+            taken.telegram,
+            out,
+            at,
+        );
     }
     answers::put_bad(out, at)
 }
@@ -62,8 +71,7 @@ fn main() {
             break;
         }
         let said = answer(&names, &values, run.count, &mut out, run.waiting);
-        let waiting = answers::end_line(&mut out, said);
-        run = Run { waiting, ..run };
+        run.waiting = answers::end_line(&mut out, said);
     }
     answers::write_out(&out, run.waiting);
 }

@@ -8,12 +8,6 @@ use meter::Meter;
 use meter::Step;
 use std::num::wrapping_add_usize;
 
-// A meter, and how many bytes of the answer wait.
-struct Said {
-    meter: Meter,
-    waiting: usize,
-}
-
 // Whether three numbers stand in a row from a place on.
 fn are_three(names: &[bool; 4096], values: &[u64; 4096], count: usize, at: usize) -> bool {
     let first = number_at(names, values, count, at, u64::MAX);
@@ -22,28 +16,36 @@ fn are_three(names: &[bool; 4096], values: &[u64; 4096], count: usize, at: usize
     first.is_there & second.is_there & third.is_there
 }
 
+fn is_measure(names: &[bool; 4096], values: &[u64; 4096], count: usize, at: usize) -> bool {
+    has_name(names, values, count, at, b"measure")
+}
+
+// The place behind the characters that stand in a row from a place on.
+fn behind_line(names: &[bool; 4096], values: &[u64; 4096], count: usize, from: usize) -> usize {
+    let mut line = [0u16; 4096];
+    wrapping_add_usize(from, characters_at(names, values, count, from, &mut line))
+}
+
 // The place behind the step that begins at a place; the same place, if none begins there.
 fn behind(names: &[bool; 4096], values: &[u64; 4096], count: usize, at: usize) -> usize {
     let first = wrapping_add_usize(at, 1);
+    if is_measure(names, values, count, at) & are_three(names, values, count, first) {
+        return wrapping_add_usize(at, 4);
+    }
     let t = number_at(names, values, count, first, u64::MAX);
-    let is_heard = has_name(names, values, count, at, b"heard");
-    let is_measure = has_name(names, values, count, at, b"measure");
-    let are_numbers = are_three(names, values, count, first);
-    if is_heard & t.is_there {
-        let timed = wrapping_add_usize(at, 2);
-        let mut line = [0u16; 4096];
-        let n = characters_at(names, values, count, timed, &mut line);
-        return wrapping_add_usize(timed, n);
+    if has_name(names, values, count, at, b"heard") & t.is_there {
+        return behind_line(names, values, count, wrapping_add_usize(at, 2));
     }
-    if is_measure & are_numbers {
-        wrapping_add_usize(at, 4)
-    } else {
-        at
-    }
+    at
 }
 
 // Whether nothing but steps stands from a place on. There are no more steps than words.
-pub fn is_history(names: &[bool; 4096], values: &[u64; 4096], count: usize, from: usize) -> bool {
+pub(crate) fn is_history(
+    names: &[bool; 4096],
+    values: &[u64; 4096],
+    count: usize,
+    from: usize,
+) -> bool {
     let mut at = from;
     for _ in 0..4096usize {
         let next = behind(names, values, count, at);
@@ -55,63 +57,73 @@ pub fn is_history(names: &[bool; 4096], values: &[u64; 4096], count: usize, from
     at == count
 }
 
-// The step that begins at a place, whose time is t.
+// The amounts from a place on, measured at t.
+fn measured(
+    names: &[bool; 4096],
+    values: &[u64; 4096],
+    count: usize,
+    from: usize,
+    meter: Meter,
+    t: u64,
+) -> Step {
+    let volume = number_at(names, values, count, from, u64::MAX);
+    let energy = number_at(names, values, count, wrapping_add_usize(from, 1), u64::MAX);
+    meter.measure(volume.value, energy.value, Clock(t))
+}
+
+// The characters from a place on, heard at t.
+fn heard(
+    names: &[bool; 4096],
+    values: &[u64; 4096],
+    count: usize,
+    from: usize,
+    meter: Meter,
+    t: u64,
+) -> Step {
+    let mut line = [0u16; 4096];
+    let n = characters_at(names, values, count, from, &mut line);
+    meter.heard(&line[0..n], Clock(t))
+}
+
+// The step that begins at a place.
 fn step(
     names: &[bool; 4096],
     values: &[u64; 4096],
     count: usize,
     from: usize,
     meter: Meter,
-    t: Clock,
 ) -> Step {
-    let third = wrapping_add_usize(from, 2);
-    if has_name(names, values, count, from, b"measure") {
-        let volume = number_at(names, values, count, third, u64::MAX);
-        let energy = number_at(names, values, count, wrapping_add_usize(from, 3), u64::MAX);
-        return meter.measure(volume.value, energy.value, t);
-    }
-    let mut line = [0u16; 4096];
-    let n = characters_at(names, values, count, third, &mut line);
-    meter.heard(&line[0..n], t)
-}
-
-// The step that begins at a place, and its answer.
-fn answer_step(
-    names: &[bool; 4096],
-    values: &[u64; 4096],
-    count: usize,
-    from: usize,
-    said: Said,
-    out: &mut [u8; 4096],
-) -> Said {
-    let before = said.meter;
-    let at = answers::put(out, said.waiting, b' ');
     let t = number_at(names, values, count, wrapping_add_usize(from, 1), u64::MAX);
-    let taken = step(names, values, count, from, before, Clock(t.value));
-    let waiting = put_step(out, at, taken);
-    let meter = taken.meter;
-    Said { meter, waiting }
+    let third = wrapping_add_usize(from, 2);
+    if is_measure(names, values, count, from) {
+        return measured(names, values, count, third, meter, t.value);
+    }
+    heard(names, values, count, third, meter, t.value)
 }
 
 // The steps from a place on, and their answers.
-pub fn answer_steps(
+pub(crate) fn answer_steps(
     names: &[bool; 4096],
     values: &[u64; 4096],
     count: usize,
     from: usize,
-    meter: Meter,
+    start: Meter,
     out: &mut [u8; 4096],
-    waiting: usize,
+    said: usize,
 ) -> usize {
     let mut at = from;
-    let mut said = Said { meter, waiting };
+    let mut meter = start;
+    let mut waiting = said;
     for _ in 0..4096usize {
         let next = behind(names, values, count, at);
         if next == at {
             break;
         }
-        said = answer_step(names, values, count, at, said, out);
+        let taken = step(names, values, count, at, meter);
+        waiting = answers::put(out, waiting, b' ');
+        waiting = put_step(out, waiting, taken);
+        meter = taken.meter;
         at = next;
     }
-    said.waiting
+    waiting
 }

@@ -1,42 +1,16 @@
 -- The laws by which the code writes a record.
-use Prim.Native.Nat.{ℕ, _+_, _≤_}
-use mathlib.Core.List.{List, [], _∷_, _++_, append-nil, append-assoc}
-use mathlib.Core.Path.{_≡_, refl, sym, ap, ap₂, _∙_}
-use native.Mathlib.Nat.{zero-add}
+use Prim.Native.Nat.{ℕ, _+_}
+use mathlib.Core.List.{List, [], _∷_, _++_, append-assoc}
+use mathlib.Core.Path.{_≡_, refl, ap, ap₂, _∙_}
 use native.Mathlib.Omega.{arith}
-use lib.ListN.{length, drop, length-append}
-use lib.Seq.{drop-length}
-use Rattle.format.specs.Lists.{at}
-use Rattle.low_first.specs.Copying.{laid, laid-on, laid-first}
+use lib.ListN.{length, replicate, length-append}
+use Rattle.lent.specs.Copying.{copied, copied-on, copied-full}
 use Rattle.low_first.specs.Numbers.{bytesOf}
 use Rattle.meter.specs.declared.Meter.{Meter}
 use Rattle.meter.specs.declared.Mode.{Mode}
 use Rattle.records.specs.Telegrams.{telegramBytes}
 use Rattle.template.specs.declared.Pair.{Pair}
 use Rattle.meter_record.specs.MeterRecords.{modeNumber, methodOf, sinceOf, stateBytes, pairBytes, meterBytes}
-
--- eight bytes one by one
-eight-listed : (n : ℕ) {a : List ℕ} (r : List ℕ) → a ≡ bytesOf 8 n
-    → at a 0 ∷ at a 1 ∷ at a 2 ∷ at a 3 ∷ at a 4 ∷ at a 5 ∷ at a 6 ∷ at a 7 ∷ r ≡ bytesOf 8 n ++ r
-unfolding bytesOf
-eight-listed n {a} r e = rw e
-
-pub state-listed : (last own : ℕ) (mode : Mode) {n k since : ℕ} {l s : List ℕ} → n ≡ modeNumber mode → k ≡ methodOf mode → since ≡ sinceOf mode
-    → l ≡ bytesOf 8 last → s ≡ bytesOf 8 since
-    → at l 0 ∷ at l 1 ∷ at l 2 ∷ at l 3 ∷ at l 4 ∷ at l 5 ∷ at l 6 ∷ at l 7 ∷ own ∷ n ∷ k ∷ 0 ∷ 0 ∷ 0 ∷ 0 ∷ 0 ∷ at s 0 ∷ at s 1 ∷ at s 2 ∷ at s 3 ∷ at s 4 ∷ at s 5 ∷ at s 6 ∷ at s 7 ∷ []
-    ≡ stateBytes last own mode
-state-listed last own mode {n} {k} en ek et el es =
-    let time = eight-listed (sinceOf mode) [] (es ∙ ap (bytesOf 8) et) ∙ append-nil (bytesOf 8 (sinceOf mode)) in
-    eight-listed last _ el
-    ∙ ap (λ (r : List ℕ). bytesOf 8 last ++ (own ∷ n ∷ k ∷ 0 ∷ 0 ∷ 0 ∷ 0 ∷ 0 ∷ r)) time
-    ∙ ap₂ (λ (x y : ℕ). bytesOf 8 last ++ (own ∷ x ∷ y ∷ 0 ∷ 0 ∷ 0 ∷ 0 ∷ 0 ∷ bytesOf 8 (sinceOf mode))) en ek
-
-pub pair-listed : (p : Pair) {a b : List ℕ} → a ≡ bytesOf 8 (p .volume) → b ≡ bytesOf 8 (p .energy)
-    → at a 0 ∷ at a 1 ∷ at a 2 ∷ at a 3 ∷ at a 4 ∷ at a 5 ∷ at a 6 ∷ at a 7 ∷ at b 0 ∷ at b 1 ∷ at b 2 ∷ at b 3 ∷ at b 4 ∷ at b 5 ∷ at b 6 ∷ at b 7 ∷ []
-    ≡ pairBytes p
-pair-listed p ea eb =
-    let second = eight-listed (p .energy) [] eb ∙ append-nil (bytesOf 8 (p .energy)) in
-    eight-listed (p .volume) _ ea ∙ ap (λ (r : List ℕ). bytesOf 8 (p .volume) ++ r) second
 
 state-length : (last own : ℕ) (mode : Mode) → length (stateBytes last own mode) ≡ 24
 unfolding bytesOf
@@ -46,16 +20,41 @@ pair-length : (p : Pair) → length (pairBytes p) ≡ 16
 unfolding bytesOf
 pair-length p = refl
 
--- what is laid behind what was laid from the first place on
-laid-next : (d s t : List ℕ) (k : ℕ) → length s ≡ k → k ≤ length d → laid (laid d 0 s) k t ≡ laid d 0 (s ++ t)
-laid-next d s t k e h = ap (λ (n : ℕ). laid (laid d 0 s) n t) (sym e ∙ sym (zero-add (length s))) ∙ laid-on d 0 s t (omega arith)
+eight-length : (n : ℕ) → length (bytesOf 8 n) ≡ 8
+unfolding bytesOf
+eight-length n = refl
 
-laid-all : (d s : List ℕ) → length s ≡ length d → laid d 0 s ≡ s
-laid-all d s e = laid-first d s ∙ ap (λ (k : ℕ). s ++ drop k d) e ∙ ap (λ (r : List ℕ). s ++ r) (drop-length d) ∙ append-nil s
+-- two parts that fill all places, one behind the other
+two-laid : (d s t : List ℕ) (k : ℕ) → length s ≡ k → k + length t ≡ length d → copied (copied d 0 s) k t ≡ s ++ t
+two-laid d s t k ls all =
+    let both : length (s ++ t) ≡ length d = omega (arith, length-append s t) in
+    copied-on d s t k ls (omega arith) ∙ copied-full d (s ++ t) both
+
+pub pair-laid : (p : Pair) {a b bytes : List ℕ} → a ≡ bytesOf 8 (p .volume) → b ≡ bytesOf 8 (p .energy)
+    → bytes ≡ copied (copied (replicate 16 0) 0 a) 8 b → bytes ≡ pairBytes p
+pair-laid p ea eb e =
+    e ∙ ap₂ (λ (x y : List ℕ). copied (copied (replicate 16 0) 0 x) 8 y) ea eb
+    ∙ two-laid (replicate 16 0) (bytesOf 8 (p .volume)) (bytesOf 8 (p .energy)) 8 (eight-length (p .volume)) (ap (λ (n : ℕ). 8 + n) (eight-length (p .energy)))
+
+pub state-laid : (last own : ℕ) (mode : Mode) {n k since : ℕ} {l s bytes : List ℕ} → n ≡ modeNumber mode → k ≡ methodOf mode → since ≡ sinceOf mode
+    → l ≡ bytesOf 8 last → s ≡ bytesOf 8 since
+    → bytes ≡ copied (copied (copied (replicate 24 0) 0 l) 8 (own ∷ n ∷ k ∷ 0 ∷ 0 ∷ 0 ∷ 0 ∷ 0 ∷ [])) 16 s → bytes ≡ stateBytes last own mode
+state-laid last own mode {n} {k} {since} en ek et el es e =
+    let d : List ℕ = replicate 24 0 in
+    let a : List ℕ = bytesOf 8 last in
+    let b : List ℕ = own ∷ modeNumber mode ∷ methodOf mode ∷ 0 ∷ 0 ∷ 0 ∷ 0 ∷ 0 ∷ [] in
+    let t : List ℕ = bytesOf 8 (sinceOf mode) in
+    let la : length a ≡ 8 = eight-length last in
+    let lt : length t ≡ 8 = eight-length (sinceOf mode) in
+    let lab : length (a ++ b) ≡ 16 = omega (arith, length-append a b) in
+    e ∙ ap₂ (λ (x y : List ℕ). copied (copied (copied d 0 x) 8 (own ∷ n ∷ k ∷ 0 ∷ 0 ∷ 0 ∷ 0 ∷ 0 ∷ [])) 16 y) el (es ∙ ap (bytesOf 8) et)
+    ∙ ap₂ (λ (x y : ℕ). copied (copied (copied d 0 a) 8 (own ∷ x ∷ y ∷ 0 ∷ 0 ∷ 0 ∷ 0 ∷ 0 ∷ [])) 16 t) en ek
+    ∙ ap (λ (l : List ℕ). copied l 16 t) (copied-on d a b 8 la (omega arith))
+    ∙ two-laid d (a ++ b) t 16 lab (omega arith) ∙ append-assoc a b t
 
 pub meter-laid : (m : Meter) (d : List ℕ) {s u v t bytes : List ℕ} → length d ≡ 192
     → s ≡ stateBytes (m .last .0) (m .core .address) (m .core .mode) → u ≡ pairBytes (m .core .used) → v ≡ pairBytes (m .core .verified)
-    → t ≡ telegramBytes (m .core .template) → length t ≡ 136 → bytes ≡ laid (laid (laid (laid d 0 s) 24 u) 40 v) 56 t → bytes ≡ meterBytes m
+    → t ≡ telegramBytes (m .core .template) → length t ≡ 136 → bytes ≡ copied (copied (copied (copied d 0 s) 24 u) 40 v) 56 t → bytes ≡ meterBytes m
 unfolding meterBytes
 meter-laid m d {s} {u} {v} {t} {bytes} n es eu ev et lt e =
     let ls : length s ≡ 24 = ap length es ∙ state-length (m .last .0) (m .core .address) (m .core .mode) in
@@ -63,9 +62,8 @@ meter-laid m d {s} {u} {v} {t} {bytes} n es eu ev et lt e =
     let lv : length v ≡ 16 = ap length ev ∙ pair-length (m .core .verified) in
     let lsu : length (s ++ u) ≡ 40 = omega (arith, length-append s u) in
     let lsuv : length ((s ++ u) ++ v) ≡ 56 = omega (arith, length-append (s ++ u) v) in
-    let all : length (((s ++ u) ++ v) ++ t) ≡ length d = omega (arith, length-append ((s ++ u) ++ v) t) in
-    e ∙ ap (λ (l : List ℕ). laid (laid l 40 v) 56 t) (laid-next d s u 24 ls (omega arith))
-    ∙ ap (λ (l : List ℕ). laid l 56 t) (laid-next d (s ++ u) v 40 lsu (omega arith))
-    ∙ laid-next d ((s ++ u) ++ v) t 56 lsuv (omega arith) ∙ laid-all d (((s ++ u) ++ v) ++ t) all
+    e ∙ ap (λ (l : List ℕ). copied (copied l 40 v) 56 t) (copied-on d s u 24 ls (omega arith))
+    ∙ ap (λ (l : List ℕ). copied l 56 t) (copied-on d (s ++ u) v 40 lsu (omega arith))
+    ∙ two-laid d ((s ++ u) ++ v) t 56 lsuv (omega arith)
     ∙ append-assoc (s ++ u) v t ∙ append-assoc s u (v ++ t)
     ∙ ap₂ (λ (x y : List ℕ). x ++ y) es (ap₂ (λ (x y : List ℕ). x ++ y) eu (ap₂ (λ (x y : List ℕ). x ++ y) ev et))

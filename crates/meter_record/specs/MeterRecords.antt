@@ -16,7 +16,7 @@ use Rattle.meter.specs.declared.Mode.{Mode}
 use Rattle.meter.specs.declared.Mode.the-variants.{Use, Verifying}
 use Rattle.meter.specs.Meters.{zeros}
 use Rattle.records.specs.Recorded.{noRecord}
-use Rattle.records.specs.Same.{same}
+use Rattle.lent.specs.Same.{same}
 use Rattle.records.specs.Telegrams.{telegramBytes, telegramFrom}
 use Rattle.template.specs.declared.Pair.{Pair}
 use Rattle.template.specs.Templates.{unfit, pairIn, totalMost}

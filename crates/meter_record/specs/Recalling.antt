@@ -16,7 +16,7 @@ use Rattle.format.specs.Telegrams.{shown}
 use Rattle.format.specs.Tests.{by-test}
 use Rattle.meter.specs.declared.Meter.{Meter}
 use Rattle.records.specs.Recorded.{noRecord}
-use Rattle.records.specs.Same.{same}
+use Rattle.lent.specs.Same.{same}
 use Rattle.records.specs.Telegrams.{telegramBytes, telegramIn, telegramFrom}
 use Rattle.records.specs.TelegramLaws.{telegram-size}
 use Rattle.meter_record.specs.MeterRecords.{meterBytes, meterIn, unreached, recalled, meterFrom}

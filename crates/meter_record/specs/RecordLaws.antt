@@ -1,13 +1,13 @@
 -- Laws about the record of a meter: what is written for a meter is read as that meter, if some history leads to it.
-use Prim.Native.Nat.{ℕ, zero, suc, _+_, _/_, _%_, _*_, _^_, _≤_, _<_}
-use mathlib.Core.Bool.{Bool, true, false, cond, not, _||_}
+use Prim.Native.Nat.{ℕ, zero, suc, _+_, _/_, _%_, _^_, _≤_, _<_}
+use mathlib.Core.Bool.{false, cond, not, _||_}
 use mathlib.Core.List.{List, [], _∷_, _++_, append-assoc}
 use mathlib.Core.Path.{_≡_, refl, sym, ap, subst, _∙_}
 use native.Mathlib.Nat.{lt-of-lt-of-le, lt-of-le-of-lt, pow-le-pow-right, pow-suc}
 use native.Mathlib.Omega.{arith}
 use borrow.Author.Tests.{ltb-true, ltb-false, not-false}
 use lib.Dec.{ltb, eqb, lit<, lit≤}
-use lib.ListN.{length, getD, take, drop, length-append}
+use lib.ListN.{length, take, drop}
 use lib.Seq.{take-at, drop-at, drop-drop, getD-drop}
 use Rattle.clock.specs.Times.{due, earlier}
 use Rattle.format.specs.declared.Entry.{Entry}
@@ -31,13 +31,13 @@ use Rattle.meter.specs.declared.Mode.{Mode}
 use Rattle.meter.specs.declared.Mode.the-variants.{Use, Verifying}
 use Rattle.meter.specs.Meters.{zeros}
 use Rattle.records.specs.Recorded.{noRecord}
-use Rattle.records.specs.Same.{same, same-equal, same-itself}
+use Rattle.lent.specs.Same.{same, same-equal, same-itself}
 use Rattle.records.specs.Telegrams.{telegramBytes, entriesIn, telegramIn, telegramFrom}
-use Rattle.records.specs.TelegramLaws.{ValueFits, EntriesFit, Fits, telegram-read, telegram-written}
+use Rattle.records.specs.TelegramLaws.{ValueFits, EntriesFit, Fits, telegram-read}
 use Rattle.template.specs.declared.Pair.{Pair}
 use Rattle.template.specs.Templates.{unfit, pairIn, totalMost}
 use Rattle.template.specs.TemplateLaws.{fit}
-use Rattle.meter_record.specs.MeterRecords.{modeNumber, methodOf, sinceOf, stateBytes, pairBytes, meterBytes, wordAt, modeIn, meterIn, wrongMode, wrongTotal, wrongPair, unreached, recalled, meterFrom}
+use Rattle.meter_record.specs.MeterRecords.{modeNumber, methodOf, sinceOf, meterBytes, wordAt, meterIn, wrongMode, wrongTotal, wrongPair, unreached, recalled, meterFrom}
 
 -- ---- the fields of a template fit their types
 

@@ -1,10 +1,9 @@
 // The record of a simulated meter: bytes of a fixed size, numbers low byte first.
 ghost use mathlib.Core.Path.{_≡_};
-ghost use Prim.Native.Nat.{_+_, _≤_};
+ghost use Prim.Native.Nat.{_≤_};
 ghost use lib.ListN.{length};
 ghost use Rattle.format.specs.Answers.{refusal};
 ghost use Rattle.format.specs.Lines.{isMethod};
-ghost use Rattle.low_first.specs.Copying.{laid};
 ghost use Rattle.meter.specs.Meters.{shownSetup};
 ghost use Rattle.records.specs.Recorded.{noRecord};
 ghost use Rattle.meter_record.specs.MeterRecords.{modeNumber, methodOf, sinceOf, stateBytes, pairBytes, meterBytes, wordAt, modeIn, meterIn, wrongMode, wrongPair, unreached, recalled, meterFrom};
@@ -12,6 +11,8 @@ use clock::Clock;
 use format::Kind;
 use format::Outcome;
 use format::Telegram;
+use lent::is_same;
+use lent::lay;
 use low_first::bytes_of_eight;
 use low_first::eight;
 use meter::Core;
@@ -19,7 +20,6 @@ use meter::Meter;
 use meter::Mode;
 use meter::Setup;
 use reading::body::plain;
-use records::is_same;
 use records::telegrams::telegram_bytes;
 use records::telegrams::telegram_from;
 use template::Pair;
@@ -62,86 +62,43 @@ fn state_bytes(last: u64, own: u8, mode: Mode) -> [u8; 24]
     let number = mode_number(mode);
     let method = method_of(mode);
     let since = since_of(mode);
-    let l = bytes_of_eight(last);
-    let s = bytes_of_eight(since);
-    [
-        l[0],
-        l[1],
-        l[2],
-        l[3],
-        l[4],
-        l[5],
-        l[6],
-        l[7],
-        own,
-        number,
-        method,
-        0,
-        0,
-        0,
-        0,
-        0,
-        s[0],
-        s[1],
-        s[2],
-        s[3],
-        s[4],
-        s[5],
-        s[6],
-        s[7],
-    ]
+    let step = bytes_of_eight(last);
+    let modes = [own, number, method, 0, 0, 0, 0, 0];
+    let instruction = bytes_of_eight(since);
+    let mut bytes = [0u8; 24];
+    lay(&mut bytes, 0, &step);
+    lay(&mut bytes, 8, &modes);
+    lay(&mut bytes, 16, &instruction);
+    bytes
 }
 
 fn pair_bytes(p: Pair) -> [u8; 16]
     ensures { λ r. ⌜ r ≡ pairBytes p ⌝ }
 {
-    let a = bytes_of_eight(p.volume);
-    let b = bytes_of_eight(p.energy);
-    [
-        a[0],
-        a[1],
-        a[2],
-        a[3],
-        a[4],
-        a[5],
-        a[6],
-        a[7],
-        b[0],
-        b[1],
-        b[2],
-        b[3],
-        b[4],
-        b[5],
-        b[6],
-        b[7],
-    ]
+    let volume = bytes_of_eight(p.volume);
+    let energy = bytes_of_eight(p.energy);
+    let mut bytes = [0u8; 16];
+    lay(&mut bytes, 0, &volume);
+    lay(&mut bytes, 8, &energy);
+    bytes
 }
 
-// Copies bytes to a place.
-fn lay(to: &mut [u8], at: usize, from: &[u8])
-    requires { ⌜ at + length (now from) ≤ length (now to) ⌝ }
-    ensures { λ _. ⌜ now (to .exit) ≡ laid (now (to .entry)) at (now (from .entry)) ⌝ }
+// The mode alone, so that the caller holds no second core.
+fn mode_of(core: Core) -> Mode
+    ensures { λ r. ⌜ r ≡ core .mode ⌝ }
 {
-    let mut i = 0;
-    while i < from.len() {
-        to[at + i] = from[i];
-        i += 1;
-    }
+    core.mode
 }
 
 // The record of a meter.
 pub fn meter_bytes(m: Meter) -> [u8; 192]
     ensures { λ r. ⌜ r ≡ meterBytes m ⌝ }
 {
-    let core = m.core;
-    let mode = core.mode;
-    let used = core.used;
-    let verified = core.verified;
-    let shown = core.template;
-    let state = state_bytes(m.last.0, core.address, mode);
-    let in_use = pair_bytes(used);
-    let in_verification = pair_bytes(verified);
-    let template = telegram_bytes(shown);
+    let mode = mode_of(m.core);
+    let state = state_bytes(m.last.0, m.core.address, mode);
+    let in_use = pair_bytes(m.core.used);
+    let in_verification = pair_bytes(m.core.verified);
+    let template = telegram_bytes(m.core.template);
     let mut bytes = [0u8; 192];
     lay(&mut bytes, 0, &state);
     lay(&mut bytes, 24, &in_use);
@@ -229,22 +186,17 @@ fn wrong_pair(least: Pair, p: Pair) -> bool
 fn is_unreached(m: Meter) -> bool
     ensures { λ r. ⌜ r ≡ unreached m ⌝ }
 {
-    let core = m.core;
-    let last = m.last;
-    let mode = core.mode;
-    let template = core.template;
-    let entries = template.entries;
-    let used = core.used;
-    let verified = core.verified;
+    let mode = mode_of(m.core);
+    let entries = m.core.template.entries;
     let least = Pair::of(entries);
     let zeros = Pair {
         volume: 0,
         energy: 0,
     };
-    let unfit = is_unfit(template);
-    let stuck = wrong_mode(last, mode);
-    let low = wrong_pair(least, used);
-    let high = wrong_pair(zeros, verified);
+    let unfit = is_unfit(m.core.template);
+    let stuck = wrong_mode(m.last, mode);
+    let low = wrong_pair(least, m.core.used);
+    let high = wrong_pair(zeros, m.core.verified);
     unfit | stuck | low | high
 }
 
@@ -253,8 +205,7 @@ fn no_meter() -> Setup
     ensures { λ r. ⌜ r ≡ shownSetup (refusal noRecord) ⌝ }
 {
     let blank = plain(Kind::Ack, 0, 0);
-    let template = blank.telegram;
-    let none = Meter::set_up(0, template);
+    let none = Meter::set_up(0, blank.telegram);
     let meter = none.meter;
     Setup {
         outcome: Outcome::Refused(101),
@@ -262,23 +213,25 @@ fn no_meter() -> Setup
     }
 }
 
-// The meter, if the bytes are its record and some history leads to it.
-fn recalled(b: &[u8], m: Meter) -> Setup
-    ensures { λ r. ⌜ r ≡ shownSetup (recalled (now (b .entry)) m) ⌝ }
+// The meter that the bytes and a template give, if they are its record and some history leads to it.
+fn recalled(b: &[u8], template: Telegram) -> Setup
+    requires { ⌜ length (now b) ≡ 192 ⌝ }
+    ensures { λ r. ⌜ r ≡ shownSetup (recalled (now (b .entry)) (meterIn (now (b .entry)) template)) ⌝ }
 {
-    let again = meter_bytes(m);
+    let meter = meter_in(b, template);
+    let again = meter_bytes(meter);
     let same = is_same(b, &again);
     let other = !same;
     if other {
         return no_meter();
     }
-    let unreached = is_unreached(m);
+    let unreached = is_unreached(meter);
     if unreached {
         return no_meter();
     }
     Setup {
         outcome: Outcome::Accepted,
-        meter: m,
+        meter,
     }
 }
 
@@ -291,12 +244,8 @@ pub fn meter_from(b: &[u8]) -> Setup
     }
     let reading = telegram_from(&b[56..192]);
     let outcome = reading.outcome;
-    match outcome {
-        Outcome::Refused(_) => no_meter(),
-        Outcome::Accepted => {
-            let template = reading.telegram;
-            let m = meter_in(b, template);
-            recalled(b, m)
-        }
+    if let Outcome::Refused(_) = outcome {
+        return no_meter();
     }
+    recalled(b, reading.telegram)
 }

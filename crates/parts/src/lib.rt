@@ -1,4 +1,3 @@
-// The smallest parts of a line's body, read off its characters: bytes, digits, quantities.
+// The smallest parts of a line's body, read off its characters: bytes and digits.
 pub mod bytes;
 pub mod digits;
-pub mod quantities;

@@ -1,2 +1,2 @@
 -- What the functions of this crate answer in between.
-pub mod Bodies
+pub mod DataTelegrams

@@ -5,8 +5,8 @@ ghost use Prim.Native.Nat.{_≤_};
 ghost use lib.ListN.{length};
 ghost use Rattle.format.specs.Characters.{byteOf};
 ghost use Rattle.format.specs.Answers.{reads, refusal};
-ghost use Rattle.format.specs.Lines.{isCommand, isData, isMethod, commandOf, readShort, readLong, readData};
-ghost use Rattle.format.specs.Telegrams.{bare, blankHeader, shown};
+ghost use Rattle.format.specs.Lines.{commandOf, readShort, readLong, readData};
+ghost use Rattle.format.specs.Telegrams.{bare, shown};
 use entries::blank_entry;
 use entries::read_entries;
 use format::Header;
@@ -17,6 +17,8 @@ use format::Telegram;
 use headers::header_of;
 use headers::wrong_header;
 use parts::bytes::byte_at;
+use shapes::is_command;
+use shapes::is_data;
 
 // A telegram without header and entries.
 fn bare(kind: Kind, address: u8, method: u8) -> Telegram
@@ -71,26 +73,6 @@ pub(crate) fn read_short(field: &[u16]) -> Reading
     } else {
         refused(9)
     }
-}
-
-// L = 4 with C 53, CI 50 and an S of enter or leave.
-pub(crate) fn is_command(field: &[u16]) -> bool
-    ensures { λ r. ⌜ r ≡ isCommand (map byteOf (now (field .entry))) ⌝ }
-{
-    let control = byte_at(field, 0);
-    let information = byte_at(field, 2);
-    let s = byte_at(field, 3);
-    let method = (s == 0x90) | (s == 0x91) | (s == 0x92);
-    (field.len() == 4) & (control == 0x53) & (information == 0x50) & (method | (s == 0x00))
-}
-
-// L of 15 and more with C 08 and CI 72.
-pub(crate) fn is_data(field: &[u16]) -> bool
-    ensures { λ r. ⌜ r ≡ isData (map byteOf (now (field .entry))) ⌝ }
-{
-    let control = byte_at(field, 0);
-    let information = byte_at(field, 2);
-    (15 <= field.len()) & (control == 0x08) & (information == 0x72)
 }
 
 // Enter or leave, by S.

@@ -12,7 +12,6 @@ use frame::Frame;
 use frame::frame_of;
 
 pub mod body;
-pub mod check;
 
 // The whole answer of reading a line: the number of a refusal, or the telegram.
 pub fn read_line(line: &[u16]) -> Reading

@@ -1,5 +1,4 @@
 // Answers the cases `read` of docs/CASES.md.
-use cases::Run;
 use format::Outcome;
 use format::Reading;
 
@@ -40,8 +39,7 @@ fn main() {
             break;
         }
         let said = answer(&names, &values, run.count, &mut out, run.waiting);
-        let waiting = answers::end_line(&mut out, said);
-        run = Run { waiting, ..run };
+        run.waiting = answers::end_line(&mut out, said);
     }
     answers::write_out(&out, run.waiting);
 }

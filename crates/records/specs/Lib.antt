@@ -1,6 +1,4 @@
--- What the functions for C answer and leave, and records: values as bytes of a fixed size.
-pub mod Lent
-pub mod Same
+-- Records: values as bytes of a fixed size.
 pub mod Recorded
 pub mod Telegrams
 pub mod TelegramLaws

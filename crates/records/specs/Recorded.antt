@@ -3,12 +3,12 @@
 use Prim.Native.Nat.{ℕ}
 use mathlib.Core.Bool.{Bool, true, false, not}
 use mathlib.Core.List.{List}
-use mathlib.Core.Path.{_≡_, refl, sym, ap, _∙_}
+use mathlib.Core.Path.{_≡_, sym, ap, _∙_}
 use borrow.Author.Tests.{not-false}
 use lib.ListN.{length}
 use Rattle.format.specs.Answers.{Answer, reads, refusal, refuse}
 use Rattle.format.specs.Tests.{passed}
-use Rattle.records.specs.Same.{same, same-equal, same-itself, same-not}
+use Rattle.lent.specs.Same.{same, same-equal, same-itself, same-not}
 
 -- the number for a record that no step or reader gives
 abbrev pub noRecord : ℕ

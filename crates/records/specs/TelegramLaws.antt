@@ -1,27 +1,22 @@
 -- Laws about the record of a telegram: what is written for a telegram is read as that telegram.
-use Prim.Native.Nat.{ℕ, zero, suc, _+_, _*_, _^_, _≤_, _<_}
-use mathlib.Core.Bool.{Bool, true, false, cond}
+use Prim.Native.Nat.{ℕ, _+_, _*_, _^_, _≤_, _<_}
 use mathlib.Core.List.{List, [], _∷_, _++_, append-assoc, append-nil}
 use mathlib.Core.Path.{_≡_, refl, sym, ap, ap₂, _∙_}
-use native.Mathlib.Nat.{zero-add}
 use native.Mathlib.Numerals.{add-one}
 use native.Mathlib.Omega.{arith}
-use lib.ListN.{length, getD, take, drop, length-append, length-drop}
-use lib.Seq.{take-at, drop-at, drop-drop, length-take-le, take-suc, take-length, drop-length}
-use Rattle.format.specs.declared.Kind.{Kind}
-use Rattle.format.specs.declared.Kind.the-variants.{Ack, Read, Enter, Leave, Data}
+use lib.ListN.{length, getD, take, drop, length-append}
+use lib.Seq.{take-at, drop-at, drop-drop, length-take-le, take-suc, take-length}
 use Rattle.format.specs.declared.Value.{Value}
 use Rattle.format.specs.declared.Value.the-variants.{Number, Time}
 use Rattle.format.specs.declared.Entry.{Entry}
-use Rattle.format.specs.declared.Header.{Header}
 use Rattle.format.specs.declared.Telegram.{Telegram}
-use Rattle.format.specs.Answers.{Answer, reads, refusal}
-use Rattle.format.specs.Host.{kindNumber}
+use Rattle.format.specs.Answers.{reads, refusal}
 use Rattle.format.specs.Lists.{at}
-use Rattle.low_first.specs.Copying.{laid, laid-on, laid-first}
-use Rattle.low_first.specs.Numbers.{number, bytesOf, number-bytes}
+use Rattle.kinds.specs.Kinds.{kind-read}
+use Rattle.lent.specs.Copying.{laid, laid-length, copied, copied-fits, copied-on, copied-full}
+use Rattle.low_first.specs.Numbers.{number, bytesOf, number-bytes, length-bytes}
 use Rattle.records.specs.Recorded.{noRecord, recorded, record-read, record-written, wrong-size}
-use Rattle.records.specs.Telegrams.{valueBytes, entryBytes, entriesBytes, headBytes, telegramBytes, kindIn, valueIn, entryIn, entriesIn, headerIn, telegramIn, telegramFrom}
+use Rattle.records.specs.Telegrams.{valueBytes, entryBytes, entriesBytes, headBytes, telegramBytes, entryIn, entryAt, entriesIn, telegramIn, telegramFrom}
 
 -- ---- sizes
 
@@ -75,13 +70,6 @@ entries-read (e ∷ es) h =
     ap₂ (λ (x : Entry) (l : List Entry). x ∷ l) (ap entryIn front ∙ value-read (e .structure) (e .unit) (e .value) (h .0))
     (ap (entriesIn (length es)) rest ∙ entries-read es (h .1))
 
-kind-read : (k : Kind) → kindIn (kindNumber k) ≡ k
-kind-read Ack = refl
-kind-read Read = refl
-kind-read Enter = refl
-kind-read Leave = refl
-kind-read Data = refl
-
 telegram-taken : (t : Telegram) → Fits t → telegramIn (telegramBytes t) ≡ t
 unfolding telegramIn telegramBytes bytesOf
 telegram-taken t f =
@@ -104,9 +92,6 @@ unfolding bytesOf
 value-listed (Number d) = refl
 value-listed (Time m) = refl
 
-abbrev pub entryAt : List ℕ → ℕ → Entry
-entryAt b i = entryIn (take 16 (drop i b))
-
 pub entries-listed : (b : List ℕ)
     → entryAt b 0 ∷ entryAt b 16 ∷ entryAt b 32 ∷ entryAt b 48 ∷ entryAt b 64 ∷ entryAt b 80 ∷ entryAt b 96 ∷ [] ≡ entriesIn 7 b
 unfolding entriesIn
@@ -123,11 +108,6 @@ laid-front : (d s : List ℕ) (i : ℕ) → i + length s ≤ length d → take (
 laid-front d s i h =
     take-at (take i d ++ s) (drop (i + length s) d) (i + length s)
     (length-append (take i d) s ∙ ap (λ (n : ℕ). n + length s) (length-take-le i d (omega arith)))
-
-laid-length : (d s : List ℕ) (i : ℕ) → i + length s ≤ length d → length (laid d i s) ≡ length d
-laid-length d s i h =
-    length-append (take i d ++ s) (drop (i + length s) d)
-    ∙ omega (arith, length-append (take i d) s, length-take-le i d (omega arith), length-drop (i + length s) d)
 
 entries-snoc : (es : List Entry) (e : Entry) → entriesBytes (es ++ (e ∷ [])) ≡ entriesBytes es ++ entryBytes e
 unfolding entriesBytes
@@ -149,19 +129,20 @@ module _ {es : List Entry} {bytes : List ℕ} {i : ℕ} (g : Laid es i bytes) wh
   pub laid-room : i < 7 → (b : List ℕ) → length b ≡ 16 → 16 * i + length b ≤ length bytes
   laid-room h b e = omega (arith, g .size)
 
-  pub laid-next : i < 7 → (d : Entry) {b : List ℕ} → b ≡ entryBytes (getD es i d) → Laid es (i + 1) (laid bytes (16 * i) b)
+  pub laid-next : i < 7 → (d : Entry) {b : List ℕ} → b ≡ entryBytes (getD es i d) → Laid es (i + 1) (copied bytes (16 * i) b)
   laid-next h d {b} e =
       let n : length b ≡ 16 = ap length e ∙ entry-length (getD es i d) in
       let room = laid-room h b n in
+      let fits : copied bytes (16 * i) b ≡ laid bytes (16 * i) b = copied-fits bytes (16 * i) b room in
       let size : length bytes ≡ 112 = g .size in
       let places : length es ≡ 7 = g .places in
       let next : 16 * (i + 1) ≡ 16 * i + length b = omega arith in
       record {
-        size = laid-length bytes b (16 * i) room ∙ size;
+        size = ap length fits ∙ laid-length bytes b (16 * i) room ∙ size;
         places = places;
         inside = omega arith;
         so =
-            ap (λ (k : ℕ). take k (laid bytes (16 * i) b)) next
+            ap₂ (λ (k : ℕ) (l : List ℕ). take k l) next fits
             ∙ laid-front bytes b (16 * i) room
             ∙ ap₂ (λ (x y : List ℕ). x ++ y) (g .so) e
             ∙ sym (entries-snoc (take i es) (getD es i d))
@@ -181,21 +162,21 @@ module _ {es : List Entry} {bytes : List ℕ} {i : ℕ} (g : Laid es i bytes) wh
         size,
       )
 
-head-length : (t : Telegram) → length (headBytes t) ≡ 24
+head-length : (t : Telegram) → length (headBytes t) ≡ 16
 unfolding bytesOf
 head-length t = refl
 
-pub telegram-laid : (t : Telegram) (d : List ℕ) {head tail bytes : List ℕ} → length d ≡ 136 → head ≡ headBytes t → tail ≡ entriesBytes (t .entries)
-    → length tail ≡ 112 → bytes ≡ laid (laid d 0 head) 24 tail → bytes ≡ telegramBytes t
+pub telegram-laid : (t : Telegram) (d : List ℕ) {head count tail bytes : List ℕ} → length d ≡ 136 → head ≡ headBytes t → count ≡ bytesOf 8 (t .count)
+    → tail ≡ entriesBytes (t .entries) → length tail ≡ 112 → bytes ≡ copied (copied (copied d 0 head) 16 count) 24 tail → bytes ≡ telegramBytes t
 unfolding telegramBytes
-telegram-laid t d {head} {tail} {bytes} n h s l e =
-    let m : length head ≡ 24 = ap length h ∙ head-length t in
-    let both : length (head ++ tail) ≡ length d = omega (arith, length-append head tail) in
-    e ∙ ap (λ (k : ℕ). laid (laid d 0 head) k tail) (sym m ∙ sym (zero-add (length head)))
-    ∙ laid-on d 0 head tail (omega arith) ∙ laid-first d (head ++ tail)
-    ∙ ap (λ (k : ℕ). (head ++ tail) ++ drop k d) both
-    ∙ ap (λ (r : List ℕ). (head ++ tail) ++ r) (drop-length d) ∙ append-nil (head ++ tail)
-    ∙ ap₂ (λ (x y : List ℕ). x ++ y) h s
+telegram-laid t d {head} {count} {tail} {bytes} n h k s l e =
+    let m : length head ≡ 16 = ap length h ∙ head-length t in
+    let c : length count ≡ 8 = ap length k ∙ length-bytes 8 (t .count) in
+    let both : length (head ++ count) ≡ 24 = omega (arith, length-append head count) in
+    let all : length ((head ++ count) ++ tail) ≡ length d = omega (arith, length-append (head ++ count) tail) in
+    e ∙ ap (λ (x : List ℕ). copied x 24 tail) (copied-on d head count 16 m (omega arith))
+    ∙ copied-on d (head ++ count) tail 24 both (omega arith) ∙ copied-full d ((head ++ count) ++ tail) all
+    ∙ append-assoc head count tail ∙ ap₂ (λ (x y : List ℕ). x ++ y) h (ap₂ (λ (x y : List ℕ). x ++ y) k s)
 
 taken-size : (b : List ℕ) → length (telegramBytes (telegramIn b)) ≡ 136
 unfolding telegramIn entriesIn

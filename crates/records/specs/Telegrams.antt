@@ -4,8 +4,6 @@ use mathlib.Core.Bool.{cond}
 use mathlib.Core.List.{List, [], _∷_, _++_}
 use lib.Dec.{eqb}
 use lib.ListN.{take, drop}
-use Rattle.format.specs.declared.Kind.{Kind}
-use Rattle.format.specs.declared.Kind.the-variants.{Ack, Read, Enter, Leave, Data}
 use Rattle.format.specs.declared.Value.{Value}
 use Rattle.format.specs.declared.Value.the-variants.{Number, Time}
 use Rattle.format.specs.declared.Entry.{Entry}
@@ -14,6 +12,7 @@ use Rattle.format.specs.declared.Telegram.{Telegram}
 use Rattle.format.specs.Answers.{Answer}
 use Rattle.format.specs.Host.{kindNumber}
 use Rattle.format.specs.Lists.{at}
+use Rattle.kinds.specs.Kinds.{kindIn}
 use Rattle.low_first.specs.Numbers.{number, bytesOf}
 use Rattle.records.specs.Recorded.{recorded}
 
@@ -43,16 +42,12 @@ headBytes t =
     (kindNumber (t .kind) ∷ t .address ∷ t .method ∷ t .header .version ∷ [])
     ++ (bytesOf 4 (t .header .number)
     ++ (bytesOf 2 (t .header .maker)
-    ++ ((t .header .«meter_type» ∷ t .header .access ∷ t .header .status ∷ 0 ∷ 0 ∷ 0 ∷ [])
-    ++ bytesOf 8 (t .count))))
+    ++ (t .header .«meter_type» ∷ t .header .access ∷ t .header .status ∷ 0 ∷ 0 ∷ 0 ∷ [])))
 
 unfoldable pub telegramBytes : Telegram → List ℕ
-telegramBytes t = headBytes t ++ entriesBytes (t .entries)
+telegramBytes t = headBytes t ++ (bytesOf 8 (t .count) ++ entriesBytes (t .entries))
 
 -- ---- read
-
-abbrev pub kindIn : ℕ → Kind
-kindIn n = cond (eqb n 1) Ack (cond (eqb n 2) Read (cond (eqb n 3) Enter (cond (eqb n 4) Leave Data)))
 
 abbrev pub valueIn : ℕ → List ℕ → Value
 valueIn sort b =
@@ -62,6 +57,9 @@ valueIn sort b =
 
 unfoldable pub entryIn : List ℕ → Entry
 entryIn b = record { structure = at b 0; unit = at b 1; value = valueIn (at b 2) b }
+
+abbrev pub entryAt : List ℕ → ℕ → Entry
+entryAt b i = entryIn (take 16 (drop i b))
 
 unfoldable pub entriesIn : ℕ → List ℕ → List Entry
 entriesIn zero b = []

@@ -1,12 +1,9 @@
 // The record of a telegram.
 ghost use mathlib.Core.Path.{_≡_};
-ghost use mathlib.Core.List.{[], _∷_};
+ghost use Prim.Native.Nat.{_+_, _≤_};
 ghost use lib.ListN.{length};
-ghost use Rattle.format.specs.Host.{kindNumber};
 ghost use Rattle.format.specs.Telegrams.{shown};
-ghost use Rattle.records.specs.Telegrams.{sortOf, valueBytes, entryBytes, entriesBytes, headBytes, telegramBytes, kindIn, entryIn, entriesIn, headerIn, telegramIn, telegramFrom};
-use crate::is_same;
-use crate::lay;
+ghost use Rattle.records.specs.Telegrams.{sortOf, valueBytes, entryBytes, entriesBytes, headBytes, telegramBytes, entryIn, entryAt, entriesIn, headerIn, telegramIn, telegramFrom};
 use format::Decimal;
 use format::Entry;
 use format::Header;
@@ -16,6 +13,10 @@ use format::Outcome;
 use format::Reading;
 use format::Telegram;
 use format::Value;
+use kinds::kind_in;
+use kinds::kind_number;
+use lent::is_same;
+use lent::lay;
 use low_first::bytes_of_eight;
 use low_first::bytes_of_four;
 use low_first::bytes_of_two;
@@ -26,42 +27,6 @@ use reading::body::refused;
 
 // The bytes of a telegram's record.
 pub const SIZE: usize = 136;
-
-// The host's number of a kind.
-pub fn kind_number(kind: Kind) -> u8
-    ensures { λ r. ⌜ r ≡ kindNumber kind ⌝ }
-{
-    match kind {
-        Kind::Ack => 1,
-        Kind::Read => 2,
-        Kind::Enter => 3,
-        Kind::Leave => 4,
-        Kind::Data => 5,
-    }
-}
-
-// The kind of a number. One that is no kind's is taken as data, which no record of another number is and no request can be.
-pub fn kind_in(n: u8) -> Kind
-    ensures { λ r. ⌜ r ≡ kindIn n ⌝ }
-{
-    let ack = n == 1;
-    if ack {
-        return Kind::Ack;
-    }
-    let read = n == 2;
-    if read {
-        return Kind::Read;
-    }
-    let enter = n == 3;
-    if enter {
-        return Kind::Enter;
-    }
-    let leave = n == 4;
-    if leave {
-        return Kind::Leave;
-    }
-    Kind::Data
-}
 
 fn sort_of(value: Value) -> u8
     ensures { λ r. ⌜ r ≡ sortOf value ⌝ }
@@ -107,7 +72,8 @@ fn entry_bytes(e: Entry) -> [u8; 16]
     ]
 }
 
-fn head_bytes(t: Telegram) -> [u8; 24]
+// All that stands before the count.
+fn head_bytes(t: Telegram) -> [u8; 16]
     ensures { λ r. ⌜ r ≡ headBytes t ⌝ }
 {
     let h = t.header;
@@ -115,7 +81,6 @@ fn head_bytes(t: Telegram) -> [u8; 24]
     let kind = kind_number(k);
     let n = bytes_of_four(h.number);
     let m = bytes_of_two(h.maker);
-    let c = bytes_of_eight(t.count as u64);
     [
         kind,
         t.address,
@@ -133,14 +98,6 @@ fn head_bytes(t: Telegram) -> [u8; 24]
         0,
         0,
         0,
-        c[0],
-        c[1],
-        c[2],
-        c[3],
-        c[4],
-        c[5],
-        c[6],
-        c[7],
     ]
 }
 
@@ -162,10 +119,12 @@ pub fn telegram_bytes(t: Telegram) -> [u8; 136]
     ensures { λ r. ⌜ r ≡ telegramBytes t ⌝ }
 {
     let head = head_bytes(t);
+    let count = bytes_of_eight(t.count as u64);
     let e = t.entries;
     let entries = entries_bytes(e);
     let mut bytes = [0u8; 136];
     lay(&mut bytes, 0, &head);
+    lay(&mut bytes, 16, &count);
     lay(&mut bytes, 24, &entries);
     bytes
 }
@@ -216,17 +175,24 @@ fn header_in(b: &[u8]) -> Header
     }
 }
 
+fn entry_at(b: &[u8], at: usize) -> Entry
+    requires { ⌜ at + 16 ≤ length (now b) ⌝ }
+    ensures { λ r. ⌜ r ≡ entryAt (now (b .entry)) at ⌝ }
+{
+    entry_in(&b[at..at + 16])
+}
+
 fn entries_in(b: &[u8]) -> [Entry; 7]
     requires { ⌜ length (now b) ≡ 112 ⌝ }
     ensures { λ r. ⌜ r ≡ entriesIn 7 (now (b .entry)) ⌝ }
 {
-    let first = entry_in(&b[0..16]);
-    let second = entry_in(&b[16..32]);
-    let third = entry_in(&b[32..48]);
-    let fourth = entry_in(&b[48..64]);
-    let fifth = entry_in(&b[64..80]);
-    let sixth = entry_in(&b[80..96]);
-    let seventh = entry_in(&b[96..112]);
+    let first = entry_at(b, 0);
+    let second = entry_at(b, 16);
+    let third = entry_at(b, 32);
+    let fourth = entry_at(b, 48);
+    let fifth = entry_at(b, 64);
+    let sixth = entry_at(b, 80);
+    let seventh = entry_at(b, 96);
     [first, second, third, fourth, fifth, sixth, seventh]
 }
 

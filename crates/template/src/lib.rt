@@ -7,7 +7,7 @@ use format::Entry;
 use format::Kind;
 use format::Telegram;
 use format::Value;
-use parts::quantities::quantity_of;
+use quantities::quantity_of;
 use writable::is_unwritable;
 
 // A pair of totals, each a count of the last digit that the template gives it.

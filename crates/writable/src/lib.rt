@@ -15,9 +15,9 @@ use headers::heat_meter;
 use headers::maker_named;
 use moments::date_exists;
 use moments::time_exists;
-use parts::quantities::is_paired;
-use parts::quantities::quantity_of;
-use parts::quantities::width_of;
+use quantities::is_paired;
+use quantities::quantity_of;
+use quantities::width_of;
 
 // A value that is not blank.
 fn used_value(value: Value) -> bool

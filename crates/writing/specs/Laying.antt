@@ -9,9 +9,9 @@ use native.Mathlib.Omega.{arith}
 use borrow.Author.Tests.{eqb-true, not-false}
 use lib.Count.{onesIn}
 use lib.Dec.{eqb, ltb, lit<}
-use lib.ListN.{length, getD, take, drop, set, length-append, length-take, length-drop, take-append-drop, drop-of-length-le, length-map, List·getD-map}
-use lib.Seq.{drop-cons, drop-drop, take-add, take-suc, take-take, getD-take, take-at, drop-at, take-append-seam, drop-append-add, length-take-le, take-length, paste, paste-zero, paste-suc, length-paste}
-use Rattle.low_first.specs.Copying.{laid, Copied, copied-none, copied-next, copied-length, copied-all, laid-on}
+use lib.ListN.{length, getD, take, drop, set, length-append, length-take, take-append-drop, drop-of-length-le, length-map, List·getD-map}
+use lib.Seq.{drop-cons, take-add, take-suc, take-take, getD-take, take-at, drop-at, take-append-seam, length-take-le}
+use Rattle.lent.specs.Copying.{laid, copied, copied-fits, Copied, copied-none, copied-next, copied-length, copied-all, laid-on, laid-length}
 use Rattle.format.specs.declared.Value.{Value}
 use Rattle.format.specs.declared.Value.the-variants.{Number, Time}
 use Rattle.format.specs.declared.Kind.{Kind}
@@ -146,12 +146,13 @@ pub record EntryLaid (e : Entry) (before after : List ℕ) (at next : ℕ) : Typ
   pub so : next ≡ at + length (bytesOfEntry e)
 
 pub entry-laid : {e : Entry} {before after : List ℕ} {at width : ℕ} → EntryFits e before at → width ≡ 2 + widthOf (e .structure)
-    → after ≡ laid before at (take width (e .structure ∷ e .unit ∷ sixBytes (e .value))) → EntryLaid e before after at (at + width)
+    → after ≡ copied before at (take width (e .structure ∷ e .unit ∷ sixBytes (e .value))) → EntryLaid e before after at (at + width)
 entry-laid {e} {before} {after} {at} {width} f w l =
     let c : EntryCut e = entry-cut e (f .right) in
     let same : take width (e .structure ∷ e .unit ∷ sixBytes (e .value)) ≡ bytesOfEntry e =
     ap (λ (k : ℕ). take k (e .structure ∷ e .unit ∷ sixBytes (e .value))) w ∙ c .cut in
-    record { bytes = l ∙ ap (laid before at) same; so = ap (λ (k : ℕ). at + k) (w ∙ sym (c .width)) }
+    let room : at + length (bytesOfEntry e) ≤ length before = omega (arith, f .room, f .size) in
+    record { bytes = l ∙ ap (copied before at) same ∙ copied-fits before at (bytesOfEntry e) room; so = ap (λ (k : ℕ). at + k) (w ∙ sym (c .width)) }
 
 -- the same for all entries
 pub record EntriesFit (entries : List Entry) (count : ℕ) (before : List ℕ) : Type 0 where
@@ -190,14 +191,6 @@ pub record Laying (entries : List Entry) (count : ℕ) (before : List ℕ) (i at
   pub bytes : now ≡ laid before 19 (bytesOfEntries (take i entries))
   pub so : at ≡ 19 + length (bytesOfEntries (take i entries))
   pub same : length now ≡ 77
-
-laid-length : (d : List ℕ) (at : ℕ) (s : List ℕ) → at + length s ≤ length d → length (laid d at s) ≡ length d
-laid-length d at s h =
-    let n = length-append (take at d ++ s) (drop (at + length s) d) in
-    let m = length-append (take at d) s in
-    let k : length (take at d) ≡ at = length-take-le at d (omega arith) in
-    let r = length-drop (at + length s) d in
-    omega arith
 
 pub laying-none : {entries : List Entry} {count : ℕ} {before : List ℕ} → length entries ≡ 7 → EntriesFit entries count before → Laying entries count before 0 19 before
 unfolding bytesOfEntries
@@ -244,7 +237,7 @@ module _ {entries : List Entry} {count : ℕ} {before : List ℕ} {i at : ℕ} {
         inside = omega arith;
         bytes = l .bytes ∙ ap₂ (λ (b : List ℕ) (k : ℕ). laid b k (bytesOfEntry x)) (g .bytes) (g .so) ∙ on ∙ rw (add-one, more);
         so = rw add-one (omega (arith, g .so, l .so));
-        same = ap length (l .bytes) ∙ laid-length now at (bytesOfEntry x) (omega arith) ∙ same;
+        same = ap length (l .bytes) ∙ laid-length now (bytesOfEntry x) at (omega arith) ∙ same;
       }
 
 pub laying-all : {entries : List Entry} {count : ℕ} {before : List ℕ} {i at : ℕ} {now : List ℕ} → Laying entries count before i at now → count ≤ i → EntriesLaid (take count entries) before now at
@@ -270,15 +263,16 @@ part-cut b from end h k =
     sym (ap (λ (j : ℕ). drop from (take j b)) e ∙ ap (drop from) (take-add from (end - from) b) ∙ drop-at (take from b) (take (end - from) (drop from b)) from n)
 
 pub frame-closed : {before after : List ℕ} {from end sum : ℕ} → (from ≤ end) × (end ≤ 75) × (length before ≡ 77) → sum ≡ total (take (end - from) (drop from before)) % 256
-    → after ≡ laid before end (sum ∷ 0x16 ∷ []) → FrameClosed before after from end (end + 2)
+    → after ≡ copied before end (sum ∷ 0x16 ∷ []) → FrameClosed before after from end (end + 2)
 frame-closed {before} {after} {from} {end} {sum} h e l =
     let front : List ℕ = take end before ++ (sum ∷ 0x16 ∷ []) in
     let part : take (end - from) (drop from before) ≡ drop from (take end before) = part-cut before from end (h .0) (omega arith) in
     let n : length (take end before) ≡ end = length-take-le end before (omega arith) in
     let m : length front ≡ end + 2 = length-append (take end before) (sum ∷ 0x16 ∷ []) ∙ ap (λ (k : ℕ). k + 2) n in
+    let fits : copied before end (sum ∷ 0x16 ∷ []) ≡ laid before end (sum ∷ 0x16 ∷ []) = copied-fits before end (sum ∷ 0x16 ∷ []) (omega arith) in
     record {
       bytes =
-          ap (take (end + 2)) l ∙ take-at front (drop (end + 2) before) (end + 2) m
+          ap (take (end + 2)) (l ∙ fits) ∙ take-at front (drop (end + 2) before) (end + 2) m
           ∙ ap (λ (x : ℕ). take end before ++ (x ∷ 0x16 ∷ [])) (e ∙ ap (λ (q : List ℕ). total q % 256) part);
       so = refl;
     }
@@ -297,9 +291,9 @@ frame-laid {before} {after} {from} {end} {next} s c e n =
       so = c .so ∙ ap (λ (k : ℕ). k + 2) (sym n) ∙ sym (length-append s (total (drop from s) % 256 ∷ 0x16 ∷ []));
     }
 
--- what is laid from the first place on stands there
-pub front-laid : (d : List ℕ) {after : List ℕ} (s : List ℕ) → after ≡ laid d 0 s → take (length s) after ≡ s
-front-laid d {after} s e = ap (take (length s)) e ∙ take-append-seam s (drop (0 + length s) d)
+-- what is copied to the first place stands there
+pub front-laid : (d : List ℕ) {after : List ℕ} (s : List ℕ) → length s ≤ length d → after ≡ copied d 0 s → take (length s) after ≡ s
+front-laid d {after} s h e = ap (take (length s)) (e ∙ copied-fits d 0 s (omega arith)) ∙ take-append-seam s (drop (0 + length s) d)
 
 -- what a data telegram's bytes ask
 pub record DataFits (t : Telegram) (before : List ℕ) : Type 0 where
@@ -323,7 +317,7 @@ module _ {t : Telegram} {before : List ℕ} (f : DataFits t before) where
 
   -- the entries, then the start before them, then the end
   pub data-laid : {first second last : List ℕ} {end next : ℕ} {head : List ℕ} → EntriesLaid (entriesOf t) before first end
-      → head ≡ 0x68 ∷ (end - 4) ∷ (end - 4) ∷ 0x68 ∷ 0x08 ∷ t .address ∷ 0x72 ∷ bytesOfHeader (t .header) → second ≡ laid first 0 head
+      → head ≡ 0x68 ∷ (end - 4) ∷ (end - 4) ∷ 0x68 ∷ 0x08 ∷ t .address ∷ 0x72 ∷ bytesOfHeader (t .header) → second ≡ copied first 0 head
       → FrameClosed second last 4 end next → BytesLaid (bytesOfKind Data t) last next
   data-laid {first} {second} {last} {end} {next} {head} l e m c =
       let h : List ℕ = bytesOfHeader (t .header) in
@@ -339,8 +333,9 @@ module _ {t : Telegram} {before : List ℕ} (f : DataFits t before) where
       let past : drop 19 first ≡ es ++ rest =
       ap (drop 19) (l .bytes ∙ append-assoc (take 19 before) es rest) ∙ drop-at (take 19 before) (es ++ rest) 19 (length-take-le 19 before (omega arith)) in
       let place : 0 + length start ≡ 19 = omega arith in
+      let same : length first ≡ length before = ap length (l .bytes) ∙ laid-length before es 19 (omega (arith, entries-end l)) in
       let whole : second ≡ start ++ es ++ rest =
-      m ∙ ap (laid first 0) e ∙ ap (λ (k : ℕ). start ++ drop k first) place ∙ ap (λ (q : List ℕ). start ++ q) past ∙ sym (append-assoc start es rest) in
+      m ∙ ap (copied first 0) e ∙ copied-fits first 0 start (omega arith) ∙ ap (λ (k : ℕ). start ++ drop k first) place ∙ ap (λ (q : List ℕ). start ++ q) past ∙ sym (append-assoc start es rest) in
       let count : length (start ++ es) ≡ end = length-append start es ∙ omega arith in
       let front : take end second ≡ start ++ es = ap (take end) whole ∙ take-at (start ++ es) rest end count in
       let b : BytesLaid (start ++ es ++ (total body % 256 ∷ 0x16 ∷ [])) last next = frame-laid (start ++ es) c front count in
@@ -352,8 +347,8 @@ module _ {t : Telegram} {before : List ℕ} (f : DataFits t before) where
 pub kind-laid : (t : Telegram) {k : Kind} {after : List ℕ} {n : ℕ} → t .kind ≡ k → BytesLaid (bytesOfKind k t) after n → BytesLaid (bytesOfKind (t .kind) t) after n
 kind-laid t {k} {after} {n} e b = subst (λ (x : Kind). BytesLaid (bytesOfKind x t) after n) (sym e) b
 
-pub ack-laid : (d : List ℕ) {after : List ℕ} → after ≡ laid d 0 (0xE5 ∷ []) → BytesLaid (0xE5 ∷ []) after 1
-ack-laid d e = record { bytes = front-laid d (0xE5 ∷ []) e; so = refl }
+pub ack-laid : (d : List ℕ) {after : List ℕ} → length d ≡ 77 → after ≡ copied d 0 (0xE5 ∷ []) → BytesLaid (0xE5 ∷ []) after 1
+ack-laid d n e = record { bytes = front-laid d (0xE5 ∷ []) (omega arith) e; so = refl }
 
 pub data-fits : (t : Telegram) {before : List ℕ} → t .kind ≡ Data → unwritable t ≡ false → length before ≡ 77 → DataFits t before
 unfolding unwritable

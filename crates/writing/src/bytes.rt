@@ -9,7 +9,6 @@ ghost use Rattle.format.specs.Characters.{carrier};
 ghost use Rattle.format.specs.Digits.{packed};
 ghost use Rattle.format.specs.Moments.{dateExists, timeExists};
 ghost use Rattle.format.specs.Writing.{momentBytes, bytesOfHeader, shortFrame, longFrame, bytesOfKind, unwritable};
-ghost use Rattle.low_first.specs.Copying.{laid};
 ghost use Rattle.writing.specs.Laying.{sixBytes, exists, EntryFits, EntryLaid, EntriesFit, EntriesLaid, FrameClosed, BytesLaid, DataFits};
 use format::Entry;
 use format::Header;
@@ -17,7 +16,8 @@ use format::Kind;
 use format::Moment;
 use format::Telegram;
 use format::Value;
-use parts::quantities::width_of;
+use lent::lay;
+use quantities::width_of;
 
 // Two digits in a byte, the units in its low half.
 fn two_digits(n: u64) -> u8
@@ -100,18 +100,6 @@ fn head_bytes(l: u8, address: u8, h: Header) -> [u8; 19]
         0,
         0,
     ]
-}
-
-// Puts bytes in their places.
-fn lay(to: &mut [u8], at: usize, from: &[u8])
-    requires { ⌜ at + length (now from) ≤ length (now to) ⌝ }
-    ensures { λ _. ⌜ now (to .exit) ≡ laid (now (to .entry)) at (now (from .entry)) ⌝ }
-{
-    let mut i = 0;
-    while i < from.len() {
-        to[at + i] = from[i];
-        i += 1;
-    }
 }
 
 // The sum of the bytes, modulo 256.

@@ -3,7 +3,7 @@ use borrow.Author.Needs.{needs}
 use Prim.Native.Nat.{_≤_}
 use native.Mathlib.Omega.{arith}
 use denote.Ref.{now}
-use Rattle.bundle.specs.Rows.{mostRows, firstOffset}
+use Rattle.contents.specs.Rows.{mostRows, firstOffset}
 use Rattle.adding.specs.Adding.{recorded}
 use Rattle.adding.specs.Grown.{old-rows, old-first, steps-held}
 use Rattle.adding.proofs.insert.Statement.{statement}

@@ -3,7 +3,7 @@ use borrow.Author.Needs.{needs}
 use mathlib.Core.Path.{ap, _∙_}
 use native.Mathlib.Omega.{arith}
 use denote.Ref.{now}
-use Rattle.bundle.specs.declared.Row.{Row}
+use Rattle.contents.specs.declared.Row.{Row}
 use Rattle.adding.specs.Adding.{last-none, last-there}
 use Rattle.adding.proofs.last_time.Statement.{statement}
 use Rattle.adding.proofs.last_time.Tie as tie

@@ -1,6 +1,7 @@
 -- `host_exchange::keep` meets its contract. Assumes nothing.
 use borrow.Author.Needs.{needs}
 use denote.Ref.{now}
+use mathlib.Core.Path.{refl}
 use Rattle.host_exchange.specs.Calls.{kept-refused, kept-to}
 use Rattle.host_exchange.proofs.keep.Statement.{statement}
 use Rattle.host_exchange.proofs.keep.Tie as tie
@@ -26,8 +27,8 @@ slice-aggregate-store c = search needs
 store-requires : tie.Need-store-requires
 store-requires c κs = search needs
 
-state-number-requires : tie.Need-state-number-requires
-state-number-requires c κs = search needs
+array-read-result : tie.Need-array-read-result
+array-read-result c = search needs
 
 cast-result-2 : tie.Need-cast-result-2
 cast-result-2 c = search needs
@@ -39,7 +40,7 @@ same-length : tie.Need-same-length
 same-length c = search needs
 
 returns-2 : tie.Need-returns-2
-returns-2 c = kept-to (now (c .before .before .before .before .before .before .before .before .before .before .before .args .kept)) (c .before .before .before .before .before .before .before .before .stepped2 .given .1) (c .before .before .before .before .before .before .exchange-bytes .ensures) (c .before .before .before .before .before .before .before .before .before .before .before .pre) (c .before .before .before .store .ensures .1) (c .state-number .ensures)
+returns-2 c = kept-to (now (c .before .before .before .before .before .before .before .before .before .before .args .kept)) (c .before .before .before .before .before .before .before .stepped2 .given .1) (c .before .before .before .before .before .exchange-bytes .ensures) (c .before .before .before .before .before .before .before .before .before .before .pre) (c .before .before .store .ensures .1) refl
 
 pub keep-spec : {M : Type 1} → statement M
 keep-spec =
@@ -52,7 +53,7 @@ keep-spec =
     exchange-bytes-requires
     slice-aggregate-store
     store-requires
-    state-number-requires
+    array-read-result
     cast-result-2
     returns
     same-length

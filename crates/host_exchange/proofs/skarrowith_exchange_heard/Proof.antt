@@ -40,11 +40,8 @@ same-length c = search needs
 returns : tie.Need-returns
 returns c = let args = c .before .before .before .before .before .before .before .before .before .before .args in hears-short (now (args .kept)) (now (args .line)) (args .t) (now (args .reply)) (lent-whole (now (args .kept)) (c .before .before .before .before .exchange-from .ensures)) (c .before .before .stood2 .given .1) (c .if1 .taken)
 
-heard-requires : tie.Need-heard-requires
-heard-requires c κs = search needs
-
-keep-heard-requires : tie.Need-keep-heard-requires
-keep-heard-requires c κs = let args = c .before .before .before .before .before .before .before .before .before .before .before .before .before .args in (room-read (now (args .kept)) (lent-whole (now (args .kept)) (c .before .before .before .before .before .before .before .exchange-from .ensures)) (c .before .before .before .before .before .stood2 .given .1), ltb-false (length (now (args .reply))) 136 (c .before .before .before .if1 .left))
+hear-requires : tie.Need-hear-requires
+hear-requires c κs = let args = c .before .before .before .before .before .before .before .before .before .before .before .before .args in (room-read (now (args .kept)) (lent-whole (now (args .kept)) (c .before .before .before .before .before .before .exchange-from .ensures)) (c .before .before .before .before .stood2 .given .1), ltb-false (length (now (args .reply))) 136 (c .before .before .if1 .left))
 
 same-length-2 : tie.Need-same-length-2
 same-length-2 c = search needs
@@ -59,7 +56,7 @@ same-length-4 : tie.Need-same-length-4
 same-length-4 c = search needs
 
 returns-3 : tie.Need-returns-3
-returns-3 c = let args = c .before .before .before .before .before .before .before .before .before .before .before .before .before .before .before .before .before .before .args in hears-line (now (args .kept)) (now (args .line)) (args .t) (now (args .reply)) (lent-whole (now (args .kept)) (c .before .before .before .before .before .before .before .before .before .before .before .before .exchange-from .ensures)) (c .before .before .before .before .before .before .before .before .before .before .stood2 .given .1) (c .before .before .before .before .before .before .before .before .if1 .left) (c .before .before .before .before .before .before .before .heard .ensures) (c .before .before .before .before .keep-heard .ensures)
+returns-3 c = let args = c .before .before .before .before .before .before .before .before .before .before .before .before .before .before .before .before .before .args in hears-line (now (args .kept)) (now (args .line)) (args .t) (now (args .reply)) (lent-whole (now (args .kept)) (c .before .before .before .before .before .before .before .before .before .before .before .exchange-from .ensures)) (c .before .before .before .before .before .before .before .before .before .stood2 .given .1) (c .before .before .before .before .before .before .before .if1 .left) (c .before .before .before .before .hear .ensures)
 
 pub skarrowith-exchange-heard-spec : {M : Type 1} → statement M
 skarrowith-exchange-heard-spec =
@@ -76,8 +73,7 @@ skarrowith-exchange-heard-spec =
     add-result-2
     same-length
     returns
-    heard-requires
-    keep-heard-requires
+    hear-requires
     same-length-2
     returns-2
     same-length-3

@@ -1,12 +1,35 @@
 -- `host_meter::keep` meets its contract. Assumes nothing.
-use borrow.Author.Needs.{needs}
+use Prim.Native.Nat.{ℕ, _≤_}
+use mathlib.Core.List.{List, [], _∷_}
+use mathlib.Core.Path.{_≡_}
 use denote.Ref.{now}
-use Rattle.host_meter.specs.CallLaws.{kept-silent, kept-says}
+use denote.Enum.Declared.{tagOf}
+use types.Run.{OneOf, miss}
+use lib.ListN.{length}
+use Rattle.format.specs.Answers.{reads}
+use Rattle.lent.specs.Lent.{stored, needs as places, stored-whole}
+use Rattle.meter.proofs.Reply as told
+use Rattle.meter.specs.declared.Meter.{Meter}
+use Rattle.meter.specs.declared.Reply.{Reply}
+use Rattle.meter.specs.declared.Reply.the-variants.{Silence, Says, Refused}
+use Rattle.meter_record.specs.MeterRecords.{meterBytes}
+use Rattle.host_meter.specs.CallLaws.{keptBy}
+use borrow.Author.Needs.{needs}
 use Rattle.host_meter.proofs.keep.Statement.{statement}
 use Rattle.host_meter.proofs.keep.Tie as tie
 
+-- the meter's record, in as many places as it needs: by a reply that is no refusal
+kept-whole : (b : List ℕ) (m : Meter) (reply : Reply) {w after : List ℕ} → OneOf (0 ∷ 1 ∷ []) (tagOf told.the-type reply) → w ≡ meterBytes m
+    → length w ≤ length b → after ≡ stored (λ c. c) b (places (length w) b (reads w)) → after ≡ keptBy reply m b
+kept-whole b m Silence one n h l = stored-whole meterBytes m b n (rw n at h) l
+kept-whole b m Says one n h l = stored-whole meterBytes m b n (rw n at h) l
+kept-whole b m (Refused k) one n h l = absurd (miss (0 ∷ 1 ∷ []) 2 tt one)
+
 enum-told : tie.Need-enum-told
 enum-told c = search needs
+
+returns : tie.Need-returns
+returns c = rw (c .enum-told .given .1)
 
 meter-bytes-requires : tie.Need-meter-bytes-requires
 meter-bytes-requires c κs = search needs
@@ -17,51 +40,22 @@ slice-aggregate-store c = search needs
 store-requires : tie.Need-store-requires
 store-requires c κs = search needs
 
-enum-told-2 : tie.Need-enum-told-2
-enum-told-2 c = search needs
-
-meter-bytes-requires-2 : tie.Need-meter-bytes-requires-2
-meter-bytes-requires-2 c κs = search needs
-
-slice-aggregate-store-2 : tie.Need-slice-aggregate-store-2
-slice-aggregate-store-2 c = search needs
-
-store-requires-2 : tie.Need-store-requires-2
-store-requires-2 c κs = search needs
-
-enum-told-3 : tie.Need-enum-told-3
-enum-told-3 c = search needs
-
 same-length : tie.Need-same-length
 same-length c = search needs
 
-returns : tie.Need-returns
-returns c = kept-silent (now (c .before .before .before .before .before .before .before .before .before .args .kept)) (c .before .before .before .before .before .before .before .before .before .args .m) (c .before .before .before .before .before .before .enum-told .given .1) (c .before .before .before .before .before .meter-bytes .ensures) (search needs) (c .before .before .store .ensures .1)
-
-same-length-2 : tie.Need-same-length-2
-same-length-2 c = search needs
-
 returns-2 : tie.Need-returns-2
-returns-2 c = kept-says (now (c .before .before .before .before .before .before .before .before .before .args .kept)) (c .before .before .before .before .before .before .before .before .before .args .m) (c .before .before .before .before .before .before .enum-told2 .given .1) (c .before .before .before .before .before .meter-bytes2 .ensures) (search needs) (c .before .before .store2 .ensures .1)
-
-returns-3 : tie.Need-returns-3
-returns-3 c = rw (c .enum-told3 .given .1)
+returns-2 c =
+    let a = c .before .before .before .before .before .before .before .before .args in
+    kept-whole (now (a .kept)) (a .m) (a .reply) (c .before .before .before .before .before .before .match .keys2) (c .before .before .before .before .before .meter-bytes .ensures) (search needs) (c .before .before .store .ensures .1)
 
 pub keep-spec : {M : Type 1} → statement M
 keep-spec =
     tie.close
     (tie.spec
     enum-told
+    returns
     meter-bytes-requires
     slice-aggregate-store
     store-requires
-    enum-told-2
-    meter-bytes-requires-2
-    slice-aggregate-store-2
-    store-requires-2
-    enum-told-3
     same-length
-    returns
-    same-length-2
-    returns-2
-    returns-3)
+    returns-2)

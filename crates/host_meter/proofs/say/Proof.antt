@@ -1,15 +1,27 @@
 -- `host_meter::say` meets its contract. Assumes nothing.
-use borrow.Author.Needs.{needs}
+use Prim.Native.Nat.{ℕ}
+use mathlib.Core.List.{List, [], _∷_}
+use mathlib.Core.Path.{_≡_, refl}
 use denote.Ref.{now}
-use Rattle.host_meter.specs.CallLaws.{said-says}
+use denote.Enum.Declared.{tagOf}
+use types.Run.{OneOf, miss}
+use Rattle.format.specs.declared.Telegram.{Telegram}
+use Rattle.meter.proofs.Reply as told
+use Rattle.meter.specs.declared.Reply.{Reply}
+use Rattle.meter.specs.declared.Reply.the-variants.{Silence, Says, Refused}
+use Rattle.host_meter.specs.CallLaws.{saidBy, said-says}
+use borrow.Author.Needs.{needs}
 use Rattle.host_meter.proofs.say.Statement.{statement}
 use Rattle.host_meter.proofs.say.Tie as tie
 
+-- nothing is said by any other reply
+said-nothing : (out : List ℕ) (x : Telegram) (reply : Reply) → OneOf (0 ∷ 2 ∷ []) (tagOf told.the-type reply) → out ≡ saidBy reply x out
+said-nothing out x Silence one = refl
+said-nothing out x (Refused n) one = refl
+said-nothing out x Says one = absurd (miss (0 ∷ 2 ∷ []) 1 tt one)
+
 enum-told : tie.Need-enum-told
 enum-told c = search needs
-
-enum-told-2 : tie.Need-enum-told-2
-enum-told-2 c = search needs
 
 telegram-bytes-requires : tie.Need-telegram-bytes-requires
 telegram-bytes-requires c κs = search needs
@@ -20,32 +32,25 @@ slice-aggregate-store c = search needs
 store-requires : tie.Need-store-requires
 store-requires c κs = search needs
 
-enum-told-3 : tie.Need-enum-told-3
-enum-told-3 c = search needs
-
-returns : tie.Need-returns
-returns c = search needs
-
 same-length : tie.Need-same-length
 same-length c = search needs
 
-returns-2 : tie.Need-returns-2
-returns-2 c = said-says (now (c .before .before .before .before .before .before .before .before .before .args .answer)) (c .before .before .before .before .before .before .before .before .before .args .telegram) (c .before .before .before .before .before .before .enum-told2 .given .1) (c .before .before .before .before .before .telegram-bytes .ensures) (search needs) (c .before .before .store .ensures .1)
+returns : tie.Need-returns
+returns c =
+    let a = c .before .before .before .before .before .before .before .before .before .args in
+    said-says (now (a .answer)) (a .telegram) (c .before .before .before .before .before .before .enum-told .given .1) (c .before .before .before .before .before .telegram-bytes .ensures) (search needs) (c .before .before .store .ensures .1)
 
-returns-3 : tie.Need-returns-3
-returns-3 c = search needs
+returns-2 : tie.Need-returns-2
+returns-2 c = let a = c .before .before .args in said-nothing (now (a .answer)) (a .telegram) (a .reply) (c .match .keys2)
 
 pub say-spec : {M : Type 1} → statement M
 say-spec =
     tie.close
     (tie.spec
     enum-told
-    enum-told-2
     telegram-bytes-requires
     slice-aggregate-store
     store-requires
-    enum-told-3
-    returns
     same-length
-    returns-2
-    returns-3)
+    returns
+    returns-2)

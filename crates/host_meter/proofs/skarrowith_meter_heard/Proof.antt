@@ -1,9 +1,9 @@
 -- `host_meter::skarrowith_meter_heard` meets its contract. Assumes nothing.
-use borrow.Author.Needs.{needs}
 use denote.Ref.{now}
 use borrow.Author.Tests.{ltb-false}
 use lib.ListN.{length}
 use Rattle.host_meter.specs.CallLaws.{lent-whole, room, hears-none, hears-short, hears-line}
+use borrow.Author.Needs.{needs}
 use Rattle.host_meter.proofs.skarrowith_meter_heard.Statement.{statement}
 use Rattle.host_meter.proofs.skarrowith_meter_heard.Tie as tie
 
@@ -28,29 +28,32 @@ cast-result c = search needs
 add-result : tie.Need-add-result
 add-result c = search needs
 
+same-length : tie.Need-same-length
+same-length c = search needs
+
+returns : tie.Need-returns
+returns c =
+    let a = c .before .before .before .before .before .before .before .before .before .args in
+    hears-none (now (a .kept)) (lent-whole (now (a .kept)) (c .before .before .before .meter-from .ensures)) (now (a .line)) (record { 0 = a .t }) (now (a .answer)) (c .before .outcome .given .1)
+
 enum-told : tie.Need-enum-told
 enum-told c = search needs
 
 add-result-2 : tie.Need-add-result-2
 add-result-2 c = search needs
 
-same-length : tie.Need-same-length
-same-length c = search needs
-
-returns : tie.Need-returns
-returns c = let args = c .before .before .before .before .before .before .before .before .before .args in hears-short (now (args .kept)) (lent-whole (now (args .kept)) (c .before .before .before .meter-from .ensures)) (now (args .line)) (record { 0 = args .t }) (now (args .answer)) (c .before .enum-told .given .1) (c .if1 .taken)
-
-heard-requires : tie.Need-heard-requires
-heard-requires c κs = search needs
-
-keep-heard-requires : tie.Need-keep-heard-requires
-keep-heard-requires c κs = let args = c .before .before .before .before .before .before .before .before .before .before .before .before .before .args in (room (now (args .kept)) (lent-whole (now (args .kept)) (c .before .before .before .before .before .before .before .meter-from .ensures)) (c .before .before .before .before .before .enum-told .given .1), ltb-false (length (now (args .answer))) 136 (c .before .before .before .before .if1 .left))
-
 same-length-2 : tie.Need-same-length-2
 same-length-2 c = search needs
 
 returns-2 : tie.Need-returns-2
-returns-2 c = let args = c .before .before .before .before .before .before .before .before .before .args in hears-none (now (args .kept)) (lent-whole (now (args .kept)) (c .before .before .before .meter-from .ensures)) (now (args .line)) (record { 0 = args .t }) (now (args .answer)) (c .before .outcome .given .1)
+returns-2 c =
+    let a = c .before .before .before .before .before .before .before .before .before .args in
+    hears-short (now (a .kept)) (lent-whole (now (a .kept)) (c .before .before .before .meter-from .ensures)) (now (a .line)) (record { 0 = a .t }) (now (a .answer)) (c .before .enum-told .given .1) (c .if1 .taken)
+
+hear-requires : tie.Need-hear-requires
+hear-requires c κs =
+    let a = c .before .before .before .before .before .before .before .before .before .before .before .args in
+    (room (now (a .kept)) (lent-whole (now (a .kept)) (c .before .before .before .before .before .meter-from .ensures)) (c .before .before .before .enum-told .given .1), ltb-false (length (now (a .answer))) 136 (c .before .before .if1 .left))
 
 same-length-3 : tie.Need-same-length-3
 same-length-3 c = search needs
@@ -59,7 +62,9 @@ same-length-4 : tie.Need-same-length-4
 same-length-4 c = search needs
 
 returns-3 : tie.Need-returns-3
-returns-3 c = let args = c .before .before .before .before .before .before .before .before .before .before .before .before .before .before .before .before .before .before .args in hears-line (now (args .kept)) (lent-whole (now (args .kept)) (c .before .before .before .before .before .before .before .before .before .before .before .before .meter-from .ensures)) (now (args .line)) (record { 0 = args .t }) (now (args .answer)) (c .before .before .before .before .before .before .before .before .before .before .enum-told .given .1) (c .before .before .before .before .before .before .before .before .before .if1 .left) (c .before .before .before .before .before .before .before .heard .ensures) (c .before .before .before .before .keep-heard .ensures)
+returns-3 c =
+    let a = c .before .before .before .before .before .before .before .before .before .before .before .before .before .before .before .before .args in
+    hears-line (now (a .kept)) (lent-whole (now (a .kept)) (c .before .before .before .before .before .before .before .before .before .before .meter-from .ensures)) (now (a .line)) (record { 0 = a .t }) (now (a .answer)) (c .before .before .before .before .before .before .before .before .enum-told .given .1) (c .before .before .before .before .before .before .before .if1 .left) (c .before .before .before .before .hear .ensures)
 
 pub skarrowith-meter-heard-spec : {M : Type 1} → statement M
 skarrowith-meter-heard-spec =
@@ -72,14 +77,13 @@ skarrowith-meter-heard-spec =
     enum-known-outcome
     cast-result
     add-result
-    enum-told
-    add-result-2
     same-length
     returns
-    heard-requires
-    keep-heard-requires
+    enum-told
+    add-result-2
     same-length-2
     returns-2
+    hear-requires
     same-length-3
     same-length-4
     returns-3)

@@ -1,7 +1,7 @@
 -- `host_meter::skarrowith_meter_measure` meets its contract. Assumes nothing.
-use borrow.Author.Needs.{needs}
 use denote.Ref.{now}
 use Rattle.host_meter.specs.CallLaws.{lent-whole, room, measures-none, measures}
+use borrow.Author.Needs.{needs}
 use Rattle.host_meter.proofs.skarrowith_meter_measure.Statement.{statement}
 use Rattle.host_meter.proofs.skarrowith_meter_measure.Tie as tie
 
@@ -26,26 +26,32 @@ cast-result c = search needs
 add-result : tie.Need-add-result
 add-result c = search needs
 
+same-length : tie.Need-same-length
+same-length c = search needs
+
+returns : tie.Need-returns
+returns c =
+    let a = c .before .before .before .before .before .before .before .args in
+    measures-none (now (a .kept)) (lent-whole (now (a .kept)) (c .before .before .before .meter-from .ensures)) (a .volume) (a .energy) (record { 0 = a .t }) (c .before .outcome .given .1)
+
 enum-told : tie.Need-enum-told
 enum-told c = search needs
 
 measure-requires : tie.Need-measure-requires
 measure-requires c κs = search needs
 
-keep-measured-requires : tie.Need-keep-measured-requires
-keep-measured-requires c κs = let args = c .before .before .before .before .before .before .before .before .before .args in room (now (args .kept)) (lent-whole (now (args .kept)) (c .before .before .before .before .before .meter-from .ensures)) (c .before .before .before .enum-told .given .1)
-
-same-length : tie.Need-same-length
-same-length c = search needs
-
-returns : tie.Need-returns
-returns c = let args = c .before .before .before .before .before .before .before .args in measures-none (now (args .kept)) (lent-whole (now (args .kept)) (c .before .before .before .meter-from .ensures)) (args .volume) (args .energy) (record { 0 = args .t }) (c .before .outcome .given .1)
+keep-step-requires : tie.Need-keep-step-requires
+keep-step-requires c κs =
+    let kept = now (c .before .before .before .before .before .before .before .before .before .args .kept) in
+    room kept (lent-whole kept (c .before .before .before .before .before .meter-from .ensures)) (c .before .before .before .enum-told .given .1)
 
 same-length-2 : tie.Need-same-length-2
 same-length-2 c = search needs
 
 returns-2 : tie.Need-returns-2
-returns-2 c = let args = c .before .before .before .before .before .before .before .before .before .before .before .before .args in measures (now (args .kept)) (lent-whole (now (args .kept)) (c .before .before .before .before .before .before .before .before .meter-from .ensures)) (args .volume) (args .energy) (record { 0 = args .t }) (c .before .before .before .before .before .before .enum-told .given .1) (c .before .before .before .before .measure .ensures) (c .before .before .keep-measured .ensures)
+returns-2 c =
+    let a = c .before .before .before .before .before .before .before .before .before .before .before .before .args in
+    measures (now (a .kept)) (lent-whole (now (a .kept)) (c .before .before .before .before .before .before .before .before .meter-from .ensures)) (a .volume) (a .energy) (record { 0 = a .t }) (c .before .before .before .before .before .before .enum-told .given .1) (c .before .before .before .before .measure .ensures) (c .before .before .keep-step .ensures)
 
 pub skarrowith-meter-measure-spec : {M : Type 1} → statement M
 skarrowith-meter-measure-spec =
@@ -58,10 +64,10 @@ skarrowith-meter-measure-spec =
     enum-known-outcome
     cast-result
     add-result
-    enum-told
-    measure-requires
-    keep-measured-requires
     same-length
     returns
+    enum-told
+    measure-requires
+    keep-step-requires
     same-length-2
     returns-2)

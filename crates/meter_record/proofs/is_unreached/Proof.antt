@@ -3,6 +3,9 @@ use borrow.Author.Needs.{needs}
 use Rattle.meter_record.proofs.is_unreached.Statement.{statement}
 use Rattle.meter_record.proofs.is_unreached.Tie as tie
 
+mode-of-requires : tie.Need-mode-of-requires
+mode-of-requires c κs = search needs
+
 of-requires : tie.Need-of-requires
 of-requires c κs = search needs
 
@@ -19,12 +22,13 @@ wrong-pair-requires-2 : tie.Need-wrong-pair-requires-2
 wrong-pair-requires-2 c κs = search needs
 
 returns : tie.Need-returns
-returns c = rw (c .wrong-pair2 .ensures, c .before .wrong-pair .ensures, c .before .before .wrong-mode .ensures, c .before .before .before .is-unfit .ensures, c .before .before .before .before .of .ensures)
+returns c = rw (c .wrong-pair2 .ensures, c .before .wrong-pair .ensures, c .before .before .wrong-mode .ensures, c .before .before .before .is-unfit .ensures, c .before .before .before .before .of .ensures, c .before .before .before .before .before .before .mode-of .ensures)
 
 pub is-unreached-spec : {M : Type 1} → statement M
 is-unreached-spec =
     tie.close
     (tie.spec
+    mode-of-requires
     of-requires
     is-unfit-requires
     wrong-mode-requires

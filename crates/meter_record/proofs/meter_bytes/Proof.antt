@@ -1,13 +1,17 @@
 -- `meter_record::meter_bytes` meets its contract. Assumes nothing.
-use borrow.Author.Needs.{needs}
 use Prim.Native.Nat.{ℕ}
 use mathlib.Core.List.{List}
 use mathlib.Core.Path.{refl, ap, _∙_}
 use lib.ListN.{replicate}
-use Rattle.low_first.specs.Copying.{laid}
+use Rattle.lent.specs.Copying.{copied}
 use Rattle.meter_record.specs.Laying.{meter-laid}
+use Rattle.meter_record.specs.MeterRecords.{stateBytes}
+use borrow.Author.Needs.{needs}
 use Rattle.meter_record.proofs.meter_bytes.Statement.{statement}
 use Rattle.meter_record.proofs.meter_bytes.Tie as tie
+
+mode-of-requires : tie.Need-mode-of-requires
+mode-of-requires c κs = search needs
 
 state-bytes-requires : tie.Need-state-bytes-requires
 state-bytes-requires c κs = search needs
@@ -59,16 +63,19 @@ lay-requires-4 c κs = search needs
 
 returns : tie.Need-returns
 returns c =
-    let u = c .before .before .before .before .before .before .before .before .before .before .before .before .before .before .before .before .before .before .pair-bytes .result in
-    let v = c .before .before .before .before .before .before .before .before .before .before .before .before .before .before .before .before .before .pair-bytes2 .result in
-    let t = c .before .before .before .before .before .before .before .before .before .before .before .before .before .before .before .before .telegram-bytes .result in
-    meter-laid (c .before .before .before .before .before .before .before .before .before .before .before .before .before .before .before .before .before .before .before .before .before .before .before .before .args .m) (replicate 192 0) refl (c .before .before .before .before .before .before .before .before .before .before .before .before .before .before .before .before .before .before .before .state-bytes .ensures) (c .before .before .before .before .before .before .before .before .before .before .before .before .before .before .before .before .before .before .pair-bytes .ensures) (c .before .before .before .before .before .before .before .before .before .before .before .before .before .before .before .before .before .pair-bytes2 .ensures) (c .before .before .before .before .before .before .before .before .before .before .before .before .before .before .before .before .telegram-bytes .ensures) (search needs)
-    (c .before .lay4 .ensures ∙ ap (λ (d : List ℕ). laid d 56 t) (c .before .before .before .before .before .lay3 .ensures ∙ ap (λ (d : List ℕ). laid d 40 v) (c .before .before .before .before .before .before .before .before .before .lay2 .ensures ∙ ap (λ (d : List ℕ). laid d 24 u) (c .before .before .before .before .before .before .before .before .before .before .before .before .before .lay .ensures))))
+    let m = c .before .before .before .before .before .before .before .before .before .before .before .before .before .before .before .before .before .before .before .before .before .args .m in
+    let s = c .before .before .before .before .before .before .before .before .before .before .before .before .before .before .before .before .before .before .before .state-bytes .ensures ∙ ap (stateBytes (m .last .0) (m .core .address)) (c .before .before .before .before .before .before .before .before .before .before .before .before .before .before .before .before .before .before .before .before .mode-of .ensures) in
+    let u = c .before .before .before .before .before .before .before .before .before .before .before .before .before .before .before .before .before .before .pair-bytes in
+    let v = c .before .before .before .before .before .before .before .before .before .before .before .before .before .before .before .before .before .pair-bytes2 in
+    let t = c .before .before .before .before .before .before .before .before .before .before .before .before .before .before .before .before .telegram-bytes in
+    meter-laid m (replicate 192 0) refl s (u .ensures) (v .ensures) (t .ensures) (search needs)
+    (c .before .lay4 .ensures ∙ ap (λ (d : List ℕ). copied d 56 (t .result)) (c .before .before .before .before .before .lay3 .ensures ∙ ap (λ (d : List ℕ). copied d 40 (v .result)) (c .before .before .before .before .before .before .before .before .before .lay2 .ensures ∙ ap (λ (d : List ℕ). copied d 24 (u .result)) (c .before .before .before .before .before .before .before .before .before .before .before .before .before .lay .ensures))))
 
 pub meter-bytes-spec : {M : Type 1} → statement M
 meter-bytes-spec =
     tie.close
     (tie.spec
+    mode-of-requires
     state-bytes-requires
     pair-bytes-requires
     pair-bytes-requires-2

@@ -1,11 +1,9 @@
 -- `meter_record::meter_from` meets its contract. Assumes nothing.
-use borrow.Author.Needs.{needs}
 use denote.Ref.{now}
 use mathlib.Core.Path.{sym, ap, _∙_}
-use Rattle.meter.specs.declared.Meter.{Meter}
 use Rattle.meter.specs.Meters.{shownSetup}
-use Rattle.meter_record.specs.MeterRecords.{recalled}
 use Rattle.meter_record.specs.Recalling.{meter-size, from-refused, from-accepted}
+use borrow.Author.Needs.{needs}
 use Rattle.meter_record.proofs.meter_from.Statement.{statement}
 use Rattle.meter_record.proofs.meter_from.Tie as tie
 
@@ -33,20 +31,17 @@ enum-told c = search needs
 no-meter-requires-2 : tie.Need-no-meter-requires-2
 no-meter-requires-2 c κs = search needs
 
+returns-2 : tie.Need-returns-2
+returns-2 c = c .no-meter2 .ensures ∙ sym (ap shownSetup (from-refused (now (c .before .before .before .before .before .before .before .args .b)) (c .before .before .before .before .before .if1 .left) (c .before .before .before .telegram-from .ensures) _ (c .before .enum-told .given .1)))
+
 enum-told-2 : tie.Need-enum-told-2
 enum-told-2 c = search needs
-
-meter-in-requires : tie.Need-meter-in-requires
-meter-in-requires c κs = search needs
 
 recalled-requires : tie.Need-recalled-requires
 recalled-requires c κs = search needs
 
-returns-2 : tie.Need-returns-2
-returns-2 c = c .no-meter2 .ensures ∙ sym (ap shownSetup (from-refused (now (c .before .before .before .before .before .before .before .args .b)) (c .before .before .before .before .before .if1 .left) (c .before .before .before .telegram-from .ensures) _ (c .before .enum-told .given .1)))
-
 returns-3 : tie.Need-returns-3
-returns-3 c = c .recalled .ensures ∙ ap (λ (m : Meter). shownSetup (recalled (now (c .before .before .before .before .before .before .before .before .before .args .b)) m)) (c .before .meter-in .ensures) ∙ sym (ap shownSetup (from-accepted (now (c .before .before .before .before .before .before .before .before .before .args .b)) (c .before .before .before .before .before .before .before .if1 .left) (c .before .before .before .before .before .telegram-from .ensures) (c .before .before .before .enum-told2 .given .1)))
+returns-3 c = c .recalled .ensures ∙ sym (ap shownSetup (from-accepted (now (c .before .before .before .before .before .before .before .args .b)) (c .before .before .before .before .before .if1 .left) (c .before .before .before .telegram-from .ensures) (c .before .enum-told2 .given .1)))
 
 pub meter-from-spec : {M : Type 1} → statement M
 meter-from-spec =
@@ -60,8 +55,7 @@ meter-from-spec =
     telegram-from-requires
     enum-told
     no-meter-requires-2
-    enum-told-2
-    meter-in-requires
-    recalled-requires
     returns-2
+    enum-told-2
+    recalled-requires
     returns-3)

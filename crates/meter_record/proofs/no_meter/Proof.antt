@@ -10,7 +10,7 @@ set-up-requires : tie.Need-set-up-requires
 set-up-requires c κs = search needs
 
 returns : tie.Need-returns
-returns c = rw (c .before .set-up .ensures, c .before .before .before .plain .ensures)
+returns c = rw (c .before .set-up .ensures, c .before .before .plain .ensures)
 
 pub no-meter-spec : {M : Type 1} → statement M
 no-meter-spec = tie.close (tie.spec plain-requires set-up-requires returns)

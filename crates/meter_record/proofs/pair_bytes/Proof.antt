@@ -1,6 +1,10 @@
 -- `meter_record::pair_bytes` meets its contract. Assumes nothing.
+use Prim.Native.Nat.{ℕ}
+use mathlib.Core.List.{List}
+use mathlib.Core.Path.{ap, _∙_}
+use Rattle.lent.specs.Copying.{copied}
+use Rattle.meter_record.specs.Laying.{pair-laid}
 use borrow.Author.Needs.{needs}
-use Rattle.meter_record.specs.Laying.{pair-listed}
 use Rattle.meter_record.proofs.pair_bytes.Statement.{statement}
 use Rattle.meter_record.proofs.pair_bytes.Tie as tie
 
@@ -10,56 +14,29 @@ bytes-of-eight-requires c κs = search needs
 bytes-of-eight-requires-2 : tie.Need-bytes-of-eight-requires-2
 bytes-of-eight-requires-2 c κs = search needs
 
-array-read-t7 : tie.Need-array-read-t7
-array-read-t7 c = search needs
+slice-aggregate-lay : tie.Need-slice-aggregate-lay
+slice-aggregate-lay c = search needs
 
-array-read-t10 : tie.Need-array-read-t10
-array-read-t10 c = search needs
+slice-aggregate-lay-2 : tie.Need-slice-aggregate-lay-2
+slice-aggregate-lay-2 c = search needs
 
-array-read-t13 : tie.Need-array-read-t13
-array-read-t13 c = search needs
+lay-requires : tie.Need-lay-requires
+lay-requires c κs = search needs
 
-array-read-t16 : tie.Need-array-read-t16
-array-read-t16 c = search needs
+slice-aggregate-lay-3 : tie.Need-slice-aggregate-lay-3
+slice-aggregate-lay-3 c = search needs
 
-array-read-t19 : tie.Need-array-read-t19
-array-read-t19 c = search needs
+slice-aggregate-lay-4 : tie.Need-slice-aggregate-lay-4
+slice-aggregate-lay-4 c = search needs
 
-array-read-t22 : tie.Need-array-read-t22
-array-read-t22 c = search needs
-
-array-read-t25 : tie.Need-array-read-t25
-array-read-t25 c = search needs
-
-array-read-t28 : tie.Need-array-read-t28
-array-read-t28 c = search needs
-
-array-read-t31 : tie.Need-array-read-t31
-array-read-t31 c = search needs
-
-array-read-t34 : tie.Need-array-read-t34
-array-read-t34 c = search needs
-
-array-read-t37 : tie.Need-array-read-t37
-array-read-t37 c = search needs
-
-array-read-t40 : tie.Need-array-read-t40
-array-read-t40 c = search needs
-
-array-read-t43 : tie.Need-array-read-t43
-array-read-t43 c = search needs
-
-array-read-t46 : tie.Need-array-read-t46
-array-read-t46 c = search needs
-
-array-read-t49 : tie.Need-array-read-t49
-array-read-t49 c = search needs
-
-array-read-t52 : tie.Need-array-read-t52
-array-read-t52 c = search needs
+lay-requires-2 : tie.Need-lay-requires-2
+lay-requires-2 c κs = search needs
 
 returns : tie.Need-returns
-returns c = pair-listed (c .before .before .args .p) (c .before .bytes-of-eight .ensures) (c .bytes-of-eight2 .ensures)
+returns c =
+    let energy = c .before .before .before .before .before .before .before .before .bytes-of-eight2 in
+    pair-laid (c .before .before .before .before .before .before .before .before .before .before .args .p) (c .before .before .before .before .before .before .before .before .before .bytes-of-eight .ensures) (energy .ensures)
+    (c .before .lay2 .ensures ∙ ap (λ (d : List ℕ). copied d 8 (energy .result)) (c .before .before .before .before .before .lay .ensures))
 
 pub pair-bytes-spec : {M : Type 1} → statement M
 pair-bytes-spec =
@@ -67,20 +44,10 @@ pair-bytes-spec =
     (tie.spec
     bytes-of-eight-requires
     bytes-of-eight-requires-2
-    array-read-t7
-    array-read-t10
-    array-read-t13
-    array-read-t16
-    array-read-t19
-    array-read-t22
-    array-read-t25
-    array-read-t28
-    array-read-t31
-    array-read-t34
-    array-read-t37
-    array-read-t40
-    array-read-t43
-    array-read-t46
-    array-read-t49
-    array-read-t52
+    slice-aggregate-lay
+    slice-aggregate-lay-2
+    lay-requires
+    slice-aggregate-lay-3
+    slice-aggregate-lay-4
+    lay-requires-2
     returns)

@@ -1,6 +1,10 @@
 -- `meter_record::state_bytes` meets its contract. Assumes nothing.
+use Prim.Native.Nat.{ℕ}
+use mathlib.Core.List.{List, [], _∷_}
+use mathlib.Core.Path.{ap, _∙_}
+use Rattle.lent.specs.Copying.{copied}
+use Rattle.meter_record.specs.Laying.{state-laid}
 use borrow.Author.Needs.{needs}
-use Rattle.meter_record.specs.Laying.{state-listed}
 use Rattle.meter_record.proofs.state_bytes.Statement.{statement}
 use Rattle.meter_record.proofs.state_bytes.Tie as tie
 
@@ -19,56 +23,42 @@ bytes-of-eight-requires c κs = search needs
 bytes-of-eight-requires-2 : tie.Need-bytes-of-eight-requires-2
 bytes-of-eight-requires-2 c κs = search needs
 
-array-read-t12 : tie.Need-array-read-t12
-array-read-t12 c = search needs
+slice-aggregate-lay : tie.Need-slice-aggregate-lay
+slice-aggregate-lay c = search needs
 
-array-read-t15 : tie.Need-array-read-t15
-array-read-t15 c = search needs
+slice-aggregate-lay-2 : tie.Need-slice-aggregate-lay-2
+slice-aggregate-lay-2 c = search needs
 
-array-read-t18 : tie.Need-array-read-t18
-array-read-t18 c = search needs
+lay-requires : tie.Need-lay-requires
+lay-requires c κs = search needs
 
-array-read-t21 : tie.Need-array-read-t21
-array-read-t21 c = search needs
+slice-aggregate-lay-3 : tie.Need-slice-aggregate-lay-3
+slice-aggregate-lay-3 c = search needs
 
-array-read-t24 : tie.Need-array-read-t24
-array-read-t24 c = search needs
+slice-aggregate-lay-4 : tie.Need-slice-aggregate-lay-4
+slice-aggregate-lay-4 c = search needs
 
-array-read-t27 : tie.Need-array-read-t27
-array-read-t27 c = search needs
+lay-requires-2 : tie.Need-lay-requires-2
+lay-requires-2 c κs = search needs
 
-array-read-t30 : tie.Need-array-read-t30
-array-read-t30 c = search needs
+slice-aggregate-lay-5 : tie.Need-slice-aggregate-lay-5
+slice-aggregate-lay-5 c = search needs
 
-array-read-t33 : tie.Need-array-read-t33
-array-read-t33 c = search needs
+slice-aggregate-lay-6 : tie.Need-slice-aggregate-lay-6
+slice-aggregate-lay-6 c = search needs
 
-array-read-t36 : tie.Need-array-read-t36
-array-read-t36 c = search needs
-
-array-read-t39 : tie.Need-array-read-t39
-array-read-t39 c = search needs
-
-array-read-t42 : tie.Need-array-read-t42
-array-read-t42 c = search needs
-
-array-read-t45 : tie.Need-array-read-t45
-array-read-t45 c = search needs
-
-array-read-t48 : tie.Need-array-read-t48
-array-read-t48 c = search needs
-
-array-read-t51 : tie.Need-array-read-t51
-array-read-t51 c = search needs
-
-array-read-t54 : tie.Need-array-read-t54
-array-read-t54 c = search needs
-
-array-read-t57 : tie.Need-array-read-t57
-array-read-t57 c = search needs
+lay-requires-3 : tie.Need-lay-requires-3
+lay-requires-3 c κs = search needs
 
 returns : tie.Need-returns
-returns c = let args = c .before .before .before .before .before .args in state-listed (args .last) (args .own) (args .mode) (c .before .before .before .before .mode-number .ensures) (c .before .before .before .method-of .ensures) (c .before .before .since-of .ensures) (c .before .bytes-of-eight .ensures) (c .bytes-of-eight2 .ensures)
+returns c =
+    let a = c .before .before .before .before .before .before .before .before .before .before .before .before .before .before .before .before .before .args in
+    let number = c .before .before .before .before .before .before .before .before .before .before .before .before .before .before .before .before .mode-number in
+    let method = c .before .before .before .before .before .before .before .before .before .before .before .before .before .before .before .method-of in
+    let instruction = c .before .before .before .before .before .before .before .before .before .before .before .before .bytes-of-eight2 in
+    let modes : List ℕ = a .own ∷ number .result ∷ method .result ∷ 0 ∷ 0 ∷ 0 ∷ 0 ∷ 0 ∷ [] in
+    state-laid (a .last) (a .own) (a .mode) (number .ensures) (method .ensures) (c .before .before .before .before .before .before .before .before .before .before .before .before .before .before .since-of .ensures) (c .before .before .before .before .before .before .before .before .before .before .before .before .before .bytes-of-eight .ensures) (instruction .ensures)
+    (c .before .lay3 .ensures ∙ ap (λ (d : List ℕ). copied d 16 (instruction .result)) (c .before .before .before .before .before .lay2 .ensures ∙ ap (λ (d : List ℕ). copied d 8 modes) (c .before .before .before .before .before .before .before .before .before .lay .ensures)))
 
 pub state-bytes-spec : {M : Type 1} → statement M
 state-bytes-spec =
@@ -79,20 +69,13 @@ state-bytes-spec =
     since-of-requires
     bytes-of-eight-requires
     bytes-of-eight-requires-2
-    array-read-t12
-    array-read-t15
-    array-read-t18
-    array-read-t21
-    array-read-t24
-    array-read-t27
-    array-read-t30
-    array-read-t33
-    array-read-t36
-    array-read-t39
-    array-read-t42
-    array-read-t45
-    array-read-t48
-    array-read-t51
-    array-read-t54
-    array-read-t57
+    slice-aggregate-lay
+    slice-aggregate-lay-2
+    lay-requires
+    slice-aggregate-lay-3
+    slice-aggregate-lay-4
+    lay-requires-2
+    slice-aggregate-lay-5
+    slice-aggregate-lay-6
+    lay-requires-3
     returns)

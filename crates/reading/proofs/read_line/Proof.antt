@@ -4,7 +4,7 @@ use borrow.Author.Needs.{needs}
 use native.Mathlib.Omega.{arith}
 use denote.Ref.{now}
 use Rattle.format.specs.Telegrams.{shown}
-use Rattle.reading.specs.Bodies.{line-refused, line-ack, line-short, line-long}
+use Rattle.frame.specs.Bodies.{line-refused, line-ack, line-short, line-long}
 use Rattle.reading.proofs.read_line.Statement.{statement}
 use Rattle.reading.proofs.read_line.Tie as tie
 

@@ -1,9 +1,11 @@
 -- `Exchange::heard` meets its contract: reading, view, step and reply put together.
 use mathlib.Core.Path.{_≡_, sym, ap, _∙_}
+use mathlib.Core.Bool.{cond}
 use borrow.Author.Needs.{needs}
 use denote.Ref.{now}
 use Rattle.format.specs.declared.Reading.{Reading}
 use Rattle.format.specs.Lines.{readLine}
+use Rattle.format.specs.Telegrams.{blank}
 use Rattle.format.specs.declared.View.{View}
 use Rattle.format.specs.Views.{viewed, viewIn, view-shown}
 use Rattle.exchange.specs.Steps.{heardIn, shownStep, heard-parts}
@@ -30,22 +32,14 @@ step-is c =
     let a = c .before .before .before .before .args in
     c .seen .ensures ∙ ap (λ (v : View). shownStep (heardIn (a .self) v (a .t))) (c .before .view-of .ensures ∙ ap (λ (r : Reading). viewIn (r .outcome) (r .telegram)) (c .before .before .read-line .ensures) ∙ view-shown (readLine (now (a .line))))
 
+reply-of-requires : tie.Need-reply-of-requires
+reply-of-requires c κs = search needs
+
 returns : tie.Need-returns
 returns c =
-    let a = c .before .before .before .before .before .before .before .args in
-    heard-parts (a .self) (readLine (now (a .line))) (a .t) (step-is (c .before .before .before))
-    (sym (c .before .before .ends-well .ensures) ∙ c .before .if1 .taken)
-    (ap (λ (r : Reading). r .telegram) (c .before .before .before .before .before .read-line .ensures))
-
-plain-requires : tie.Need-plain-requires
-plain-requires c κs = search needs
-
-returns-2 : tie.Need-returns-2
-returns-2 c =
-    let a = c .before .before .before .before .before .before .before .before .args in
-    heard-parts (a .self) (readLine (now (a .line))) (a .t) (step-is (c .before .before .before .before))
-    (sym (c .before .before .before .ends-well .ensures) ∙ c .before .before .if1 .left)
-    (ap (λ (r : Reading). r .telegram) (c .before .plain .ensures))
+    let a = c .before .before .before .before .before .before .args in
+    heard-parts (a .self) (readLine (now (a .line))) (a .t) (step-is (c .before .before)) (sym (c .before .ends-well .ensures))
+    (c .reply-of .ensures ∙ ap (λ (r : Reading). cond (c .before .ends-well .result) (r .telegram) blank) (c .before .before .before .before .read-line .ensures))
 
 pub heard-spec : {M : Type 1} → statement M
 heard-spec =
@@ -55,6 +49,5 @@ heard-spec =
     view-of-requires
     seen-requires
     ends-well-requires
-    returns
-    plain-requires
-    returns-2)
+    reply-of-requires
+    returns)

@@ -2,18 +2,17 @@
 use Rattle.listing.specs.Writing.{Holds}
 use Rattle.listing.specs.Listings.{lineFor}
 use lib.ListN.{getD}
-use Rattle.bundle.specs.Rows.{blankRow}
+use Rattle.contents.specs.Rows.{blankRow}
 use Rattle.listing.specs.LineLaws.{count-rows}
 use Prim.Native.Nat.{_+_, _*_}
 use Prim.Native.Nat.{_-_, _≤_, _<_}
-use mathlib.Core.Path.{_≡_, sym, ap, _∙_}
+use mathlib.Core.Path.{sym}
 use native.Mathlib.Omega.{arith}
 use borrow.Author.Needs.{needs}
 use lib.ListN.{length, drop}
 use lib.Seq.{length-take-le}
-use Rattle.bundle.specs.Rows.{length-rows}
-use Rattle.bundle.specs.Bundles.{countOf, contentsOf}
-use Rattle.bundle.specs.Accepted.{accepted-sound, row-there}
+use Rattle.bundle.specs.Bundles.{contentsOf}
+use Rattle.bundle.specs.Accepted.{row-there}
 use Rattle.listing.specs.LineLaws.{Lined, lined-none, lined-next, lined-all, row-fits}
 use Rattle.listing.proofs.lines.put_rows.Statement.{statement}
 use Rattle.listing.proofs.lines.put_rows.Tie as tie

@@ -1,14 +1,12 @@
 -- `listing::lines::row_line` meets its contract. Assumes nothing.
 use Rattle.listing.specs.Listings.{lineFor}
-use Rattle.bundle.specs.Rows.{rowIn}
 use Rattle.format.specs.Host.{chars}
 use Prim.Native.Nat.{ℕ}
 use Prim.Native.Nat.{_≤_, _+_, _-_}
-use mathlib.Core.Path.{_≡_, sym, ap, _∙_}
+use mathlib.Core.Path.{_≡_, ap, _∙_}
 use native.Mathlib.Omega.{arith}
 use borrow.Author.Needs.{needs}
-use lib.ListN.{length, take, drop, length-take, length-drop}
-use lib.Seq.{length-take-le}
+use lib.ListN.{length, take, drop, length-take}
 use Rattle.listing.specs.Listings.{wordOf, rowText}
 use Rattle.listing.proofs.lines.row_line.Statement.{statement}
 use Rattle.listing.proofs.lines.row_line.Tie as tie

@@ -10,7 +10,7 @@ data-with-requires : tie.Need-data-with-requires
 data-with-requires c κs = search needs
 
 returns : tie.Need-returns
-returns c = rw (c .data-with .ensures, c .before .before .in-force .ensures)
+returns c = rw (c .data-with .ensures, c .before .in-force .ensures)
 
 pub answer-spec : {M : Type 1} → statement M
 answer-spec = tie.close (tie.spec in-force-requires data-with-requires returns)

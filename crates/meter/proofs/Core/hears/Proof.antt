@@ -1,7 +1,27 @@
--- `Core::hears` meets its contract, view by view. Assumes nothing.
+-- `Core::hears` meets its contract: the return, then a request or silence. Assumes nothing.
+use mathlib.Core.List.{[], _∷_}
+use mathlib.Core.Path.{_≡_, refl, ap, _∙_}
+use denote.Enum.Declared.{tagOf}
+use types.Run.{OneOf, miss}
+use Rattle.clock.specs.declared.Clock.{Clock}
+use Rattle.format.specs.declared.View.{View}
+use Rattle.format.specs.declared.View.the-variants as views
+use Rattle.format.proofs.View as told
+use Rattle.meter.specs.declared.Core.{Core}
+use Rattle.meter.specs.Meters.{quiet, returned, asked, hears, takenAt}
 use borrow.Author.Needs.{needs}
 use Rattle.meter.proofs.Core.hears.Statement.{statement}
 use Rattle.meter.proofs.Core.hears.Tie as tie
+
+-- a view that is no request gets silence
+no-request : (t : Clock) (k : Core) (v : View) → OneOf (0 ∷ 1 ∷ 3 ∷ []) (tagOf told.the-type v) → hears t k v ≡ quiet k
+no-request t k (views.Refused n) one = refl
+no-request t k views.Ack one = refl
+no-request t k (views.Data a) one = refl
+no-request t k (views.Asks q) one = absurd (miss (0 ∷ 1 ∷ 3 ∷ []) 2 tt one)
+
+returned-requires : tie.Need-returned-requires
+returned-requires c κs = search needs
 
 enum-known-view : tie.Need-enum-known-view
 enum-known-view c = search needs
@@ -9,49 +29,27 @@ enum-known-view c = search needs
 asked-requires : tie.Need-asked-requires
 asked-requires c κs = search needs
 
-enum-told : tie.Need-enum-told
-enum-told c = search needs
-
-silent-requires : tie.Need-silent-requires
-silent-requires c κs = search needs
-
-enum-told-2 : tie.Need-enum-told-2
-enum-told-2 c = search needs
-
-silent-requires-2 : tie.Need-silent-requires-2
-silent-requires-2 c κs = search needs
-
-enum-told-3 : tie.Need-enum-told-3
-enum-told-3 c = search needs
-
-silent-requires-3 : tie.Need-silent-requires-3
-silent-requires-3 c κs = search needs
-
 returns : tie.Need-returns
-returns c = rw (c .before .before .view .given .1) (c .asked .ensures)
+returns c =
+    let t = c .before .before .before .before .before .args .t in
+    let q = c .before .before .view .given .0 .0 in
+    rw (c .before .before .view .given .1) (c .asked .ensures ∙ ap (λ (k : Core). takenAt t (asked t k q)) (c .before .before .before .before .returned .ensures))
+
+replies-requires : tie.Need-replies-requires
+replies-requires c κs = search needs
 
 returns-2 : tie.Need-returns-2
-returns-2 c = rw (c .before .enum-told .given .1) (c .silent .ensures)
-
-returns-3 : tie.Need-returns-3
-returns-3 c = rw (c .before .enum-told2 .given .1) (c .silent2 .ensures)
-
-returns-4 : tie.Need-returns-4
-returns-4 c = rw (c .before .enum-told3 .given .1) (c .silent3 .ensures)
+returns-2 c =
+    let a = c .before .before .before .args in
+    rw (no-request (a .t) (returned (a .t) (a .self)) (a .view) (c .before .match .keys2), ← c .before .before .returned .ensures) (c .replies .ensures)
 
 pub hears-spec : {M : Type 1} → statement M
 hears-spec =
     tie.close
     (tie.spec
+    returned-requires
     enum-known-view
     asked-requires
-    enum-told
-    silent-requires
-    enum-told-2
-    silent-requires-2
-    enum-told-3
-    silent-requires-3
     returns
-    returns-2
-    returns-3
-    returns-4)
+    replies-requires
+    returns-2)

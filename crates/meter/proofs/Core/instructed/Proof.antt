@@ -9,23 +9,29 @@ enum-known-request c = search needs
 entered-requires : tie.Need-entered-requires
 entered-requires c κs = search needs
 
+replies-requires : tie.Need-replies-requires
+replies-requires c κs = search needs
+
+returns : tie.Need-returns
+returns c = rw (c .before .before .before .request .given .1, ← c .before .entered .ensures) (c .replies .ensures)
+
 enum-told : tie.Need-enum-told
 enum-told c = search needs
 
-left-requires : tie.Need-left-requires
-left-requires c κs = search needs
+with-mode-requires : tie.Need-with-mode-requires
+with-mode-requires c κs = search needs
+
+replies-requires-2 : tie.Need-replies-requires-2
+replies-requires-2 c κs = search needs
+
+returns-2 : tie.Need-returns-2
+returns-2 c = rw (c .before .before .enum-told .given .1, ← c .before .with-mode .ensures) (c .replies2 .ensures)
 
 enum-told-2 : tie.Need-enum-told-2
 enum-told-2 c = search needs
 
 answered-requires : tie.Need-answered-requires
 answered-requires c κs = search needs
-
-returns : tie.Need-returns
-returns c = rw (c .before .before .request .given .1) (c .entered .ensures)
-
-returns-2 : tie.Need-returns-2
-returns-2 c = rw (c .before .enum-told .given .1) (c .left .ensures)
 
 returns-3 : tie.Need-returns-3
 returns-3 c = rw (c .before .enum-told2 .given .1) (c .answered .ensures)
@@ -36,10 +42,12 @@ instructed-spec =
     (tie.spec
     enum-known-request
     entered-requires
+    replies-requires
+    returns
     enum-told
-    left-requires
+    with-mode-requires
+    replies-requires-2
+    returns-2
     enum-told-2
     answered-requires
-    returns
-    returns-2
     returns-3)

@@ -20,7 +20,7 @@ begun-requires-2 : tie.Need-begun-requires-2
 begun-requires-2 c κs = search needs
 
 returns-2 : tie.Need-returns-2
-returns-2 c = rw (sym (c .before .before .is-unfit .ensures) ∙ c .before .if1 .left, c .begun2 .ensures)
+returns-2 c = rw (sym (c .before .before .is-unfit .ensures) ∙ c .before .if1 .left) (c .begun2 .ensures)
 
 pub set-up-spec : {M : Type 1} → statement M
 set-up-spec =

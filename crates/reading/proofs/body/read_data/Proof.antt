@@ -2,7 +2,7 @@
 use mathlib.Core.Path.{sym, _∙_}
 use borrow.Author.Needs.{needs}
 use denote.Ref.{now}
-use Rattle.reading.specs.Bodies.{data-refused, data-accepted}
+use Rattle.reading.specs.DataTelegrams.{data-refused, data-accepted}
 use Rattle.reading.proofs.body.read_data.Statement.{statement}
 use Rattle.reading.proofs.body.read_data.Tie as tie
 

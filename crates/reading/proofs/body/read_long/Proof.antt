@@ -7,7 +7,7 @@ use native.Mathlib.Omega.{arith}
 use denote.Ref.{now}
 use lib.ListN.{length, length-map, length-drop, length-take, drop}
 use Rattle.format.specs.Characters.{byteOf}
-use Rattle.reading.specs.Bodies.{data-long, data-cut}
+use Rattle.shapes.specs.Fields.{data-long, rest-bytes}
 use Rattle.reading.proofs.body.read_long.Statement.{statement}
 use Rattle.reading.proofs.body.read_long.Tie as tie
 
@@ -45,7 +45,7 @@ read-data-requires : tie.Need-read-data-requires
 read-data-requires c κs = omega (arith, fifteen (c .before .before), length-take (length (now (c .before .before .before .before .before .before .before .args .field)) - 3) (drop 3 (now (c .before .before .before .before .before .before .before .args .field))), length-drop 3 (now (c .before .before .before .before .before .before .before .args .field)))
 
 returns-2 : tie.Need-returns-2
-returns-2 c = rw (← c .before .before .before .before .before .before .is-command .ensures, c .before .before .before .before .before .if1 .left, ← c .before .before .before .before .is-data .ensures, c .before .before .before .if2 .taken, ← c .before .before .byte-at .ensures, ← data-cut (now (c .before .before .before .before .before .before .before .before .args .field))) (c .read-data .ensures)
+returns-2 c = rw (← c .before .before .before .before .before .before .is-command .ensures, c .before .before .before .before .before .if1 .left, ← c .before .before .before .before .is-data .ensures, c .before .before .before .if2 .taken, ← c .before .before .byte-at .ensures, ← rest-bytes (now (c .before .before .before .before .before .before .before .before .args .field)) 3) (c .read-data .ensures)
 
 refused-requires : tie.Need-refused-requires
 refused-requires c κs = search needs

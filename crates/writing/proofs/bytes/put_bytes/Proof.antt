@@ -41,7 +41,7 @@ same-length : tie.Need-same-length
 same-length c = search needs
 
 returns : tie.Need-returns
-returns c = kind-laid (c .before .before .before .before .before .before .before .before .args .t) (c .before .before .before .before .before .enum-told .given .1) (ack-laid (c .before .before .before .before .before .before .before .before .args .bytes .now) (c .before .before .lay .ensures))
+returns c = kind-laid (c .before .before .before .before .before .before .before .before .args .t) (c .before .before .before .before .before .enum-told .given .1) (ack-laid (c .before .before .before .before .before .before .before .before .args .bytes .now) (c .before .before .before .before .before .before .before .before .pre .1) (c .before .before .lay .ensures))
 
 same-length-2 : tie.Need-same-length-2
 same-length-2 c = search needs

@@ -7,7 +7,7 @@ use borrow.Author.Needs.{needs}
 use lib.ListN.{length, take}
 use lib.Seq.{length-take-le}
 use Rattle.format.specs.Quantities.{widthOf}
-use Rattle.low_first.specs.Copying.{laid}
+use Rattle.lent.specs.Copying.{copied}
 use Rattle.writing.specs.Laying.{EntryCut, entry-cut, entry-laid}
 use Rattle.writing.proofs.bytes.put_entry.Statement.{statement}
 use Rattle.writing.proofs.bytes.put_entry.Tie as tie
@@ -42,9 +42,7 @@ slice-aggregate-lay c =
     sym (length-take-le (2 + c .before .before .width-of .result) (c .before .before .before .entry-bytes .result) (sized (c .before .before) .within))
 
 lay-requires : tie.Need-lay-requires
-lay-requires c κs =
-    let s : Sized (c .before .before) = sized (c .before .before) in
-    rw (← slice-aggregate-lay c) (omega (arith, c .before .before .before .before .before .pre .size))
+lay-requires c κs = search needs
 
 add-result : tie.Need-add-result
 add-result c = let s : Sized (c .before .before .before .before .before) = sized (c .before .before .before .before .before) in omega arith
@@ -57,7 +55,7 @@ returns c =
     let a = c .before .before .before .before .before .before .before .before in
     let w = c .before .before .before .before .before in
     entry-laid (a .pre) (sized w .so)
-    (c .before .before .lay .ensures ∙ ap (λ (l : List ℕ). laid (a .args .bytes .now) (a .args .at) (take (2 + w .width-of .result) l)) (w .before .entry-bytes .ensures))
+    (c .before .before .lay .ensures ∙ ap (λ (l : List ℕ). copied (a .args .bytes .now) (a .args .at) (take (2 + w .width-of .result) l)) (w .before .entry-bytes .ensures))
 
 pub put-entry-spec : {M : Type 1} → statement M
 put-entry-spec =

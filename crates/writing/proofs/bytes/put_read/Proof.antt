@@ -3,6 +3,7 @@ use borrow.Author.Needs.{needs}
 use Prim.Native.Nat.{ℕ}
 use mathlib.Core.List.{List, [], _∷_}
 use mathlib.Core.Path.{refl}
+use native.Mathlib.Omega.{arith}
 use Rattle.writing.specs.Laying.{frame-laid, front-laid}
 use Rattle.writing.proofs.bytes.put_read.Statement.{statement}
 use Rattle.writing.proofs.bytes.put_read.Tie as tie
@@ -23,7 +24,7 @@ returns : tie.Need-returns
 returns c =
     let a = c .before .before .before .before .before .before .before .before .before .before .args in
     let s : List ℕ = 0x10 ∷ 0x5B ∷ a .address ∷ [] in
-    frame-laid s (c .before .before .close .ensures) (front-laid (a .bytes .now) s (c .before .before .before .before .before .before .lay .ensures)) refl
+    frame-laid s (c .before .before .close .ensures) (front-laid (a .bytes .now) s (omega (arith, c .before .before .before .before .before .before .before .before .before .before .pre)) (c .before .before .before .before .before .before .lay .ensures)) refl
 
 pub put-read-spec : {M : Type 1} → statement M
 put-read-spec =

@@ -1,0 +1,35 @@
+-- `contents::numbers::four` meets its contract. Assumes nothing.
+use borrow.Author.Needs.{needs}
+use denote.Ref.{now}
+use Rattle.low_first.specs.Numbers.{number-four}
+use Rattle.contents.proofs.numbers.four.Statement.{statement}
+use Rattle.contents.proofs.numbers.four.Tie as tie
+
+two-requires : tie.Need-two-requires
+two-requires c κs = search needs
+
+cast-low : tie.Need-cast-low
+cast-low c = search needs
+
+add-two : tie.Need-add-two
+add-two c = search needs
+
+two-requires-2 : tie.Need-two-requires-2
+two-requires-2 c κs = search needs
+
+cast-high : tie.Need-cast-high
+cast-high c = search needs
+
+mul-result : tie.Need-mul-result
+mul-result c = search needs
+
+add-result : tie.Need-add-result
+add-result c = search needs
+
+returns : tie.Need-returns
+returns c = rw (c .two2 .ensures, c .before .two .ensures) (number-four (now (c .before .before .before .args .s)) (c .before .before .before .args .at) (c .before .before .before .pre))
+
+pub four-spec : {M : Type 1} → statement M
+four-spec =
+    tie.close
+    (tie.spec two-requires cast-low add-two two-requires-2 cast-high mul-result add-result returns)

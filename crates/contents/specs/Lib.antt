@@ -1,0 +1,2 @@
+-- What document 01 says of the contents rows of a run bundle.
+pub mod Rows

@@ -1,0 +1,49 @@
+-- `exchange_record::exchange_from` meets its contract. Assumes nothing.
+use borrow.Author.Needs.{needs}
+use denote.Ref.{now}
+use mathlib.Core.Path.{sym, ap}
+use Rattle.exchange.specs.Steps.{shownStep}
+use Rattle.exchange_record.specs.ExchangeLaws.{other-size, found, unreached, unlike}
+use Rattle.exchange_record.proofs.exchange_from.Statement.{statement}
+use Rattle.exchange_record.proofs.exchange_from.Tie as tie
+
+returns : tie.Need-returns
+returns c = sym (ap shownStep (other-size (now (c .before .before .args .b)) (c .if1 .taken)))
+
+exchange-in-requires : tie.Need-exchange-in-requires
+exchange-in-requires c κs = search needs
+
+exchange-bytes-requires : tie.Need-exchange-bytes-requires
+exchange-bytes-requires c κs = search needs
+
+slice-aggregate-is-same : tie.Need-slice-aggregate-is-same
+slice-aggregate-is-same c = search needs
+
+is-same-requires : tie.Need-is-same-requires
+is-same-requires c κs = search needs
+
+is-reached-requires : tie.Need-is-reached-requires
+is-reached-requires c κs = search needs
+
+returns-2 : tie.Need-returns-2
+returns-2 c = sym (ap shownStep (found (now (c .before .before .before .before .before .before .before .before .before .args .b)) (c .before .before .before .before .before .before .exchange-in .ensures) (c .before .before .before .before .before .exchange-bytes .ensures) (c .before .before .before .is-same .ensures) (c .before .before .is-reached .ensures) (c .before .if2 .taken) (c .if3 .taken)))
+
+returns-3 : tie.Need-returns-3
+returns-3 c = sym (ap shownStep (unreached (now (c .before .before .before .before .before .before .before .before .before .args .b)) (c .before .before .before .before .before .before .exchange-in .ensures) (c .before .before .before .before .before .exchange-bytes .ensures) (c .before .before .before .is-same .ensures) (c .before .before .is-reached .ensures) (c .before .if2 .taken) (c .if3 .left)))
+
+returns-4 : tie.Need-returns-4
+returns-4 c = sym (ap shownStep (unlike (now (c .before .before .before .before .before .before .before .before .args .b)) (c .before .before .before .before .before .exchange-in .ensures) (c .before .before .before .before .exchange-bytes .ensures) (c .before .before .is-same .ensures) (c .before .is-reached .ensures) (c .if2 .left)))
+
+pub exchange-from-spec : {M : Type 1} → statement M
+exchange-from-spec =
+    tie.close
+    (tie.spec
+    returns
+    exchange-in-requires
+    exchange-bytes-requires
+    slice-aggregate-is-same
+    is-same-requires
+    is-reached-requires
+    returns-2
+    returns-3
+    returns-4)

@@ -1,0 +1,2 @@
+-- Which reply fits which request.
+pub mod Fits

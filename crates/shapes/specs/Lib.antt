@@ -1,0 +1,2 @@
+-- What is known of the field of a long form.
+pub mod Fields
