@@ -1,0 +1,169 @@
+/* The cases of run bundles. */
+#include "cases.h"
+
+#include "../second/bundle.h"
+
+#include <inttypes.h>
+#include <stdio.h>
+#include <string.h>
+
+enum { BYTES_MOST = 70000 };
+
+struct bytes {
+    uint8_t b[BYTES_MOST];
+    size_t n;
+};
+
+static int add_byte(struct bytes *list, uint64_t byte)
+{
+    if (list->n == BYTES_MOST)
+        return 0;
+    list->b[list->n++] = (uint8_t)byte;
+    return 1;
+}
+
+/* A number in so many bytes, low byte first. */
+static int add_number(struct bytes *list, size_t bytes, uint64_t n)
+{
+    for (; bytes > 0; bytes--, n >>= 8)
+        if (!add_byte(list, n & 0xFF))
+            return 0;
+    return 1;
+}
+
+static int take_fill(struct bytes *list)
+{
+    uint64_t count, c;
+    if (!take(&count, 0xFFFF) || !take(&c, 0xFFFF))
+        return 0;
+    for (; count > 0; count--)
+        if (!add_number(list, 2, c))
+            return 0;
+    return 1;
+}
+
+static int take_rows(struct bytes *list)
+{
+    uint64_t count, position, direction, time, offset, length, step;
+    if (!take(&count, 0xFFFF) || !take(&position, 0xFF) || !take(&direction, 0xFF) || !take(&time, 0xFFFFFFFF))
+        return 0;
+    if (!take(&offset, 0xFFFFFFFF) || !take(&length, 0xFFFF) || !take(&step, 0xFFFFFFFF))
+        return 0;
+    for (; count > 0; count--, time += step, offset += length) {
+        if (!add_number(list, 1, position) || !add_number(list, 1, direction) || !add_number(list, 4, time))
+            return 0;
+        if (!add_number(list, 4, offset) || !add_number(list, 2, length))
+            return 0;
+    }
+    return 1;
+}
+
+/* Bytes up to a name that begins no stretch of them. */
+static int take_bytes(struct bytes *list)
+{
+    uint64_t byte;
+    list->n = 0;
+    for (;;) {
+        if (take_name("fill")) {
+            if (!take_fill(list))
+                return 0;
+        } else if (take_name("rows")) {
+            if (!take_rows(list))
+                return 0;
+        } else if (!goes_on())
+            return 1;
+        else if (!take(&byte, 0xFF) || !add_byte(list, byte))
+            return 0;
+    }
+}
+
+/* How many characters alike, two bytes each, begin a list. */
+static size_t alike(const uint8_t *b, size_t n)
+{
+    size_t same = 2;
+    while (same + 2 <= n && memcmp(b, b + same, 2) == 0)
+        same += 2;
+    return n < 2 ? 0 : same / 2;
+}
+
+static void say_bytes(const uint8_t *b, size_t n)
+{
+    for (size_t i = 0, many; i < n; i += many < 4 ? 1 : 2 * many) {
+        many = alike(b + i, n - i);
+        if (many < 4)
+            printf(" %02X", b[i]);
+        else
+            printf(" fill +%zu %03X", many, b[i + 1] << 8 | b[i]);
+    }
+}
+
+static struct bytes bundle, body;
+
+int answer_check(void)
+{
+    size_t rows = 0;
+    if (!take_bytes(&bundle) || !is_whole())
+        return 0;
+    if (!refused(second_check(bundle.b, bundle.n, &rows)))
+        printf("rows +%zu", rows);
+    return 1;
+}
+
+/* A row's number and a bundle, and the row. */
+static int take_row(struct second_row *row, int *refusal)
+{
+    uint64_t index;
+    if (!take(&index, UINT64_MAX) || !take_bytes(&bundle) || !is_whole())
+        return 0;
+    *refusal = second_row(bundle.b, bundle.n, index, row);
+    return 1;
+}
+
+int answer_row(void)
+{
+    struct second_row row;
+    int refusal;
+    if (!take_row(&row, &refusal))
+        return 0;
+    if (!refused(refusal)) {
+        printf("row +%u +%u", row.position, row.direction);
+        printf(" +%" PRIu32 " +%" PRIu32 " +%zu", row.time, row.offset, row.length);
+    }
+    return 1;
+}
+
+int answer_body(void)
+{
+    struct second_row row;
+    int refusal;
+    if (!take_row(&row, &refusal))
+        return 0;
+    if (!refused(refusal)) {
+        printf("body +%" PRIu32 " +%zu", row.offset, row.length);
+        say_bytes(bundle.b + row.offset, row.length);
+    }
+    return 1;
+}
+
+int answer_add(void)
+{
+    uint64_t filled, position, direction, time;
+    size_t length = 0;
+    if (!take(&filled, UINT64_MAX) || !take(&position, 0xFF) || !take(&direction, 0xFF) || !take(&time, 0xFFFFFFFF))
+        return 0;
+    if (!take_name("body") || !take_bytes(&body) || !take_name("buffer") || !take_bytes(&bundle) || !is_whole())
+        return 0;
+    struct second_row row = {(unsigned)position, (unsigned)direction, (uint32_t)time, 0, body.n};
+    if (!refused(second_add(bundle.b, bundle.n, filled, row, body.b, &length)))
+        printf("filled +%zu", length);
+    say_bytes(bundle.b, bundle.n);
+    return 1;
+}
+
+int answer_list(void)
+{
+    if (!take_bytes(&bundle) || !is_whole())
+        return 0;
+    second_list(bundle.b, bundle.n, stdout, '/');
+    return 1;
+}

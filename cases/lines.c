@@ -1,0 +1,97 @@
+/* The cases of lines, wake-up, gap and error of indication. */
+#include "cases.h"
+
+#include "../second/indication.h"
+#include "../second/wake.h"
+
+#include <inttypes.h>
+#include <stdio.h>
+
+enum { PLACES_MOST = 600, MARKER = 0xFFFF };
+
+static uint16_t characters[WORDS_MOST];
+
+static void clear_places(uint64_t places)
+{
+    while (places > 0)
+        characters[--places] = MARKER;
+}
+
+/* An outcome of writing: the length or the refusal, and what stands in the places. */
+static void say_places(int refusal, uint64_t length, uint64_t places)
+{
+    if (!refused(refusal))
+        printf("wrote +%" PRIu64, length);
+    while (places > 0 && characters[places - 1] == MARKER)
+        places--;
+    for (uint64_t i = 0; i < places; i++)
+        printf(" %03" PRIX16, characters[i]);
+}
+
+int answer_read(void)
+{
+    struct second_telegram t;
+    size_t n;
+    if (!take_characters(characters, &n) || !is_whole())
+        return 0;
+    if (!refused(second_read(characters, n, &t)))
+        say_telegram(&t);
+    return 1;
+}
+
+int answer_write(void)
+{
+    struct second_telegram t;
+    uint64_t places;
+    size_t length = 0;
+    if (!take(&places, PLACES_MOST) || !take_telegram(&t) || !is_whole())
+        return 0;
+    clear_places(places);
+    int refusal = second_write(&t, characters, (size_t)places, &length);
+    say_places(refusal, length, places);
+    return 1;
+}
+
+int answer_find(void)
+{
+    size_t n, place = 0, length = 0;
+    if (!take_characters(characters, &n) || !is_whole())
+        return 0;
+    if (!refused(second_find(characters, n, &place, &length)))
+        printf("found +%zu +%zu", place, length);
+    return 1;
+}
+
+int answer_wake(void)
+{
+    uint64_t count, places;
+    if (!take(&count, UINT64_MAX) || !take(&places, PLACES_MOST) || !is_whole())
+        return 0;
+    clear_places(places);
+    say_places(second_wake(count, characters, (size_t)places), count, places);
+    return 1;
+}
+
+int answer_gap(void)
+{
+    uint64_t wake_end, begin;
+    if (!take(&wake_end, UINT64_MAX) || !take(&begin, UINT64_MAX) || !is_whole())
+        return 0;
+    if (!refused(second_gap(wake_end, begin)))
+        printf("fine");
+    return 1;
+}
+
+int answer_error(void)
+{
+    uint64_t counts[4];
+    int64_t tenths = 0;
+    for (int i = 0; i < 4; i++)
+        if (!take(&counts[i], UINT64_MAX))
+            return 0;
+    if (!is_whole())
+        return 0;
+    if (!refused(second_error(counts[0], counts[1], counts[2], counts[3], &tenths)))
+        printf("error %+" PRId64, tenths);
+    return 1;
+}

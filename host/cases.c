@@ -1,0 +1,251 @@
+/*
+ * The library in the second program's place: the functions that the text of the cases calls, each answered by a call of
+ * the header. A refusal is the library's number, and what the text lends is what the library is lent.
+ */
+#include "skarrowith.h"
+
+#include "../second/bundle.h"
+#include "../second/exchange.h"
+#include "../second/indication.h"
+#include "../second/line.h"
+#include "../second/meter.h"
+#include "../second/wake.h"
+
+#include <string.h>
+
+/* The number of a refusal; 0 where the answer is none. */
+static int refusal_in(uint32_t answer)
+{
+    return answer < SKARROWITH_REFUSED ? 0 : (int)(answer - SKARROWITH_REFUSED);
+}
+
+/* ---- telegrams */
+
+static struct skarrowith_entry entry_record(const struct second_entry *e)
+{
+    struct skarrowith_entry r;
+    const unsigned *m = e->moment;
+    memset(&r, 0, sizeof r);
+    r.structure = (uint8_t)e->structure;
+    r.unit = (uint8_t)e->unit;
+    r.sort = e->is_time ? SKARROWITH_TIME : SKARROWITH_DECIMAL;
+    if (!e->is_time) {
+        r.value.count = e->count;
+        return r;
+    }
+    r.value.time.year = (uint8_t)m[0];
+    r.value.time.month = (uint8_t)m[1];
+    r.value.time.day = (uint8_t)m[2];
+    r.value.time.hour = (uint8_t)m[3];
+    r.value.time.minute = (uint8_t)m[4];
+    r.value.time.second = (uint8_t)m[5];
+    return r;
+}
+
+static struct skarrowith_telegram telegram_record(const struct second_telegram *t)
+{
+    struct skarrowith_telegram r;
+    memset(&r, 0, sizeof r);
+    r.kind = (uint8_t)(t->kind + SKARROWITH_ACK);
+    r.address = (uint8_t)t->address;
+    r.method = (uint8_t)t->method;
+    r.version = (uint8_t)t->version;
+    r.number = t->number;
+    r.maker = (uint16_t)t->maker;
+    r.meter_type = (uint8_t)t->type;
+    r.access = (uint8_t)t->access;
+    r.status = (uint8_t)t->status;
+    r.count = t->count;
+    for (size_t i = 0; i < SECOND_ENTRIES; i++)
+        r.entries[i] = entry_record(&t->entries[i]);
+    return r;
+}
+
+static struct second_entry entry_of(const struct skarrowith_entry *r)
+{
+    const struct skarrowith_moment *m = &r->value.time;
+    if (r->sort != SKARROWITH_TIME)
+        return (struct second_entry){r->structure, r->unit, 0, r->value.count, {0}};
+    return (struct second_entry){
+        r->structure, r->unit, 1, 0, {m->year, m->month, m->day, m->hour, m->minute, m->second}};
+}
+
+static struct second_telegram telegram_of(const struct skarrowith_telegram *r)
+{
+    struct second_telegram t;
+    t.kind = (enum second_kind)(r->kind - SKARROWITH_ACK);
+    t.address = r->address;
+    t.method = r->method;
+    t.version = r->version;
+    t.number = r->number;
+    t.maker = r->maker;
+    t.type = r->meter_type;
+    t.access = r->access;
+    t.status = r->status;
+    t.count = r->count;
+    for (size_t i = 0; i < SECOND_ENTRIES; i++)
+        t.entries[i] = entry_of(&r->entries[i]);
+    return t;
+}
+
+/* ---- lines */
+
+int second_read(const uint16_t *line, size_t n, struct second_telegram *t)
+{
+    struct skarrowith_telegram r;
+    int refusal = refusal_in(skarrowith_read_line(line, n, &r, sizeof r));
+    if (refusal == 0)
+        *t = telegram_of(&r);
+    return refusal;
+}
+
+int second_write(const struct second_telegram *t, uint16_t *out, size_t places, size_t *length)
+{
+    struct skarrowith_telegram r = telegram_record(t);
+    uint32_t answer = skarrowith_write_line(&r, sizeof r, out, places);
+    *length = answer;
+    return refusal_in(answer);
+}
+
+int second_find(const uint16_t *capture, size_t n, size_t *place, size_t *length)
+{
+    struct skarrowith_found found = {0, 0};
+    uint32_t answer = skarrowith_find_line(capture, n, &found, sizeof found);
+    *place = (size_t)found.place;
+    *length = (size_t)found.length;
+    return refusal_in(answer);
+}
+
+int second_wake(uint64_t count, uint16_t *out, size_t places)
+{
+    return refusal_in(skarrowith_write_wake((size_t)count, out, places));
+}
+
+int second_gap(uint64_t wake_end, uint64_t command_begin)
+{
+    return refusal_in(skarrowith_gap(wake_end, command_begin));
+}
+
+int second_error(uint64_t m1, uint64_t m2, uint64_t s1, uint64_t s2, int64_t *tenths)
+{
+    return refusal_in(skarrowith_error(m1, m2, s1, s2, tenths, 1));
+}
+
+/* ---- the exchange: the record is kept here from step to step, as a bench keeps it, and only the library writes it */
+
+static struct skarrowith_exchange exchange;
+
+/* Hands out what a case's answer says of the exchange: the state as it was answered, the rest as the record has it. */
+static int tell_exchange(uint32_t answer, struct second_exchange *x)
+{
+    if (answer >= SKARROWITH_REFUSED)
+        return refusal_in(answer);
+    x->state = (enum second_state)(answer - SKARROWITH_WAITING);
+    if (exchange.cause != 0)
+        x->cause = (enum second_cause)(exchange.cause - SKARROWITH_SILENT);
+    x->sends = exchange.sends;
+    x->began = exchange.began;
+    x->last = exchange.last;
+    return 0;
+}
+
+int second_start(struct second_exchange *x, const struct second_telegram *request, uint64_t t)
+{
+    struct skarrowith_telegram r = telegram_record(request);
+    memset(x, 0, sizeof *x);
+    return tell_exchange(skarrowith_exchange_start(&exchange, sizeof exchange, r.kind, r.address, r.method, t), x);
+}
+
+int second_tick(struct second_exchange *x, uint64_t t)
+{
+    return tell_exchange(skarrowith_exchange_tick(&exchange, sizeof exchange, t), x);
+}
+
+int second_sent(struct second_exchange *x, uint64_t t)
+{
+    return tell_exchange(skarrowith_exchange_sent(&exchange, sizeof exchange, t), x);
+}
+
+int second_heard(struct second_exchange *x, const uint16_t *line, size_t n, uint64_t t, struct second_telegram *reply)
+{
+    struct skarrowith_telegram r;
+    uint32_t answer = skarrowith_exchange_heard(&exchange, sizeof exchange, line, n, t, &r, sizeof r);
+    if (answer == SKARROWITH_WELL)
+        *reply = telegram_of(&r);
+    return tell_exchange(answer, x);
+}
+
+/* ---- the simulated meter, its record kept in the same way */
+
+static struct skarrowith_meter meter;
+
+static int tell_meter(uint32_t answer, struct second_meter *m)
+{
+    if (answer >= SKARROWITH_REFUSED)
+        return refusal_in(answer);
+    m->use[0] = meter.used.volume;
+    m->use[1] = meter.used.energy;
+    m->verification[0] = meter.verified.volume;
+    m->verification[1] = meter.verified.energy;
+    m->is_verifying = meter.mode;
+    m->method = meter.method;
+    m->instructed = meter.since;
+    m->template.access = meter.data.access;
+    return 0;
+}
+
+int second_set_up(struct second_meter *m, unsigned address, const struct second_telegram *template)
+{
+    struct skarrowith_telegram r = telegram_record(template);
+    return tell_meter(skarrowith_meter_set_up(&meter, sizeof meter, (uint8_t)address, &r, sizeof r), m);
+}
+
+int second_measure(struct second_meter *m, uint64_t t, uint64_t volume, uint64_t energy)
+{
+    return tell_meter(skarrowith_meter_measure(&meter, sizeof meter, volume, energy, t), m);
+}
+
+int second_meter_heard(struct second_meter *m, const uint16_t *line, size_t n, uint64_t t, int *does_answer,
+                       struct second_telegram *answer)
+{
+    struct skarrowith_telegram r;
+    uint32_t kind = skarrowith_meter_heard(&meter, sizeof meter, line, n, t, &r, sizeof r);
+    *does_answer = kind == SKARROWITH_ACK || kind == SKARROWITH_DATA;
+    if (*does_answer)
+        *answer = telegram_of(&r);
+    return tell_meter(kind, m);
+}
+
+/* ---- the run bundle */
+
+int second_check(const uint8_t *bundle, size_t n, size_t *rows)
+{
+    return refusal_in(skarrowith_bundle_check(bundle, n, rows));
+}
+
+int second_row(const uint8_t *bundle, size_t n, uint64_t index, struct second_row *row)
+{
+    struct skarrowith_row r;
+    int refusal = refusal_in(skarrowith_bundle_row(bundle, n, (size_t)index, &r, sizeof r));
+    if (refusal == 0)
+        *row = (struct second_row){r.position, r.direction, r.time, r.offset, r.length};
+    return refusal;
+}
+
+int second_add(uint8_t *buffer, size_t places, uint64_t filled, struct second_row row, const uint8_t *body,
+               size_t *length)
+{
+    *length = (size_t)filled;
+    return refusal_in(skarrowith_bundle_add(buffer, places, length, (uint8_t)row.position, (uint8_t)row.direction,
+                                            row.time, body, row.length));
+}
+
+void second_list(const uint8_t *bundle, size_t n, FILE *to, int end)
+{
+    uint8_t text[SKARROWITH_LISTING_MOST];
+    size_t length = 0;
+    if (skarrowith_bundle_list(bundle, n, text, sizeof text, &length) != 0)
+        return;
+    for (size_t i = 0; i < length; i++)
+        fputc(text[i] == '\n' ? end : text[i], to);
+}
