@@ -1,45 +1,35 @@
 // Answers the cases `read` of docs/CASES.md.
-use format::Outcome;
-use format::Reading;
+//
+// Every function here is proved safe and ending. What a program reads and prints no contract can
+// say: its answers are compared with the second program's.
+mod line;
+mod say;
+mod word;
 
-fn put_reading(out: &mut [u8; 4096], at: usize, reading: Reading) -> usize {
-    let outcome = reading.outcome;
-    let telegram = reading.telegram;
-    match outcome {
-        Outcome::Refused(n) => answers::put_refusal(out, at, n),
-        Outcome::Accepted => telegrams::put_telegram(out, at, telegram),
-    }
-}
+use libc::STDIN_FILENO;
+use line::Line;
 
-fn answer(
-    names: &[bool; 4096],
-    values: &[u64; 4096],
-    count: usize,
-    out: &mut [u8; 4096],
-    at: usize,
-) -> usize {
-    let mut line = [0u16; 4096];
-    let n = cases::characters_at(names, values, count, 1, &mut line);
-    let is_whole = n + 1 == count;
-    if is_whole & cases::has_name(names, values, count, 0, b"read") {
-        return put_reading(out, at, reading::read_line(&line[0..n]));
+fn take(line: Line, bytes: &[u8], words: &mut [u16; 4096]) -> Line {
+    let mut longer = line;
+    for i in 0..bytes.len() {
+        longer = longer.with(bytes[i], words);
     }
-    answers::put_bad(out, at)
+    longer
 }
 
 fn main() {
-    let mut input = [0u8; 4096];
-    let mut names = [false; 4096];
-    let mut values = [0u64; 4096];
-    let mut out = [0u8; 4096];
-    let mut run = cases::begin();
+    let mut bytes = [0u8; 4096];
+    let mut words = [0u16; 4096];
+    let mut line = Line::new();
+    // Nothing says that the input ends; no run counts so far.
     for _ in 0..u64::MAX {
-        run = cases::next_case(run, &mut input, &mut names, &mut values, &mut out);
-        if run.is_over {
+        let n = io::read_full(STDIN_FILENO, &mut bytes);
+        if n == 0 {
             break;
         }
-        let said = answer(&names, &values, run.count, &mut out, run.waiting);
-        run.waiting = answers::end_line(&mut out, said);
+        line = take(line, &bytes[..n], &mut words);
     }
-    answers::write_out(&out, run.waiting);
+    if !line.is_empty() {
+        line.answer(&mut words);
+    }
 }
