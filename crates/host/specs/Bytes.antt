@@ -1,66 +1,40 @@
 -- Laws about the characters that bytes carry, as the check on bytes uses them.
-use Prim.Native.Nat.{ℕ, zero, suc, _+_, _*_, _-_, _/_, _%_, _≤_, _<_, zero-le}
+use Prim.Native.Nat.{ℕ, zero, suc, _+_, _*_, _-_, _/_, _%_, _≤_, _<_}
 use mathlib.Core.Bool.{Bool, true, false, not, _||_}
-use mathlib.Core.List.{List, [], _∷_, _++_, map}
-use mathlib.Core.Path.{_≡_, refl, sym, ap, ap₂, subst, _∙_}
-use native.Mathlib.Numerals.{add-one}
+use mathlib.Core.List.{List, [], _∷_, map}
+use mathlib.Core.Path.{_≡_, refl, sym, ap, subst, _∙_}
 use native.Mathlib.Omega.{arith}
 use borrow.Author.Tests.{eq-eqb, ne-eqb}
 use lib.Dec.{eqb}
-use lib.ListN.{length, getD, take, set, replicate, length-set, List·getD-eq-default}
-use lib.Seq.{take-all, take-suc, take-suc-set}
+use lib.ListN.{length}
 use Rattle.format.specs.Lists.{at, any}
-use Rattle.format.specs.ListLaws.{Gathered, gathered-next, gathered-all, at-bytes}
+use Rattle.format.specs.ListLaws.{Gathered, at-bytes}
 use Rattle.format.specs.Characters.{over, odd, byteOf}
 use Rattle.format.specs.Host.{chars, lineNumber, hostNumber}
 use Rattle.format.specs.Lines.{readBody, readFrame, readLine}
+use Rattle.ranges.specs.Bodies.{length-characters, character-at, character-none, characters-next}
 use Rattle.frame.specs.declared.Frame.{Frame}
 use Rattle.frame.specs.declared.Frame.the-variants.{Ack, Refused}
 use Rattle.frame.specs.Forms.{ShortCount, LongCount, Left, startShown, started}
 use Rattle.frame.specs.Bodies.{sound-line, frame-refused, frame-ack}
-
-pub length-chars : (b : List ℕ) → length (chars b) ≡ length b / 2
-unfolding chars
-length-chars [] = refl
-length-chars (low ∷ []) = refl
-length-chars (low ∷ high ∷ b) = omega (arith, length-chars b)
-
-pub at-chars : (b : List ℕ) (i : ℕ) → 2 * i + 1 < length b → at b (2 * i) + 256 * at b (2 * i + 1) ≡ at (chars b) i
-unfolding chars
-at-chars [] i h = absurd (omega arith)
-at-chars (low ∷ []) i h = absurd (omega arith)
-at-chars (low ∷ high ∷ b) zero h = refl
-at-chars (low ∷ high ∷ b) (suc i) h =
-    let two : 2 * suc i ≡ suc (suc (2 * i)) = omega arith in
-    let three : 2 * suc i + 1 ≡ suc (suc (2 * i + 1)) = omega arith in
-    ap₂ (λ (m n : ℕ). getD (low ∷ high ∷ b) m 0 + 256 * getD (low ∷ high ∷ b) n 0) two three ∙ at-chars b i (omega arith)
 
 low-byte : (l h : ℕ) → l < 256 → (l + 256 * h) % 256 ≡ l
 low-byte l h e = omega arith
 
 pub low-chars : (b : List ℕ) (i : ℕ) → i < length b / 2 → at b (2 * i) < 256 → at b (2 * i) ≡ at (map byteOf (chars b)) i
 low-chars b i h l =
-    sym (at-bytes (chars b) i ∙ ap byteOf (sym (at-chars b i (omega arith))) ∙ low-byte (at b (2 * i)) (at b (2 * i + 1)) l)
+    sym (at-bytes (chars b) i ∙ ap byteOf (character-at b i h) ∙ low-byte (at b (2 * i)) (at b (2 * i + 1)) l)
 
 pub low-end : (b : List ℕ) (i : ℕ) → length b / 2 ≤ i → 0 ≡ at (map byteOf (chars b)) i
-low-end b i h = sym (at-bytes (chars b) i ∙ ap byteOf (List·getD-eq-default (chars b) 0 (omega (arith, length-chars b))))
-
--- ---- the gathering loops, over the bytes
-
-module _ {test : ℕ → Bool} (b : List ℕ) {i : ℕ} {found : Bool} (g : Gathered test (chars b) i found) where
-  pub bytes-next : i < length b / 2 → {c : ℕ} → c ≡ at (chars b) i → Gathered test (chars b) (i + 1) (found || test c)
-  bytes-next h e = rw e (gathered-next 0 g (omega (arith, length-chars b)))
-
-  pub bytes-all : length b / 2 ≤ i → found ≡ any test (chars b)
-  bytes-all h = gathered-all g (omega (arith, length-chars b))
+low-end b i h = sym (at-bytes (chars b) i ∙ ap byteOf (character-none b i h))
 
 -- a loop that leaves at the first hit
 module _ {test : ℕ → Bool} (b : List ℕ) {i : ℕ} (g : Gathered test (chars b) i false) (h : i < length b / 2) {c : ℕ} (e : c ≡ at (chars b) i) where
   pub bytes-hit : test c ≡ true → any test (chars b) ≡ true
-  bytes-hit t = sym (subst (λ (found : Bool). Gathered test (chars b) (i + 1) found) t (bytes-next b g h e) .so)
+  bytes-hit t = sym (subst (λ (found : Bool). Gathered test (chars b) (i + 1) found) t (characters-next b g h e) .so)
 
   pub bytes-miss : test c ≡ false → Gathered test (chars b) (i + 1) false
-  bytes-miss t = subst (λ (found : Bool). Gathered test (chars b) (i + 1) found) t (bytes-next b g h e)
+  bytes-miss t = subst (λ (found : Bool). Gathered test (chars b) (i + 1) found) t (characters-next b g h e)
 
 -- ---- the copies
 
@@ -80,33 +54,9 @@ five-bytes s h =
     ap (map byteOf) (five-chars s (h .five))
     ∙ ap (λ (x : ℕ). x ∷ map byteOf (at s 1 ∷ at s 2 ∷ at s 3 ∷ at s 4 ∷ [])) (sym (at-bytes s 0) ∙ h .first)
 
-pub record Copied (b line : List ℕ) (i : ℕ) : Type 0 where
-  pub inside : i ≤ length b / 2
-  pub places : length line ≡ 261
-  pub so : take i line ≡ take i (chars b)
-
-pub copied-none : {b : List ℕ} → Copied b (replicate 261 0) 0
-copied-none = record { inside = zero-le; places = refl; so = refl }
-
-pub copied-next : {b line : List ℕ} {i c : ℕ} → Copied b line i → i < length b / 2 → i < 261 → c ≡ at (chars b) i → Copied b (set line i c) (i + 1)
-copied-next {b} {line} {i} {c} g h k e = record {
-  inside = omega arith;
-  places = length-set line i c ∙ g .places;
-  so =
-      rw add-one
-      (take-suc-set line i c (omega (arith, g .places)) ∙ ap₂ (λ (l : List ℕ) (x : ℕ). l ++ (x ∷ [])) (g .so) e
-      ∙ sym (take-suc (chars b) i 0 (omega (arith, length-chars b))));
-}
-
-pub copied-all : {b line : List ℕ} {i : ℕ} → Copied b line i → length b / 2 ≤ i → take i line ≡ chars b
-copied-all {b} {line} {i} g h = g .so ∙ take-all i (chars b) (omega (arith, length-chars b))
-
 -- past 5 the long form has at most 261 characters
 pub long-count : (b : List ℕ) → LongCount (chars b) → length b / 2 ≤ 261
-long-count b h = omega (arith, h .count, length-chars b, at-bytes (chars b) 1)
-
-pub short-count : (b : List ℕ) → ShortCount (chars b) → length b / 2 ≡ 5
-short-count b h = sym (length-chars b) ∙ h .five
+long-count b h = omega (arith, h .count, length-characters b, at-bytes (chars b) 1)
 
 -- ---- the number
 
@@ -122,7 +72,7 @@ pub record Paired (b : List ℕ) : Type 0 where
   pub some : length b ≡ 0 → ⊥
 
 not-empty : {b : List ℕ} → Paired b → eqb (length (chars b)) 0 ≡ false
-not-empty {b} p = ne-eqb (length (chars b)) 0 (λ e. p .some (bytes (length b) (p .even) (sym (length-chars b) ∙ e)))
+not-empty {b} p = ne-eqb (length (chars b)) 0 (λ e. p .some (bytes (length b) (p .even) (sym (length-characters b) ∙ e)))
   where
     bytes : (n : ℕ) → (n % 2 ≡ 1 → ⊥) → n / 2 ≡ 0 → n ≡ 0
     bytes zero o e = refl
@@ -132,7 +82,7 @@ not-empty {b} p = ne-eqb (length (chars b)) 0 (λ e. p .some (bytes (length b) (
 pub empty-number : (b : List ℕ) → (length b % 2 ≡ 1 → ⊥) → length b ≡ 0 → 257 ≡ hostNumber b
 unfolding readLine
 empty-number b n e =
-    let none : eqb (length (chars b)) 0 ≡ true = eq-eqb (length (chars b)) 0 (omega (arith, length-chars b)) in
+    let none : eqb (length (chars b)) 0 ≡ true = eq-eqb (length (chars b)) 0 (omega (arith, length-characters b)) in
     sym (even-number b n ∙ rw none)
 
 module _ {b : List ℕ} (p : Paired b) where
@@ -158,7 +108,7 @@ all-sound b e t = neither-of (any over (chars b)) (any odd (chars b)) (sym t ∙
 -- 4 and 5, on what the code read of the bytes
 module _ (b : List ℕ) {u v : ℕ} (eu : u ≡ at (map byteOf (chars b)) 0) (ev : v ≡ at (map byteOf (chars b)) 1) where
   pub bytes-left : {x f : Frame} → x ≡ startShown u v (length b / 2) → x ≡ f → Left (chars b) f
-  bytes-left e o = started (chars b) eu ev (e ∙ ap (startShown u v) (sym (length-chars b))) o
+  bytes-left e o = started (chars b) eu ev (e ∙ ap (startShown u v) (sym (length-characters b))) o
 
 pub refused-number : (b : List ℕ) (n : ℕ) → Left (chars b) (Refused n) → 256 + n ≡ lineNumber (readFrame readBody (map byteOf (chars b)))
 refused-number b n e = ap lineNumber (sym (frame-refused (map byteOf (chars b)) n e))

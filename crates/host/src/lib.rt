@@ -3,7 +3,6 @@ ghost use mathlib.Core.Path.{_≡_};
 ghost use mathlib.Core.Bool.{not, _||_};
 ghost use mathlib.Core.List.{map};
 ghost use Prim.Native.Nat.{_+_, _*_, _<_};
-ghost use lib.ListN.{length};
 ghost use Rattle.format.specs.Lists.{at, any};
 ghost use Rattle.format.specs.Characters.{over, odd, byteOf};
 ghost use Rattle.format.specs.Host.{chars, lineNumber, hostNumber};
@@ -13,36 +12,16 @@ use checking::check_form;
 use checking::check_request;
 use frame::Frame;
 use frame::start_of;
+use ranges::any_over;
+use ranges::character_at;
 use scan::counts_odd;
 use scan::is_odd;
-
-// The character at a place: two bytes, low byte first.
-fn char_at(bytes: &[u8], i: usize) -> u16
-    requires { ⌜ 2 * i + 1 < length (now bytes) ⌝ }
-    ensures { λ r. ⌜ r ≡ at (chars (now (bytes .entry))) i ⌝ }
-{
-    bytes[2 * i] as u16 + 256 * bytes[2 * i + 1] as u16
-}
 
 // The byte of the character at a place, 0 past the end.
 fn low_at(bytes: &[u8], i: usize) -> u8
     ensures { λ r. ⌜ r ≡ at (map byteOf (chars (now (bytes .entry)))) i ⌝ }
 {
     if i < bytes.len() / 2 { bytes[2 * i] } else { 0 }
-}
-
-// A character is over 511.
-fn any_over(bytes: &[u8]) -> bool
-    ensures { λ r. ⌜ r ≡ any over (chars (now (bytes .entry))) ⌝ }
-{
-    let mut found = false;
-    let mut i = 0;
-    while i < bytes.len() / 2 {
-        let c = char_at(bytes, i);
-        found = found | (511 < c);
-        i += 1;
-    }
-    found
 }
 
 // A parity is odd.
@@ -52,7 +31,7 @@ fn any_odd(bytes: &[u8]) -> bool
     let mut found = false;
     let mut i = 0;
     while i < bytes.len() / 2 {
-        let c = char_at(bytes, i);
+        let c = character_at(bytes, i);
         found = found | is_odd(c);
         i += 1;
     }
@@ -65,7 +44,7 @@ fn all_sound(bytes: &[u8]) -> bool
 {
     let mut i = 0;
     while i < bytes.len() / 2 {
-        let c = char_at(bytes, i);
+        let c = character_at(bytes, i);
         if 511 < c {
             return false;
         }
@@ -82,10 +61,10 @@ fn check_short(bytes: &[u8]) -> u32
     requires { ⌜ ShortCount (chars (now bytes)) ⌝ }
     ensures { λ r. ⌜ r ≡ lineNumber (readFrame readBody (map byteOf (chars (now (bytes .entry))))) ⌝ }
 {
-    let control = char_at(bytes, 1);
-    let address = char_at(bytes, 2);
-    let checksum = char_at(bytes, 3);
-    let end = char_at(bytes, 4);
+    let control = character_at(bytes, 1);
+    let address = character_at(bytes, 2);
+    let checksum = character_at(bytes, 3);
+    let end = character_at(bytes, 4);
     check_request(control, address, checksum, end)
 }
 
@@ -97,7 +76,7 @@ fn check_long(bytes: &[u8]) -> u32
     let mut line = [0u16; 261];
     let mut i = 0;
     while i < bytes.len() / 2 {
-        let c = char_at(bytes, i);
+        let c = character_at(bytes, i);
         line[i] = c;
         i += 1;
     }

@@ -2,7 +2,7 @@
 ghost use mathlib.Core.Path.{_≡_};
 ghost use mathlib.Core.List.{_++_};
 ghost use Prim.Native.Nat.{_+_, _*_, _/_, _≤_};
-ghost use lib.ListN.{length, take, drop};
+ghost use lib.ListN.{length, take};
 ghost use Rattle.format.specs.Answers.{reads};
 ghost use Rattle.format.specs.Host.{chars};
 ghost use Rattle.bundle.specs.Bundles.{contentsOf, checkOf};
@@ -22,6 +22,7 @@ use contents::Row;
 use contents::unchecked_row;
 use format::Request;
 use format::View;
+use ranges::character_at;
 
 // The characters of a body, in the first places.
 fn characters(body: &[u8]) -> [u16; 502]
@@ -30,7 +31,7 @@ fn characters(body: &[u8]) -> [u16; 502]
 {
     let mut line = [0u16; 502];
     for i in 0..body.len() / 2 {
-        line[i] = body[2 * i] as u16 + 256 * body[2 * i + 1] as u16;
+        line[i] = character_at(body, i);
     }
     line
 }

@@ -1,12 +1,13 @@
 -- 01, "The run bundle": the bodies, two bytes a character.
-use Prim.Native.Nat.{ℕ, zero, suc, _+_, _*_, _/_, _≤_, _<_}
+use Prim.Native.Nat.{ℕ, zero, suc, _+_, _*_, _/_, _≤_, _<_, zero-le}
 use mathlib.Core.Bool.{Bool, _||_}
-use mathlib.Core.List.{List, [], _∷_}
-use mathlib.Core.Path.{_≡_, refl}
+use mathlib.Core.List.{List, [], _∷_, _++_}
+use mathlib.Core.Path.{_≡_, refl, sym, ap₂, _∙_}
+use native.Mathlib.Numerals.{add-one}
 use native.Mathlib.Omega.{arith}
-use lib.ListN.{length}
+use lib.ListN.{length, take, set, replicate, length-set, length-replicate, List·getD-eq-default}
+use lib.Seq.{take-suc, take-all, take-suc-set}
 use Rattle.format.specs.Lists.{at, any}
-use Rattle.format.specs.Characters.{over}
 use Rattle.format.specs.Host.{chars}
 use Rattle.format.specs.ListLaws.{Gathered, gathered-next, gathered-all}
 
@@ -27,9 +28,39 @@ character-at (low ∷ (high ∷ s)) (suc i) h =
     let f : 2 * suc i + 1 ≡ suc (suc (2 * i + 1)) = omega arith in
     rw (f, e) (character-at s i (omega arith))
 
--- A loop that looks at each character.
-pub over-next : (s : List ℕ) {i : ℕ} {found : Bool} → Gathered over (chars s) i found → i < length s / 2 → Gathered over (chars s) (i + 1) (found || over (at (chars s) i))
-over-next s g h = gathered-next 0 g (omega (arith, length-characters s))
+pub character-none : (s : List ℕ) (i : ℕ) → length s / 2 ≤ i → at (chars s) i ≡ 0
+character-none s i h = List·getD-eq-default (chars s) 0 (omega (arith, length-characters s))
 
-pub over-all : (s : List ℕ) {i : ℕ} {found : Bool} → Gathered over (chars s) i found → length s / 2 ≤ i → found ≡ any over (chars s)
-over-all s g h = gathered-all g (omega (arith, length-characters s))
+-- A loop that asks each character the same.
+module _ {test : ℕ → Bool} (s : List ℕ) {i : ℕ} {found : Bool} (g : Gathered test (chars s) i found) where
+  pub characters-next : i < length s / 2 → {c : ℕ} → c ≡ at (chars s) i → Gathered test (chars s) (i + 1) (found || test c)
+  characters-next h e = rw e (gathered-next 0 g (omega (arith, length-characters s)))
+
+  pub characters-all : length s / 2 ≤ i → found ≡ any test (chars s)
+  characters-all h = gathered-all g (omega (arith, length-characters s))
+
+-- A loop that copies the characters into so many places.
+pub record Copied (places : ℕ) (s : List ℕ) (i : ℕ) (line : List ℕ) : Type 0 where
+  pub inside : i ≤ length s / 2
+  pub same : length line ≡ places
+  pub so : take i line ≡ take i (chars s)
+
+pub copied-none : {s : List ℕ} (places : ℕ) → Copied places s 0 (replicate places 0)
+copied-none places = record { inside = zero-le; same = length-replicate places 0; so = refl }
+
+module _ {places : ℕ} {s : List ℕ} {i : ℕ} {line : List ℕ} (g : Copied places s i line) where
+  pub copied-next : i < length s / 2 → i < places → {c : ℕ} → c ≡ at (chars s) i → Copied places s (i + 1) (set line i c)
+  copied-next h k {c} e = record {
+    inside = omega arith;
+    same = length-set line i c ∙ g .same;
+    so =
+        rw add-one
+        (take-suc-set line i c (omega (arith, g .same)) ∙ ap₂ (λ (l : List ℕ) (x : ℕ). l ++ (x ∷ [])) (g .so) e
+        ∙ sym (take-suc (chars s) i 0 (omega (arith, length-characters s))));
+  }
+
+  pub copied-count : length s / 2 ≤ i → i ≡ length s / 2
+  copied-count h = omega (arith, g .inside)
+
+  pub copied-all : length s / 2 ≤ i → take i line ≡ chars s
+  copied-all h = g .so ∙ take-all i (chars s) (omega (arith, length-characters s))

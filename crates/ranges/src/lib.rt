@@ -1,7 +1,6 @@
-// The ranges that the run bundle of document 01 sets: a row's position, direction and body length, and the characters of a body.
+// The ranges that document 01 sets in a run bundle: a row's fields, and the characters of a body, which are two bytes each there
+// and in the lines of the host.
 ghost use mathlib.Core.Path.{_≡_};
-ghost use Prim.Native.Nat.{_/_, _<_};
-ghost use lib.ListN.{length};
 ghost use Rattle.format.specs.Lists.{at, any};
 ghost use Rattle.format.specs.Characters.{over};
 ghost use Rattle.format.specs.Host.{chars};
@@ -19,21 +18,23 @@ pub fn wrong_field(position: u8, direction: u8, length: usize) -> bool
         | (1004 < length)
 }
 
-// The character at a place of the bodies, two bytes each, low byte first.
-fn character_at(bodies: &[u8], i: usize) -> u16
-    requires { ⌜ i < length (now bodies) / 2 ⌝ }
-    ensures { λ r. ⌜ r ≡ at (chars (now (bodies .entry))) i ⌝ }
+// The character at a place, two bytes each, low byte first; 0 past the end.
+pub fn character_at(bytes: &[u8], i: usize) -> u16
+    ensures { λ r. ⌜ r ≡ at (chars (now (bytes .entry))) i ⌝ }
 {
-    bodies[2 * i] as u16 + 256 * bodies[2 * i + 1] as u16
+    if i < bytes.len() / 2 {
+        return bytes[2 * i] as u16 + 256 * bytes[2 * i + 1] as u16;
+    }
+    0
 }
 
-// A character of the bodies is over 511.
-pub fn any_over(bodies: &[u8]) -> bool
-    ensures { λ r. ⌜ r ≡ any over (chars (now (bodies .entry))) ⌝ }
+// A character is over 511.
+pub fn any_over(bytes: &[u8]) -> bool
+    ensures { λ r. ⌜ r ≡ any over (chars (now (bytes .entry))) ⌝ }
 {
     let mut found = false;
-    for i in 0..bodies.len() / 2 {
-        found = found | (511 < character_at(bodies, i));
+    for i in 0..bytes.len() / 2 {
+        found = found | (511 < character_at(bytes, i));
     }
     found
 }

@@ -7,7 +7,7 @@ use lib.ListN.{length}
 use Rattle.format.specs.Host.{chars}
 use Rattle.format.specs.ListLaws.{Gathered, gathered-none}
 use Rattle.format.specs.Characters.{odd}
-use Rattle.host.specs.Bytes.{bytes-next, bytes-all}
+use Rattle.ranges.specs.Bodies.{characters-next, characters-all}
 use Rattle.host.proofs.any_odd.Statement.{statement}
 use Rattle.host.proofs.any_odd.Tie as tie
 
@@ -20,8 +20,8 @@ abbrev μ-loop : tie.MeasureT-loop
 loop-holds : tie.Need-loop-holds Inv-loop μ-loop
 loop-holds c = gathered-none
 
-char-at-requires : tie.Need-char-at-requires Inv-loop μ-loop
-char-at-requires c κs = omega arith
+character-at-requires : tie.Need-character-at-requires Inv-loop μ-loop
+character-at-requires c κs = search needs
 
 is-odd-requires : tie.Need-is-odd-requires Inv-loop μ-loop
 is-odd-requires c κs = search needs
@@ -33,10 +33,10 @@ loop-less : tie.Need-loop-less Inv-loop μ-loop
 loop-less c = omega arith
 
 loop-again : tie.Need-loop-again Inv-loop μ-loop
-loop-again c = rw (c .is-odd .ensures) (bytes-next (now (c .before .before .before .before .before .args .bytes)) (c .before .before .before .loop .inv) (c .before .before .loop-test .taken) (c .before .char-at .ensures))
+loop-again c = rw (c .is-odd .ensures) (characters-next (now (c .before .before .before .before .before .args .bytes)) (c .before .before .before .loop .inv) (c .before .before .loop-test .taken) (c .before .character-at .ensures))
 
 returns : tie.Need-returns Inv-loop μ-loop
-returns c = bytes-all (now (c .before .before .before .args .bytes)) (c .before .loop .inv) (c .loop-test .left)
+returns c = characters-all (now (c .before .before .before .args .bytes)) (c .before .loop .inv) (c .loop-test .left)
 
 pub any-odd-spec : {M : Type 1} → statement M
 any-odd-spec =
@@ -45,7 +45,7 @@ any-odd-spec =
     Inv-loop
     μ-loop
     loop-holds
-    char-at-requires
+    character-at-requires
     is-odd-requires
     add-i
     loop-less

@@ -5,15 +5,15 @@ use denote.Ref.{now}
 use Rattle.format.specs.Characters.{over}
 use Rattle.format.specs.ListLaws.{Gathered, gathered-none}
 use Rattle.format.specs.Host.{chars}
-use Rattle.ranges.specs.Bodies.{over-next, over-all}
+use Rattle.ranges.specs.Bodies.{characters-next, characters-all}
 use Rattle.ranges.proofs.any_over.Statement.{statement}
 use Rattle.ranges.proofs.any_over.Tie as tie
 
 abbrev Inv-loop : tie.InvT-loop
-Inv-loop bodies found₀ i₀ i-end found i = Gathered over (chars bodies) i found
+Inv-loop bytes found₀ i₀ i-end found i = Gathered over (chars bytes) i found
 
 abbrev μ-loop : tie.MeasureT-loop
-μ-loop bodies found₀ i₀ i-end found i = i-end - i
+μ-loop bytes found₀ i₀ i-end found i = i-end - i
 
 loop-holds : tie.Need-loop-holds Inv-loop μ-loop
 loop-holds c = gathered-none
@@ -28,12 +28,10 @@ loop-less : tie.Need-loop-less Inv-loop μ-loop
 loop-less c = search needs
 
 loop-again : tie.Need-loop-again Inv-loop μ-loop
-loop-again c =
-    rw (c .character-at .ensures)
-    (over-next (now (c .before .before .before .before .args .bodies)) (c .before .before .loop .inv) (c .before .loop-test .taken))
+loop-again c = characters-next (now (c .before .before .before .before .args .bytes)) (c .before .before .loop .inv) (c .before .loop-test .taken) (c .character-at .ensures)
 
 returns : tie.Need-returns Inv-loop μ-loop
-returns c = over-all (now (c .before .before .before .args .bodies)) (c .before .loop .inv) (c .loop-test .left)
+returns c = characters-all (now (c .before .before .before .args .bytes)) (c .before .loop .inv) (c .loop-test .left)
 
 pub any-over-spec : {M : Type 1} → statement M
 any-over-spec =

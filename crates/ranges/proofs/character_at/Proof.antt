@@ -4,7 +4,7 @@ use Prim.Native.Nat.{_+_, _*_}
 use mathlib.Core.Path.{sym}
 use native.Mathlib.Omega.{arith}
 use denote.Ref.{now}
-use Rattle.ranges.specs.Bodies.{character-at}
+use Rattle.ranges.specs.Bodies.{character-at, character-none}
 use Rattle.ranges.proofs.character_at.Statement.{statement}
 use Rattle.ranges.proofs.character_at.Tie as tie
 
@@ -15,7 +15,7 @@ shared-slice-read-result : tie.Need-shared-slice-read-result
 shared-slice-read-result c = search needs
 
 cast-result : tie.Need-cast-result
-cast-result c = omega (arith, c .shared-slice-known .given (2 * c .before .args .i))
+cast-result c = omega (arith, c .shared-slice-known .given (2 * c .before .before .args .i))
 
 mul-result-2 : tie.Need-mul-result-2
 mul-result-2 c = search needs
@@ -27,16 +27,19 @@ shared-slice-read-result-2 : tie.Need-shared-slice-read-result-2
 shared-slice-read-result-2 c = search needs
 
 cast-result-2 : tie.Need-cast-result-2
-cast-result-2 c = omega (arith, c .shared-slice-known2 .given (2 * c .before .before .args .i + 1))
+cast-result-2 c = omega (arith, c .shared-slice-known2 .given (2 * c .before .before .before .args .i + 1))
 
 mul-result-3 : tie.Need-mul-result-3
-mul-result-3 c = omega (arith, c .shared-slice-known2 .given (2 * c .before .before .args .i + 1))
+mul-result-3 c = omega (arith, c .shared-slice-known2 .given (2 * c .before .before .before .args .i + 1))
 
 add-result-2 : tie.Need-add-result-2
-add-result-2 c = omega (arith, c .shared-slice-known2 .given (2 * c .before .before .args .i), c .shared-slice-known2 .given (2 * c .before .before .args .i + 1))
+add-result-2 c = omega (arith, c .shared-slice-known2 .given (2 * c .before .before .before .args .i), c .shared-slice-known2 .given (2 * c .before .before .before .args .i + 1))
 
 returns : tie.Need-returns
-returns c = sym (character-at (now (c .before .before .args .bodies)) (c .before .before .args .i) (c .before .before .pre))
+returns c = sym (character-at (now (c .before .before .before .args .bytes)) (c .before .before .before .args .i) (c .before .before .if1 .taken))
+
+returns-2 : tie.Need-returns-2
+returns-2 c = sym (character-none (now (c .before .args .bytes)) (c .before .args .i) (c .if1 .left))
 
 pub character-at-spec : {M : Type 1} → statement M
 character-at-spec =
@@ -51,4 +54,5 @@ character-at-spec =
     cast-result-2
     mul-result-3
     add-result-2
-    returns)
+    returns
+    returns-2)
