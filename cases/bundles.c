@@ -1,5 +1,8 @@
 /* The cases of run bundles. */
-#include "cases.h"
+#include "bundles.h"
+
+#include "telegrams.h"
+#include "words.h"
 
 #include "../second/bundle.h"
 
@@ -109,40 +112,38 @@ int answer_check(void)
     return 1;
 }
 
-/* A row's number and a bundle, and the row. */
-static int take_row(struct second_row *row, int *refusal)
+static void say_row(const struct second_row *row)
 {
+    printf("row +%u +%u", row->position, row->direction);
+    printf(" +%" PRIu32 " +%" PRIu32 " +%zu", row->time, row->offset, row->length);
+}
+
+static void say_body(const struct second_row *row)
+{
+    printf("body +%" PRIu32 " +%zu", row->offset, row->length);
+    say_bytes(bundle.b + row->offset, row->length);
+}
+
+/* A row's number and a bundle, and what is said of the row. */
+static int answer_of(void (*say)(const struct second_row *row))
+{
+    struct second_row row;
     uint64_t index;
     if (!take(&index, UINT64_MAX) || !take_bytes(&bundle) || !is_whole())
         return 0;
-    *refusal = second_row(bundle.b, bundle.n, index, row);
+    if (!refused(second_row(bundle.b, bundle.n, index, &row)))
+        say(&row);
     return 1;
 }
 
 int answer_row(void)
 {
-    struct second_row row;
-    int refusal;
-    if (!take_row(&row, &refusal))
-        return 0;
-    if (!refused(refusal)) {
-        printf("row +%u +%u", row.position, row.direction);
-        printf(" +%" PRIu32 " +%" PRIu32 " +%zu", row.time, row.offset, row.length);
-    }
-    return 1;
+    return answer_of(say_row);
 }
 
 int answer_body(void)
 {
-    struct second_row row;
-    int refusal;
-    if (!take_row(&row, &refusal))
-        return 0;
-    if (!refused(refusal)) {
-        printf("body +%" PRIu32 " +%zu", row.offset, row.length);
-        say_bytes(bundle.b + row.offset, row.length);
-    }
-    return 1;
+    return answer_of(say_body);
 }
 
 int answer_add(void)

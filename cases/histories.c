@@ -1,5 +1,8 @@
 /* The cases of exchanges and simulated meters: a first pass sees that every step is one, a second answers them. */
-#include "cases.h"
+#include "histories.h"
+
+#include "telegrams.h"
+#include "words.h"
 
 #include "../second/exchange.h"
 #include "../second/meter.h"

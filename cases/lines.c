@@ -1,5 +1,8 @@
 /* The cases of lines, wake-up, gap and error of indication. */
-#include "cases.h"
+#include "lines.h"
+
+#include "telegrams.h"
+#include "words.h"
 
 #include "../second/indication.h"
 #include "../second/wake.h"

@@ -2,7 +2,10 @@
  * Answers the case files of docs/CASES.md from standard input, by the second program's functions or by the library's
  * (host/cases.c). With arguments it knows only the capabilities that they name.
  */
-#include "cases.h"
+#include "bundles.h"
+#include "histories.h"
+#include "lines.h"
+#include "words.h"
 
 #include <stdio.h>
 #include <string.h>

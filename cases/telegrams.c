@@ -1,5 +1,7 @@
 /* Telegrams as words, and refusals. */
-#include "cases.h"
+#include "telegrams.h"
+
+#include "words.h"
 
 #include <inttypes.h>
 #include <stdio.h>

@@ -1,5 +1,5 @@
 /* A line of text taken apart into words, and the words taken one by one. */
-#include "cases.h"
+#include "words.h"
 
 #include <stdio.h>
 #include <string.h>

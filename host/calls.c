@@ -5,15 +5,19 @@
  * Fails by 3 where WHO has no such function, or none to be held against: the second program's search tries every length.
  */
 #define _XOPEN_SOURCE 700
-#include "../second/line.h"
 #include "skarrowith.h"
+
+#include "../second/bundle.h"
+#include "../second/example.h"
+#include "../second/line.h"
+#include "../second/number.h"
 
 #include <stdio.h>
 #include <stdlib.h>
 #include <string.h>
 #include <ucontext.h>
 
-enum { MOST = 65536, ROWS = 512 };
+enum { MOST = SECOND_BUNDLE, ROWS = SECOND_ROWS };
 
 static uint8_t bytes[2 * MOST], text[MOST];
 static uint16_t characters[MOST];
@@ -47,7 +51,7 @@ static uint32_t check_bundle(void) { return skarrowith_bundle_check(bytes, count
 static uint32_t list_bundle(void) { return skarrowith_bundle_list(bytes, count, text, sizeof text, &told); }
 static uint32_t none(void) { return (uint32_t)count; }
 
-static uint32_t second_check(void)
+static uint32_t read_by_second(void)
 {
     struct second_telegram t;
     int refusal = second_read(characters, count, &t);
@@ -72,17 +76,10 @@ static void put(const uint8_t *b, size_t n)
 static const uint8_t ack[] = {0xE5}, request[] = {0x10, 0x5B, 0xFE, 0x59, 0x16};
 static const uint8_t enter[] = {0x68, 4, 4, 0x68, 0x53, 0xFE, 0x50, 0x90, 0x31, 0x16};
 
-/* 000's data example, 5.4.3. */
-static const uint8_t data[63] = {
-    0x68, 0x39, 0x39, 0x68, 0x08, 0x00, 0x72, 0x78, 0x56, 0x34, 0x12, 0x89, 0x4E, 0x01, 0x04, 0x03,
-    0x00, 0x00, 0x00, 0x0C, 0x03, 0x45, 0x23, 0x71, 0x96, 0x0C, 0x11, 0x78, 0x56, 0x34, 0x12, 0x0B,
-    0x59, 0x12, 0x78, 0x00, 0x0B, 0x5D, 0x34, 0x65, 0x00, 0x0C, 0x2D, 0x78, 0x56, 0x34, 0x12, 0x0C,
-    0x3B, 0x78, 0x56, 0x34, 0x12, 0x06, 0x6D, 0x1C, 0x33, 0x0F, 0x57, 0x27, 0x00, 0x02, 0x16};
-
 static void put_ack(void) { put(ack, sizeof ack); }
 static void put_request(void) { put(request, sizeof request); }
 static void put_enter(void) { put(enter, sizeof enter); }
-static void put_data(void) { put(data, sizeof data); }
+static void put_data(void) { put(second_example, sizeof second_example); }
 
 /* A read that waits for 000's data line, and a meter with that line as its template that is asked by a read. */
 static void put_waiting(void)
@@ -109,7 +106,7 @@ static void put_odd_last(void)
 static void put_longest(void)
 {
     uint8_t b[261] = {0};
-    memcpy(b, data, sizeof data - 2);
+    memcpy(b, second_example, sizeof second_example - 2);
     b[1] = b[2] = 255;
     b[259] = (uint8_t)second_sum(b + 4, 255);
     b[260] = 0x16;
@@ -138,29 +135,19 @@ static void put_starts(void)
         characters[count] = 0x168;
 }
 
-static void put_number(uint8_t *at, size_t width, size_t n)
-{
-    for (; width > 0; width--, n >>= 8)
-        *at++ = (uint8_t)(n & 0xFF);
-}
-
 /* 512 rows: a read request and 000's data line in turn. */
 static void put_bundle(void)
 {
-    static uint8_t lines[2][2 * sizeof data];
+    static uint8_t lines[2][2 * SECOND_EXAMPLE];
     size_t lengths[2], at = 2 + 12 * ROWS;
     put_request();
     memcpy(lines[0], bytes, lengths[0] = 2 * count);
     put_data();
     memcpy(lines[1], bytes, lengths[1] = 2 * count);
-    put_number(bytes, 2, ROWS);
-    for (size_t i = 0; i < ROWS; i++) {
-        uint8_t *row = bytes + 2 + 12 * i;
-        row[0] = (uint8_t)(1 + i % 48);
-        row[1] = (uint8_t)(i % 2);
-        put_number(row + 2, 4, 1000 * i);
-        put_number(row + 6, 4, at);
-        put_number(row + 10, 2, lengths[i % 2]);
+    second_put_number(bytes, 2, ROWS);
+    for (unsigned i = 0; i < ROWS; i++) {
+        struct second_row row = {1 + i % 48, i % 2, 1000 * i, (uint32_t)at, lengths[i % 2]};
+        second_put_row(bytes + 2 + 12 * i, &row);
         memcpy(bytes + at, lines[i % 2], lengths[i % 2]);
         at += lengths[i % 2];
     }
@@ -172,15 +159,15 @@ static const struct {
     void (*make)(void);
     uint32_t (*proved)(void), (*second)(void);
 } rows[] = {
-    {"ack", put_ack, check, second_check},
-    {"read", put_request, check, second_check},
-    {"enter", put_enter, check, second_check},
-    {"data", put_data, check, second_check},
-    {"longest", put_longest, check, second_check},
-    {"odd-last", put_odd_last, check, second_check},
-    {"noise-500", put_noise_500, check, second_check},
+    {"ack", put_ack, check, read_by_second},
+    {"read", put_request, check, read_by_second},
+    {"enter", put_enter, check, read_by_second},
+    {"data", put_data, check, read_by_second},
+    {"longest", put_longest, check, read_by_second},
+    {"odd-last", put_odd_last, check, read_by_second},
+    {"noise-500", put_noise_500, check, read_by_second},
     {"words", put_ack, words, NULL},
-    {"read-data", put_data, read_line, second_check},
+    {"read-data", put_data, read_line, read_by_second},
     {"hear-data", put_waiting, exchange_heard, NULL},
     {"meter-read", put_meter, meter_heard, NULL},
     {"search-data", put_data, find, NULL},

@@ -1,7 +1,12 @@
 /* Run bundles, whole and damaged, their rows, adding and listing: the archive against the second program. */
 #define _POSIX_C_SOURCE 200809L
 
-#include "compare.h"
+#include "compare_bundle.h"
+
+#include "call.h"
+#include "skarrowith.h"
+
+#include "../second/make_bundle.h"
 
 #include <stdio.h>
 #include <stdlib.h>
@@ -22,8 +27,7 @@ static void row(void)
 {
     struct second_row r = {0};
     struct skarrowith_row fields = {0};
-    unsigned many = (unsigned)bundle.rows;
-    size_t i = once_in(30) ? (size_t)chance() : once_in(6) || many == 0 ? many : below(many);
+    size_t i = (size_t)some_row();
     size_t size = some_places(sizeof fields);
     int refusal = size < sizeof fields ? 21 : second_row(bundle.b, bundle.n, i, &r);
     begin(BUNDLE_ROW);
@@ -63,33 +67,22 @@ static void list(void)
 /* A row is added to a bundle of its own making. */
 static void add(void)
 {
-    uint8_t body[2050] = {0};
-    size_t n = new_body(body), filled, length = 0;
-    struct second_row r = {0, 0, 0, 0, n};
+    static struct addition a;
+    size_t filled, length = 0;
     int refusal;
-    r.position = once_in(20) ? 49 * below(2) : some_position();
-    r.direction = once_in(20) ? between(2, 255) : below(2);
-    good_bundle(65536 - 12 - n - 2 + (once_in(3) ? 4 * below(2) : 2)); /* what the new row fills up, or nearly */
-    if (once_in(4))
-        break_bundle();
-    filled = bundle.n;
-    r.time = later();
-    if (once_in(12))
-        r.time = once_in(2) ? run_time() - 1 : (uint32_t)chance();
-    add_places(12 + n);
-    if (once_in(12))
-        filled = once_in(2) ? bundle.n + below(3) : once_in(2) ? filled + 1 - 2 * below(2) : (size_t)of_any_width();
+    some_addition(&a, 4);
+    filled = (size_t)a.filled;
     begin(BUNDLE_ADD);
-    struct lent *buffer = lend("buffer", bundle.n, bundle.b, bundle.n), *characters = lend("body", n, body, n);
+    struct lent *buffer = lend("buffer", bundle.n, bundle.b, bundle.n), *body = lend("body", a.row.length, a.body, a.row.length);
     struct lent *fills = lend("filled", sizeof filled, &filled, sizeof filled);
-    tell("position", r.position);
-    tell("direction", r.direction);
-    tell("time", r.time);
-    refusal = second_add(buffer->second, bundle.n, filled, r, body, &length);
+    tell("position", a.row.position);
+    tell("direction", a.row.direction);
+    tell("time", a.row.time);
+    refusal = second_add(buffer->second, bundle.n, filled, a.row, a.body, &length);
     if (refusal == 0)
         memcpy(fills->second, &length, sizeof length);
-    end(skarrowith_bundle_add(buffer->to, bundle.n, fills->to, (uint8_t)r.position, (uint8_t)r.direction, r.time,
-                              characters->to, n),
+    end(skarrowith_bundle_add(buffer->to, bundle.n, fills->to, (uint8_t)a.row.position, (uint8_t)a.row.direction, a.row.time,
+                              body->to, a.row.length),
         refused(refusal));
 }
 

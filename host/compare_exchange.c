@@ -1,42 +1,43 @@
 /* Histories of exchanges, the state kept in a record: the archive against the second program. */
-#include "compare.h"
+#include "compare_exchange.h"
 
+#include "history.h"
+#include "skarrowith.h"
+#include "structs.h"
+
+#include "../second/chance.h"
+#include "../second/make_line.h"
 #include "../second/number.h"
 #include "../second/record.h"
 
 #include <string.h>
-
-/* An exchange as the two programs keep it: in a record that the archive alone writes, and in the second's own struct. */
-struct held {
-    uint8_t record[SECOND_EXCHANGE_SIZE];
-    struct second_exchange x;
-};
 
 static uint32_t state_of(const struct second_exchange *x)
 {
     return (uint32_t)x->state + 1;
 }
 
-static int start(struct held *h)
+/* Starts one, and says whether it did. */
+static int start(uint8_t *record, struct second_exchange *x)
 {
     unsigned kind = once_in(12) ? below(once_in(2) ? 7 : 256) : between(2, 4), address = once_in(3) ? 0xFE : below(256);
     unsigned method = once_in(8) ? below(256) : kind == 3 ? between(0x90, 0x92) : 0;
     size_t size = some_places(SECOND_EXCHANGE_SIZE);
     uint64_t t = first_time();
     struct second_telegram request = second_request(kind, address, method);
-    int refusal = size < SECOND_EXCHANGE_SIZE ? 21 : second_start(&h->x, &request, t);
+    int refusal = size < SECOND_EXCHANGE_SIZE ? 21 : second_start(x, &request, t);
     begin(EXCHANGE_START);
     struct lent *exchange = lend("exchange", size, NULL, 0);
     if (refusal == 0)
-        second_put_exchange(exchange->second, &h->x);
+        second_put_exchange(exchange->second, x);
     tell("kind", kind);
     tell("address", address);
     tell("method", method);
     tell("t", t);
     end(skarrowith_exchange_start(exchange->to, size, (uint8_t)kind, (uint8_t)address, (uint8_t)method, t),
-        refusal == 0 ? state_of(&h->x) : refused(refusal));
+        refusal == 0 ? state_of(x) : refused(refusal));
     if (refusal == 0)
-        memcpy(h->record, exchange->proved, sizeof h->record);
+        memcpy(record, exchange->proved, SECOND_EXCHANGE_SIZE);
     return refusal == 0;
 }
 
@@ -84,8 +85,9 @@ static struct lent *hear(const uint8_t *record, size_t size, int refusal, struct
     return exchange;
 }
 
-static struct lent *step(const uint8_t *record, size_t size, int refusal, struct second_exchange *x)
+static struct lent *step(const uint8_t *record, size_t size, int refusal, union state *state)
 {
+    struct second_exchange *x = &state->exchange;
     uint64_t t = exchange_time(x);
     unsigned sort = below(8);
     if (x->state == SECOND_RESEND && !once_in(4))
@@ -95,7 +97,6 @@ static struct lent *step(const uint8_t *record, size_t size, int refusal, struct
     return pass(sort < 7 ? EXCHANGE_TICK : EXCHANGE_SENT, record, size, refusal, x, t);
 }
 
-/* A record whose fields stand in their ranges, or just past them, each for itself. */
 static void mix(uint8_t *record)
 {
     uint64_t began = first_time(), after = once_in(2) ? between(448, 453) : below(900);
@@ -109,37 +110,26 @@ static void mix(uint8_t *record)
     second_put_number(record + 16, 8, once_in(8) ? began - after : began + after);
 }
 
-/* A step on a record of another's making; the history goes on beside it. */
-static void step_aside(const struct held *h)
+static int take(const uint8_t *record, size_t size, union state *state)
 {
-    uint8_t record[SECOND_EXCHANGE_SIZE + 8] = {0};
-    size_t size = SECOND_EXCHANGE_SIZE;
-    struct second_exchange x;
-    int refusal;
-    memcpy(record, h->record, sizeof h->record);
-    if (once_in(2))
-        mix(record);
-    else
-        size = spoil(record, size);
-    refusal = second_take_exchange(record, size, &x);
-    step(record, size, refusal, &x);
+    return second_take_exchange(record, size, &state->exchange);
+}
+
+static void hold(const struct lent *left, const union state *state)
+{
+    hold_exchange(left, &state->exchange);
+}
+
+static int has_ended(const union state *state)
+{
+    return state->exchange.state == SECOND_WELL || state->exchange.state == SECOND_FAILED;
 }
 
 void compare_exchange(void)
 {
-    struct held h;
-    struct second_exchange read;
-    if (!start(&h))
-        return;
-    for (unsigned steps = between(1, 12); steps > 0; steps--) {
-        struct lent *left = step(h.record, sizeof h.record, 0, &h.x);
-        hold_exchange(left, &h.x);
-        memcpy(h.record, left->proved, sizeof h.record);
-        if (second_take_exchange(h.record, sizeof h.record, &read) != 0)
-            fail("a step gives a record that no step gives");
-        if (once_in(3))
-            step_aside(&h);
-        if ((h.x.state == SECOND_WELL || h.x.state == SECOND_FAILED) && once_in(2))
-            return;
-    }
+    static const struct history exchanges = {SECOND_EXCHANGE_SIZE, 12, step, hold, take, mix, has_ended};
+    uint8_t record[SECOND_EXCHANGE_SIZE];
+    union state state;
+    if (start(record, &state.exchange))
+        follow_history(&exchanges, record, &state);
 }

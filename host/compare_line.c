@@ -1,7 +1,15 @@
 /* Lines, search, words, wake-up, gap and error of indication: the archive against the second program. */
-#include "compare.h"
+#include "compare_line.h"
 
+#include "call.h"
+#include "skarrowith.h"
+#include "structs.h"
+
+#include "../second/chance.h"
 #include "../second/indication.h"
+#include "../second/make_line.h"
+#include "../second/make_telegram.h"
+#include "../second/number.h"
 #include "../second/record.h"
 #include "../second/wake.h"
 #include "../second/words.h"
@@ -48,7 +56,7 @@ void compare_check_line(void)
     } else
         some_line(&l);
     for (size_t i = 0; i < l.n; i++)
-        put_character(bytes + 2 * i, l.c[i]);
+        second_put_number(bytes + 2 * i, 2, l.c[i]);
     len = 2 * l.n - (l.n > 0 && once_in(64));
     begin(CHECK_LINE);
     struct lent *line = lend("bytes", len, bytes, len);

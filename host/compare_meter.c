@@ -1,18 +1,20 @@
 /* Histories of simulated meters, the state kept in a record: the archive against the second program. */
-#include "compare.h"
+#include "compare_meter.h"
 
+#include "history.h"
+#include "skarrowith.h"
+#include "structs.h"
+
+#include "../second/chance.h"
+#include "../second/make_line.h"
+#include "../second/make_telegram.h"
 #include "../second/number.h"
 #include "../second/record.h"
 
 #include <string.h>
 
-/* A meter as the two programs keep it: in a record that the archive alone writes, and in the second's own struct. */
-struct held {
-    uint8_t record[SECOND_METER_SIZE];
-    struct second_meter m;
-};
-
-static int set_up(struct held *h)
+/* Sets one up, and says whether it did. */
+static int set_up(uint8_t *begun, struct second_meter *m)
 {
     uint8_t record[SECOND_TELEGRAM_SIZE + 8] = {0};
     struct second_telegram t = once_in(30) ? good_telegram(some_kind()) : meter_template();
@@ -24,15 +26,15 @@ static int set_up(struct held *h)
         data_size = spoil(record, data_size);
     refusal = second_take_telegram(record, data_size, &t);
     if (refusal == 0)
-        refusal = size < SECOND_METER_SIZE ? 21 : second_set_up(&h->m, address, &t);
+        refusal = size < SECOND_METER_SIZE ? 21 : second_set_up(m, address, &t);
     begin(METER_SET_UP);
     struct lent *meter = lend("meter", size, NULL, 0), *data = lend("data", data_size, record, data_size);
     if (refusal == 0)
-        second_put_meter(meter->second, &h->m);
+        second_put_meter(meter->second, m);
     tell("address", address);
     end(skarrowith_meter_set_up(meter->to, size, (uint8_t)address, data->to, data_size), refused(refusal));
     if (refusal == 0)
-        memcpy(h->record, meter->proved, sizeof h->record);
+        memcpy(begun, meter->proved, SECOND_METER_SIZE);
     return refusal == 0;
 }
 
@@ -78,13 +80,14 @@ static struct lent *hear(const uint8_t *record, size_t size, int refusal, struct
     return meter;
 }
 
-static struct lent *step(const uint8_t *record, size_t size, int refusal, struct second_meter *m)
+static struct lent *step(const uint8_t *record, size_t size, int refusal, union state *state)
 {
+    struct second_meter *m = &state->meter;
     uint64_t t = meter_time(m);
     return once_in(3) ? measure(record, size, refusal, m, t) : hear(record, size, refusal, m, t);
 }
 
-/* A record whose fields before the template stand in their ranges, or just past them, each for itself. */
+/* The template stays as it is. */
 static void mix(uint8_t *record)
 {
     uint64_t instructed = first_time(), after = once_in(2) ? between(4319998, 4320001) : below(900);
@@ -97,38 +100,32 @@ static void mix(uint8_t *record)
             second_put_number(record + at, 8, once_in(2) ? 99999998 + below(3) : of_any_width());
 }
 
-/* A step on a record of another's making; the history goes on beside it. */
-static void step_aside(const struct held *h)
+static int take(const uint8_t *record, size_t size, union state *state)
 {
-    uint8_t record[SECOND_METER_SIZE + 8] = {0};
-    size_t size = SECOND_METER_SIZE;
-    struct second_meter m;
-    int refusal;
-    memcpy(record, h->record, sizeof h->record);
-    if (once_in(2))
-        mix(record);
-    else
-        size = spoil(record, size);
-    refusal = second_take_meter(record, size, &m);
-    step(record, size, refusal, &m);
+    return second_take_meter(record, size, &state->meter);
+}
+
+/* The last time of a meter that has not stepped is no field of its own. */
+static void hold(const struct lent *left, const union state *state)
+{
+    if (state->meter.has_stepped)
+        hold_meter(left, &state->meter);
+}
+
+static int never_ends(const union state *state)
+{
+    (void)state;
+    return 0;
 }
 
 void compare_meter(void)
 {
-    struct held h;
-    struct second_meter read;
-    if (!set_up(&h))
+    static const struct history meters = {SECOND_METER_SIZE, 16, step, hold, take, mix, never_ends};
+    uint8_t record[SECOND_METER_SIZE];
+    union state state;
+    if (!set_up(record, &state.meter))
         return;
     if (once_in(2))
-        h.m.last = first_time(); /* no step has been: this only leads the first time elsewhere */
-    for (unsigned steps = between(1, 16); steps > 0; steps--) {
-        struct lent *left = step(h.record, sizeof h.record, 0, &h.m);
-        if (h.m.has_stepped)
-            hold_meter(left, &h.m);
-        memcpy(h.record, left->proved, sizeof h.record);
-        if (second_take_meter(h.record, sizeof h.record, &read) != 0)
-            fail("a step gives a record that no step gives");
-        if (once_in(3))
-            step_aside(&h);
-    }
+        state.meter.last = first_time(); /* no step has been: this only leads the first time elsewhere */
+    follow_history(&meters, record, &state);
 }

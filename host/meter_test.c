@@ -1,19 +1,14 @@
 /* The simulated meter as a bench host calls it: one verification with 000's data line, and every refusal with its memory. */
 #include "skarrowith.h"
 
+#include "../second/example.h"
+
 #include <stdio.h>
 #include <string.h>
 
 #define OWN 5
 #define FE 0xFE
 #define RETURN 4320000u
-
-/* 000's data example, 5.4.3. */
-static const uint8_t data_bytes[63] = {
-    0x68, 0x39, 0x39, 0x68, 0x08, 0x00, 0x72, 0x78, 0x56, 0x34, 0x12, 0x89, 0x4E, 0x01, 0x04, 0x03,
-    0x00, 0x00, 0x00, 0x0C, 0x03, 0x45, 0x23, 0x71, 0x96, 0x0C, 0x11, 0x78, 0x56, 0x34, 0x12, 0x0B,
-    0x59, 0x12, 0x78, 0x00, 0x0B, 0x5D, 0x34, 0x65, 0x00, 0x0C, 0x2D, 0x78, 0x56, 0x34, 0x12, 0x0C,
-    0x3B, 0x78, 0x56, 0x34, 0x12, 0x06, 0x6D, 0x1C, 0x33, 0x0F, 0x57, 0x27, 0x00, 0x02, 0x16};
 
 static unsigned tried, wrong;
 static struct skarrowith_telegram data, answer;
@@ -212,16 +207,11 @@ static void refusals(void)
 
 int main(void)
 {
-    uint16_t line[63];
-    for (size_t i = 0; i < 63; i++) {
-        unsigned ones = 0;
-        for (unsigned b = data_bytes[i]; b != 0; b >>= 1)
-            ones ^= b & 1;
-        line[i] = (uint16_t)(data_bytes[i] + 256 * ones);
-    }
+    uint16_t line[SECOND_EXAMPLE];
+    second_example_line(line);
     expect("a telegram has 136 bytes", sizeof data, 136);
     expect("a meter has 192 bytes", sizeof meter, 192);
-    expect("000's data line", skarrowith_read_line(line, 63, &data, sizeof data), SKARROWITH_DATA);
+    expect("000's data line", skarrowith_read_line(line, SECOND_EXAMPLE, &data, sizeof data), SKARROWITH_DATA);
     set_ups();
     verification();
     refusals();

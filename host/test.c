@@ -1,6 +1,9 @@
 /* Calls the archive as a bench host does: document 01's values, and what only the host form has. */
 #include "skarrowith.h"
 
+#include "../second/example.h"
+#include "../second/number.h"
+
 #include <stdio.h>
 #include <string.h>
 
@@ -20,13 +23,6 @@ static const uint8_t leave[] = {0x68, 1, 4, 1, 4, 1, 0x68, 1, 0x53, 0, 0xFE, 1, 
 static const uint8_t too_high[] = {0xE5, 3};
 static const uint8_t high_byte_first[] = {1, 0xE5};
 static const uint8_t too_many[] = {0xE5, 1, 0xE5, 1};
-
-/* 000's data example, 5.4.3. */
-static const uint8_t data_bytes[63] = {
-    0x68, 0x39, 0x39, 0x68, 0x08, 0x00, 0x72, 0x78, 0x56, 0x34, 0x12, 0x89, 0x4E, 0x01, 0x04, 0x03,
-    0x00, 0x00, 0x00, 0x0C, 0x03, 0x45, 0x23, 0x71, 0x96, 0x0C, 0x11, 0x78, 0x56, 0x34, 0x12, 0x0B,
-    0x59, 0x12, 0x78, 0x00, 0x0B, 0x5D, 0x34, 0x65, 0x00, 0x0C, 0x2D, 0x78, 0x56, 0x34, 0x12, 0x0C,
-    0x3B, 0x78, 0x56, 0x34, 0x12, 0x06, 0x6D, 0x1C, 0x33, 0x0F, 0x57, 0x27, 0x00, 0x02, 0x16};
 
 static int wrong;
 static unsigned long right;
@@ -79,17 +75,6 @@ static void expect_all_words(void)
     }
 }
 
-static void with_parity(uint8_t *out, const uint8_t *bytes, size_t n)
-{
-    for (size_t i = 0; i < n; i++) {
-        unsigned ones = 0;
-        for (unsigned b = bytes[i]; b != 0; b >>= 1)
-            ones ^= b & 1;
-        out[2 * i] = bytes[i];
-        out[2 * i + 1] = (uint8_t)ones;
-    }
-}
-
 int main(void)
 {
     static const struct value values[] = {
@@ -106,11 +91,14 @@ int main(void)
         {"one byte", SKARROWITH_REFUSED + 17, 1, ack},
         {"an odd number of bytes", SKARROWITH_REFUSED + 17, 3, too_many},
     };
-    uint8_t data[2 * sizeof data_bytes];
+    uint16_t line[SECOND_EXAMPLE];
+    uint8_t data[2 * SECOND_EXAMPLE];
     size_t count = sizeof values / sizeof values[0];
     for (size_t i = 0; i < count; i++)
         expect(values[i].name, values[i].answer, values[i].bytes, values[i].len);
-    with_parity(data, data_bytes, sizeof data_bytes);
+    second_example_line(line);
+    for (size_t i = 0; i < SECOND_EXAMPLE; i++)
+        second_put_number(data + 2 * i, 2, line[i]);
     expect("000's data line", SKARROWITH_DATA, data, sizeof data);
     data[2 * 15] ^= 3;
     data[2 * 16] ^= 3;

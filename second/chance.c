@@ -1,5 +1,5 @@
 /* Chance for random cases (splitmix64), and numbers and times near the edges of document 01's rules. */
-#include "make.h"
+#include "chance.h"
 
 static uint64_t state;
 

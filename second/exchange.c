@@ -44,23 +44,6 @@ static int is_late(const struct second_exchange *x, uint64_t t)
     return t - x->began > WINDOW;
 }
 
-int second_heard(struct second_exchange *x, const uint16_t *line, size_t n, uint64_t t, struct second_telegram *reply)
-{
-    int refusal = refusal_of(x, t, SECOND_WAITING);
-    if (refusal != 0)
-        return refusal;
-    x->last = t;
-    if (is_late(x, t))
-        fail(x, SECOND_SILENT);
-    else if (second_read(line, n, reply) != 0)
-        fail(x, SECOND_DAMAGED);
-    else if (!fits(&x->request, reply))
-        fail(x, SECOND_WRONG);
-    else
-        x->state = SECOND_WELL;
-    return 0;
-}
-
 int second_tick(struct second_exchange *x, uint64_t t)
 {
     int refusal = refusal_of(x, t, SECOND_WAITING);
@@ -69,6 +52,21 @@ int second_tick(struct second_exchange *x, uint64_t t)
     x->last = t;
     if (is_late(x, t))
         fail(x, SECOND_SILENT);
+    return 0;
+}
+
+/* A line heard is a tick first: if that leaves the send waiting, the line is judged. */
+int second_heard(struct second_exchange *x, const uint16_t *line, size_t n, uint64_t t, struct second_telegram *reply)
+{
+    int refusal = second_tick(x, t);
+    if (refusal != 0 || x->state != SECOND_WAITING)
+        return refusal;
+    if (second_read(line, n, reply) != 0)
+        fail(x, SECOND_DAMAGED);
+    else if (!fits(&x->request, reply))
+        fail(x, SECOND_WRONG);
+    else
+        x->state = SECOND_WELL;
     return 0;
 }
 

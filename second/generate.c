@@ -2,7 +2,10 @@
  * Random cases for docs/CASES.md: `generate NAME SEED COUNT` prints COUNT cases of the capability NAME.
  * The same seed gives the same cases on every machine.
  */
-#include "make.h"
+#include "chance.h"
+#include "make_bundle.h"
+#include "make_line.h"
+#include "make_telegram.h"
 #include "number.h"
 
 #include <inttypes.h>
@@ -234,12 +237,10 @@ static void generate_list(void)
     print_bundle();
 }
 
-/* A row's number, most often of one that is there, and the bundle. */
 static void print_row(const char *name)
 {
     some_bundle();
-    unsigned rows = (unsigned)bundle.rows;
-    printf("%s +%" PRIu64, name, once_in(30) ? chance() : once_in(6) ? rows : rows > 0 ? below(rows) : 0);
+    printf("%s +%" PRIu64, name, some_row());
     print_bytes(bundle.b, bundle.n, bundle.rows);
 }
 
@@ -255,21 +256,11 @@ static void generate_body(void)
 
 static void generate_add(void)
 {
-    uint8_t body[2050] = {0};
-    size_t n = new_body(body);
-    good_bundle(65536 - 12 - n - 2 + (once_in(3) ? 4 * below(2) : 2)); /* what the new row fills up, or nearly */
-    if (once_in(8))
-        break_bundle();
-    uint64_t filled = bundle.n;
-    uint32_t time = later();
-    if (once_in(12))
-        time = once_in(2) ? run_time() - 1 : (uint32_t)chance();
-    add_places(12 + n);
-    if (once_in(12))
-        filled = once_in(2) ? bundle.n + below(3) : once_in(2) ? filled + 1 - 2 * below(2) : of_any_width();
-    printf("add +%" PRIu64 " +%u", filled, once_in(20) ? 49 * below(2) : some_position());
-    printf(" +%u +%" PRIu32 " body", once_in(20) ? between(2, 255) : below(2), time);
-    print_bytes(body, n, 0);
+    static struct addition a;
+    some_addition(&a, 8);
+    printf("add +%" PRIu64 " +%u +%u +%" PRIu32, a.filled, a.row.position, a.row.direction, a.row.time);
+    printf(" body");
+    print_bytes(a.body, a.row.length, 0);
     printf(" buffer");
     print_bytes(bundle.b, bundle.n, bundle.rows);
 }

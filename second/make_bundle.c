@@ -1,5 +1,10 @@
 /* Random run bundles: such that keep every rule, and such with a rule broken. */
-#include "make.h"
+#include "make_bundle.h"
+
+#include "chance.h"
+#include "make_line.h"
+#include "make_telegram.h"
+#include "number.h"
 
 #include <string.h>
 
@@ -18,24 +23,18 @@ static size_t run_length(void)
     return 2 + 12 * run.rows + run.size;
 }
 
-void put_character(uint8_t *to, unsigned c)
-{
-    to[0] = (uint8_t)c;
-    to[1] = (uint8_t)(c >> 8);
-}
-
 static void add_row(unsigned position, unsigned direction, uint32_t time, const struct line *l)
 {
     struct second_row row = {position, direction, time, 0, 2 * l->n};
     run.row[run.rows++] = row;
     for (size_t i = 0; i < l->n; i++, run.size += 2)
-        put_character(run.bodies + run.size, l->c[i]);
+        second_put_number(run.bodies + run.size, 2, l->c[i]);
 }
 
 static void join_run(void)
 {
     size_t place = 2 + 12 * run.rows;
-    put_character(bundle.b, (unsigned)run.rows);
+    second_put_number(bundle.b, 2, run.rows);
     for (size_t i = 0; i < run.rows; i++) {
         run.row[i].offset = (uint32_t)place;
         second_put_row(bundle.b + 2 + 12 * i, &run.row[i]);
@@ -70,18 +69,18 @@ static void some_body(struct line *l)
         repeat_character(l, 0x1E5, 1);
 }
 
-unsigned some_position(void)
+static unsigned some_position(void)
 {
     return once_in(4) ? 1 + 47 * below(2) : between(1, 48);
 }
 
-uint32_t run_time(void)
+static uint32_t run_time(void)
 {
     return run.rows == 0 ? 0 : run.row[run.rows - 1].time;
 }
 
 /* A time that is not below the last row's. */
-uint32_t later(void)
+static uint32_t later(void)
 {
     uint32_t last = run_time(), left = UINT32_MAX - last;
     uint32_t more = once_in(3) ? 0 : once_in(20) ? (uint32_t)of_any_width() : below(5000);
@@ -135,7 +134,7 @@ static void many_rows(size_t rows, size_t bytes)
 }
 
 /* A bundle that keeps every rule but perhaps 30: few rows, or many of them, up to 512 rows or so many bytes. */
-void good_bundle(size_t bytes)
+static void good_bundle(size_t bytes)
 {
     size_t rows = once_in(2) ? SECOND_ROWS : between(7, 511);
     run.rows = run.size = 0;
@@ -159,7 +158,7 @@ static void break_field(uint8_t *row)
 }
 
 /* One rule broken, or none by luck. */
-void break_bundle(void)
+static void break_bundle(void)
 {
     unsigned rows = (unsigned)bundle.rows, n = (unsigned)bundle.n, at;
     switch (below(8)) {
@@ -171,7 +170,7 @@ void break_bundle(void)
             bundle.b[bundle.n++] = (uint8_t)(once_in(2) ? 0 : below(256));
         break;
     case 2: /* another count */
-        put_character(bundle.b, once_in(2) ? rows + 1 - 2 * below(2) : once_in(2) ? between(510, 515) : below(65536));
+        second_put_number(bundle.b, 2, once_in(2) ? rows + 1 - 2 * below(2) : once_in(2) ? between(510, 515) : below(65536));
         break;
     case 3: /* a body's character */
         at = 2 + 12 * rows + (run.size == 0 ? 0 : below((unsigned)run.size));
@@ -199,7 +198,7 @@ void some_bundle(void)
 }
 
 /* What stands behind a bundle in its buffer: as many places as a new row needs, or nearly, or any number. */
-void add_places(size_t needed)
+static void add_places(size_t needed)
 {
     unsigned c = below(0x10000);
     size_t more = needed;
@@ -222,7 +221,7 @@ void add_places(size_t needed)
 }
 
 /* A body that is to be added, n bytes of it; one or more of its rules may be broken. */
-size_t new_body(uint8_t *to)
+static size_t new_body(uint8_t *to)
 {
     struct line l = {{0}, 0};
     size_t n;
@@ -232,7 +231,31 @@ size_t new_body(uint8_t *to)
     if (once_in(20))
         repeat_character(&l, l.c[0], once_in(2) ? 0 : between(501, 504));
     for (size_t i = 0; i < l.n; i++)
-        put_character(to + 2 * i, l.c[i]);
+        second_put_number(to + 2 * i, 2, l.c[i]);
     n = 2 * l.n;
     return once_in(20) ? n + 1 - 2 * (n > 0) : n;
+}
+
+uint64_t some_row(void)
+{
+    unsigned rows = (unsigned)bundle.rows;
+    return once_in(30) ? chance() : once_in(6) || rows == 0 ? rows : below(rows);
+}
+
+void some_addition(struct addition *a, unsigned broken)
+{
+    size_t n = new_body(a->body);
+    a->row = (struct second_row){0, 0, 0, 0, n};
+    a->row.position = once_in(20) ? 49 * below(2) : some_position();
+    a->row.direction = once_in(20) ? between(2, 255) : below(2);
+    good_bundle(65536 - 12 - n - 2 + (once_in(3) ? 4 * below(2) : 2)); /* what the new row fills up, or nearly */
+    if (once_in(broken))
+        break_bundle();
+    a->filled = bundle.n;
+    a->row.time = later();
+    if (once_in(12))
+        a->row.time = once_in(2) ? run_time() - 1 : (uint32_t)chance();
+    add_places(12 + n);
+    if (once_in(12))
+        a->filled = once_in(2) ? bundle.n + below(3) : once_in(2) ? a->filled + 1 - 2 * below(2) : of_any_width();
 }

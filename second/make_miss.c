@@ -1,5 +1,8 @@
 /* Near misses: an accepted line with one rule broken, the rules before it kept. */
-#include "make.h"
+#include "make_miss.h"
+
+#include "chance.h"
+#include "make_telegram.h"
 
 #include <string.h>
 

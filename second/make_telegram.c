@@ -1,5 +1,7 @@
 /* Random telegrams: such that can be written, and such with a rule broken. */
-#include "make.h"
+#include "make_telegram.h"
+
+#include "chance.h"
 
 #include <string.h>
 
@@ -156,7 +158,6 @@ static void break_header(struct second_telegram *t)
     }
 }
 
-/* Breaks one of the rules behind 20, or none by luck. */
 void break_telegram(struct second_telegram *t)
 {
     unsigned many = t->count == 0 ? 1 : (unsigned)t->count, at = below(many);
@@ -189,7 +190,6 @@ void break_telegram(struct second_telegram *t)
     }
 }
 
-/* A template that a meter is set up with, but now and then. */
 struct second_telegram meter_template(void)
 {
     struct second_telegram t = good_telegram(SECOND_DATA);

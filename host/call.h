@@ -1,9 +1,9 @@
 /* One call of the header, made twice: of the archive, and of the second program. */
-#ifndef COMPARE_H
-#define COMPARE_H
+#ifndef CALL_H
+#define CALL_H
 
-#include "../second/make.h"
-#include "skarrowith.h"
+#include <stddef.h>
+#include <stdint.h>
 
 enum function {
     CHECK_LINE,
@@ -60,29 +60,14 @@ void fail(const char *what);
 /* Most often so many places, now and then one fewer, none, or some more. */
 size_t some_places(size_t needed);
 
-/* What the archive has left there, taken as the header's struct, has the second program's values in its fields. */
-void hold_telegram(const struct lent *l, const struct second_telegram *s);
-void hold_exchange(const struct lent *l, const struct second_exchange *s);
-void hold_meter(const struct lent *l, const struct second_meter *s);
-
 /* Does to a record what no step does; answers its size. It has room for 8 more bytes. */
 size_t spoil(uint8_t *record, size_t size);
 
-/* Says how many lines with flips were checked; whether there were some with one, two and three. */
-int flips_seen(void);
+/* Calls are numbered from the seed on; how many have been made. */
+void seed_calls(uint64_t seed);
+unsigned long calls_made(void);
 
-/* Each makes one or more calls. */
-void compare_check_line(void);
-void compare_words(void);
-void compare_find(void);
-void compare_read(void);
-void compare_write(void);
-void compare_request(void);
-void compare_wake(void);
-void compare_gap(void);
-void compare_error(void);
-void compare_exchange(void);
-void compare_meter(void);
-void compare_bundle(void);
+/* Says how often each function was called; whether every answer and refusal that it can give was seen. */
+int all_seen(void);
 
 #endif

@@ -1,5 +1,7 @@
 /* The structs of the header name the bytes of a record: each field against the second program's. */
-#include "compare.h"
+#include "structs.h"
+
+#include "skarrowith.h"
 
 #include <string.h>
 

@@ -1,0 +1,12 @@
+/* The cases of run bundles. */
+#ifndef CASES_BUNDLES_H
+#define CASES_BUNDLES_H
+
+/* Each answers the case and says yes, or prints nothing and says that it is bad. */
+int answer_check(void);
+int answer_row(void);
+int answer_body(void);
+int answer_add(void);
+int answer_list(void);
+
+#endif

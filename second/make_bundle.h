@@ -1,0 +1,31 @@
+/* Random run bundles: such that keep every rule, and such with a rule broken. */
+#ifndef SECOND_MAKE_BUNDLE_H
+#define SECOND_MAKE_BUNDLE_H
+
+#include "bundle.h"
+
+enum { BYTES_MOST = 70000, NEW_BODY_MOST = 2050 };
+
+/* The bytes of a bundle, or of a buffer that begins with one, and how many rows its contents have. */
+struct bundle {
+    uint8_t b[BYTES_MOST];
+    size_t n, rows;
+};
+
+extern struct bundle bundle;
+
+void some_bundle(void);
+
+/* A row's number, most often of one that is there. */
+uint64_t some_row(void);
+
+/* A row that is to be added to the bundle, and how many bytes the bundle is said to fill; one in so many bundles is broken. */
+struct addition {
+    struct second_row row;
+    uint8_t body[NEW_BODY_MOST];
+    uint64_t filled;
+};
+
+void some_addition(struct addition *a, unsigned broken);
+
+#endif
