@@ -98,7 +98,7 @@ uint64_t tell(const char *name, uint64_t number)
     return number;
 }
 
-uint32_t refused(int refusal)
+uint32_t answer_for(int refusal)
 {
     return refusal == 0 ? 0 : SKARROWITH_REFUSED + (uint32_t)refusal;
 }

@@ -52,7 +52,7 @@ uint64_t tell(const char *name, uint64_t number);
 void end(uint32_t proved, uint32_t second);
 
 /* The host's answer for a refusal; 0 where there is none. */
-uint32_t refused(int refusal);
+uint32_t answer_for(int refusal);
 
 /* Fails by saying what should not be, with the call that led to it. */
 void fail(const char *what);

@@ -1,6 +1,7 @@
 /*
  * Calls one function a number of times on one input, for host/count, which counts the instructions.
- *   calls WHO WHAT TIMES [PLACES]    WHO: proved, second or none; WHAT: a row of host/figures; PLACES: of a capture, 4096
+ *   calls WHO WHAT TIMES [PLACES]    WHO: proved, second or none; WHAT: a name in `rows`, of which host/figures has most;
+ *                                    PLACES: of a capture, 4096
  *   calls stack WHAT                 prints how many bytes of stack one call of the proved function touches
  * Fails by 3 where WHO has no such function, or none to be held against: the second program's search tries every length.
  */
@@ -32,6 +33,7 @@ static struct skarrowith_meter set_up, meter;
 static uint32_t check(void) { return skarrowith_check_line(bytes, 2 * count); }
 static uint32_t words(void) { return skarrowith_refusal_text(9, (char *)text, sizeof text); }
 static uint32_t read_line(void) { return skarrowith_read_line(characters, count, &telegram, sizeof telegram); }
+static uint32_t write_line(void) { return skarrowith_write_line(&telegram, sizeof telegram, characters, MOST); }
 static uint32_t find(void) { return skarrowith_find_line(characters, count, &found, sizeof found); }
 
 /* A step from a copy, so that each call finds the same state. */
@@ -45,6 +47,14 @@ static uint32_t meter_heard(void)
 {
     meter = set_up;
     return skarrowith_meter_heard(&meter, sizeof meter, characters, count, 1100, &telegram, sizeof telegram);
+}
+
+static uint32_t meter_set_up(void) { return skarrowith_meter_set_up(&meter, sizeof meter, 5, &telegram, sizeof telegram); }
+
+static uint32_t meter_measure(void)
+{
+    meter = set_up;
+    return skarrowith_meter_measure(&meter, sizeof meter, 1, 1, 1100);
 }
 
 static uint32_t check_bundle(void) { return skarrowith_bundle_check(bytes, count, &told); }
@@ -170,6 +180,9 @@ static const struct {
     {"read-data", put_data, read_line, read_by_second},
     {"hear-data", put_waiting, exchange_heard, NULL},
     {"meter-read", put_meter, meter_heard, NULL},
+    {"write-data", put_meter, write_line, NULL},
+    {"set-up", put_meter, meter_set_up, NULL},
+    {"measure", put_meter, meter_measure, NULL},
     {"search-data", put_data, find, NULL},
     {"find-noise", put_noise, find, NULL},
     {"find-starts", put_starts, find, NULL},

@@ -17,6 +17,16 @@
 #include <stdio.h>
 #include <stdlib.h>
 
+static void compare_exchange(void)
+{
+    compare_history(&exchanges);
+}
+
+static void compare_meter(void)
+{
+    compare_history(&meters);
+}
+
 /* What is called, and how often, of so many turns in all. */
 static const struct {
     void (*compare)(void);

@@ -20,7 +20,7 @@ static void check(void)
     struct lent *bytes = lend("bundle", bundle.n, bundle.b, bundle.n), *rows = lend("rows", sizeof count, NULL, 0);
     if (refusal == 0)
         memcpy(rows->second, &count, sizeof count);
-    end(skarrowith_bundle_check(bytes->to, bundle.n, rows->to), refused(refusal));
+    end(skarrowith_bundle_check(bytes->to, bundle.n, rows->to), answer_for(refusal));
 }
 
 static void row(void)
@@ -40,7 +40,7 @@ static void row(void)
         fields.direction = (uint8_t)r.direction;
         memcpy(out->second, &fields, sizeof fields);
     }
-    end(skarrowith_bundle_row(bytes->to, bundle.n, (size_t)tell("i", i), out->to, size), refused(refusal));
+    end(skarrowith_bundle_row(bytes->to, bundle.n, (size_t)tell("i", i), out->to, size), answer_for(refusal));
 }
 
 static void list(void)
@@ -61,7 +61,7 @@ static void list(void)
         memcpy(written->second, &length, sizeof length);
     }
     free(text);
-    end(skarrowith_bundle_list(bytes->to, bundle.n, out->to, places, written->to), refused(places < length ? 21 : 0));
+    end(skarrowith_bundle_list(bytes->to, bundle.n, out->to, places, written->to), answer_for(places < length ? 21 : 0));
 }
 
 /* A row is added to a bundle of its own making. */
@@ -83,7 +83,7 @@ static void add(void)
         memcpy(fills->second, &length, sizeof length);
     end(skarrowith_bundle_add(buffer->to, bundle.n, fills->to, (uint8_t)a.row.position, (uint8_t)a.row.direction, a.row.time,
                               body->to, a.row.length),
-        refused(refusal));
+        answer_for(refusal));
 }
 
 void compare_bundle(void)

@@ -1,7 +1,6 @@
 /* Histories of exchanges, the state kept in a record: the archive against the second program. */
 #include "compare_exchange.h"
 
-#include "history.h"
 #include "skarrowith.h"
 #include "structs.h"
 
@@ -17,9 +16,9 @@ static uint32_t state_of(const struct second_exchange *x)
     return (uint32_t)x->state + 1;
 }
 
-/* Starts one, and says whether it did. */
-static int start(uint8_t *record, struct second_exchange *x)
+static int start(uint8_t *record, union state *state)
 {
+    struct second_exchange *x = &state->exchange;
     unsigned kind = once_in(12) ? below(once_in(2) ? 7 : 256) : between(2, 4), address = once_in(3) ? 0xFE : below(256);
     unsigned method = once_in(8) ? below(256) : kind == 3 ? between(0x90, 0x92) : 0;
     size_t size = some_places(SECOND_EXCHANGE_SIZE);
@@ -35,7 +34,7 @@ static int start(uint8_t *record, struct second_exchange *x)
     tell("method", method);
     tell("t", t);
     end(skarrowith_exchange_start(exchange->to, size, (uint8_t)kind, (uint8_t)address, (uint8_t)method, t),
-        refusal == 0 ? state_of(x) : refused(refusal));
+        refusal == 0 ? state_of(x) : answer_for(refusal));
     if (refusal == 0)
         memcpy(record, exchange->proved, SECOND_EXCHANGE_SIZE);
     return refusal == 0;
@@ -57,7 +56,7 @@ static struct lent *pass(enum function f, const uint8_t *record, size_t size, in
         proved = skarrowith_exchange_tick(exchange->to, size, t);
     else
         proved = skarrowith_exchange_sent(exchange->to, size, t);
-    end(proved, refusal == 0 ? state_of(x) : refused(refusal));
+    end(proved, refusal == 0 ? state_of(x) : answer_for(refusal));
     return exchange;
 }
 
@@ -81,7 +80,7 @@ static struct lent *hear(const uint8_t *record, size_t size, int refusal, struct
             second_put_telegram(reply->second, &telegram);
     }
     end(skarrowith_exchange_heard(exchange->to, size, line->to, l.n, t, reply->to, reply_size),
-        refusal == 0 ? state_of(x) : refused(refusal));
+        refusal == 0 ? state_of(x) : answer_for(refusal));
     return exchange;
 }
 
@@ -125,11 +124,4 @@ static int has_ended(const union state *state)
     return state->exchange.state == SECOND_WELL || state->exchange.state == SECOND_FAILED;
 }
 
-void compare_exchange(void)
-{
-    static const struct history exchanges = {SECOND_EXCHANGE_SIZE, 12, step, hold, take, mix, has_ended};
-    uint8_t record[SECOND_EXCHANGE_SIZE];
-    union state state;
-    if (start(record, &state.exchange))
-        follow_history(&exchanges, record, &state);
-}
+const struct history exchanges = {SECOND_EXCHANGE_SIZE, 12, start, step, hold, take, mix, has_ended};

@@ -2,6 +2,8 @@
 #ifndef COMPARE_EXCHANGE_H
 #define COMPARE_EXCHANGE_H
 
-void compare_exchange(void);
+#include "history.h"
+
+extern const struct history exchanges;
 
 #endif

@@ -40,7 +40,7 @@ static uint32_t second_kind_of(const struct line *l)
 {
     struct second_telegram t;
     int refusal = second_read(l->c, l->n, &t);
-    return refusal == 0 ? (uint32_t)t.kind + 1 : refused(refusal);
+    return refusal == 0 ? (uint32_t)t.kind + 1 : answer_for(refusal);
 }
 
 void compare_check_line(void)
@@ -61,7 +61,7 @@ void compare_check_line(void)
     begin(CHECK_LINE);
     struct lent *line = lend("bytes", len, bytes, len);
     proved = skarrowith_check_line(line->to, len);
-    end(proved, len % 2 == 1 ? refused(17) : second_kind_of(&l));
+    end(proved, len % 2 == 1 ? answer_for(17) : second_kind_of(&l));
     if (is_flipped && proved < SKARROWITH_REFUSED)
         fail("a line with flips is accepted");
 }
@@ -85,7 +85,7 @@ void compare_words(void)
     if (refusal == 0)
         memcpy(out->second, words, length);
     end(skarrowith_refusal_text((uint32_t)tell("number", number), out->to, places),
-        refusal == 0 ? (uint32_t)length : refused(refusal));
+        refusal == 0 ? (uint32_t)length : answer_for(refusal));
 }
 
 static struct lent *lend_line(const char *name, const struct line *l)
@@ -108,7 +108,7 @@ void compare_find(void)
         const uint64_t both[2] = {place, length};
         memcpy(found->second, both, sizeof both);
     }
-    end(skarrowith_find_line(capture->to, l.n, found->to, size), refused(refusal));
+    end(skarrowith_find_line(capture->to, l.n, found->to, size), answer_for(refusal));
 }
 
 void compare_read(void)
@@ -126,7 +126,7 @@ void compare_read(void)
     if (refusal == 0)
         second_put_telegram(telegram->second, &t);
     end(skarrowith_read_line(line->to, l.n, telegram->to, size),
-        refusal == 0 ? (uint32_t)t.kind + 1 : refused(refusal));
+        refusal == 0 ? (uint32_t)t.kind + 1 : answer_for(refusal));
     if (refusal == 0)
         hold_telegram(telegram, &t);
 }
@@ -139,7 +139,7 @@ static uint32_t second_written(int refusal, const struct second_telegram *t, str
     if (refusal == 0)
         refusal = second_write(t, line, out->size / 2, &length);
     if (refusal != 0)
-        return refused(refusal);
+        return answer_for(refusal);
     memcpy(out->second, line, 2 * length);
     return (uint32_t)length;
 }
@@ -198,7 +198,7 @@ void compare_wake(void)
     struct lent *out = lend("line", 2 * places, NULL, 0);
     if (refusal == 0)
         memcpy(out->second, line, 2 * (size_t)count);
-    end(skarrowith_write_wake((size_t)tell("count", count), out->to, places), refused(refusal));
+    end(skarrowith_write_wake((size_t)tell("count", count), out->to, places), answer_for(refusal));
 }
 
 void compare_gap(void)
@@ -208,7 +208,7 @@ void compare_gap(void)
     begin(GAP);
     tell("ended", ended);
     tell("begins", begins);
-    end(skarrowith_gap(ended, begins), refused(second_gap(ended, begins)));
+    end(skarrowith_gap(ended, begins), answer_for(second_gap(ended, begins)));
 }
 
 void compare_error(void)
@@ -228,5 +228,5 @@ void compare_error(void)
     tell("m2", c[1]);
     tell("s1", c[2]);
     tell("s2", c[3]);
-    end(skarrowith_error(c[0], c[1], c[2], c[3], tenths->to, places), refused(refusal));
+    end(skarrowith_error(c[0], c[1], c[2], c[3], tenths->to, places), answer_for(refusal));
 }

@@ -1,7 +1,6 @@
 /* Histories of simulated meters, the state kept in a record: the archive against the second program. */
 #include "compare_meter.h"
 
-#include "history.h"
 #include "skarrowith.h"
 #include "structs.h"
 
@@ -13,9 +12,9 @@
 
 #include <string.h>
 
-/* Sets one up, and says whether it did. */
-static int set_up(uint8_t *begun, struct second_meter *m)
+static int set_up(uint8_t *begun, union state *state)
 {
+    struct second_meter *m = &state->meter;
     uint8_t record[SECOND_TELEGRAM_SIZE + 8] = {0};
     struct second_telegram t = once_in(30) ? good_telegram(some_kind()) : meter_template();
     size_t size = some_places(SECOND_METER_SIZE), data_size = SECOND_TELEGRAM_SIZE;
@@ -32,10 +31,13 @@ static int set_up(uint8_t *begun, struct second_meter *m)
     if (refusal == 0)
         second_put_meter(meter->second, m);
     tell("address", address);
-    end(skarrowith_meter_set_up(meter->to, size, (uint8_t)address, data->to, data_size), refused(refusal));
-    if (refusal == 0)
-        memcpy(begun, meter->proved, SECOND_METER_SIZE);
-    return refusal == 0;
+    end(skarrowith_meter_set_up(meter->to, size, (uint8_t)address, data->to, data_size), answer_for(refusal));
+    if (refusal != 0)
+        return 0;
+    memcpy(begun, meter->proved, SECOND_METER_SIZE);
+    if (once_in(2))
+        m->last = first_time(); /* no step has been: this only leads the first time elsewhere */
+    return 1;
 }
 
 /* A measure on the record; `refusal` is one that goes before the step's. */
@@ -52,7 +54,7 @@ static struct lent *measure(const uint8_t *record, size_t size, int refusal, str
         refusal = second_measure(m, t, volume, energy);
     if (refusal == 0)
         second_put_meter(meter->second, m);
-    end(skarrowith_meter_measure(meter->to, size, volume, energy, t), refused(refusal));
+    end(skarrowith_meter_measure(meter->to, size, volume, energy, t), answer_for(refusal));
     return meter;
 }
 
@@ -76,7 +78,7 @@ static struct lent *hear(const uint8_t *record, size_t size, int refusal, struct
     if (does_answer)
         second_put_telegram(answer->second, &telegram);
     end(skarrowith_meter_heard(meter->to, size, line->to, l.n, t, answer->to, answer_size),
-        does_answer ? (uint32_t)telegram.kind + 1 : refused(refusal));
+        does_answer ? (uint32_t)telegram.kind + 1 : answer_for(refusal));
     return meter;
 }
 
@@ -118,14 +120,4 @@ static int never_ends(const union state *state)
     return 0;
 }
 
-void compare_meter(void)
-{
-    static const struct history meters = {SECOND_METER_SIZE, 16, step, hold, take, mix, never_ends};
-    uint8_t record[SECOND_METER_SIZE];
-    union state state;
-    if (!set_up(record, &state.meter))
-        return;
-    if (once_in(2))
-        state.meter.last = first_time(); /* no step has been: this only leads the first time elsewhere */
-    follow_history(&meters, record, &state);
-}
+const struct history meters = {SECOND_METER_SIZE, 16, set_up, step, hold, take, mix, never_ends};

@@ -2,6 +2,8 @@
 #ifndef COMPARE_METER_H
 #define COMPARE_METER_H
 
-void compare_meter(void);
+#include "history.h"
+
+extern const struct history meters;
 
 #endif

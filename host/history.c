@@ -24,20 +24,21 @@ static void step_aside(const struct history *h, const uint8_t *record)
     h->step(other, size, refusal, &state);
 }
 
-void follow_history(const struct history *h, const uint8_t *begun, union state *state)
+void compare_history(const struct history *h)
 {
     uint8_t record[RECORD_MOST];
-    union state read;
-    memcpy(record, begun, h->size);
+    union state state, read;
+    if (!h->begin(record, &state))
+        return;
     for (unsigned steps = between(1, h->steps); steps > 0; steps--) {
-        struct lent *left = h->step(record, h->size, 0, state);
-        h->hold(left, state);
+        struct lent *left = h->step(record, h->size, 0, &state);
+        h->hold(left, &state);
         memcpy(record, left->proved, h->size);
         if (h->take(record, h->size, &read) != 0)
             fail("a step gives a record that no step gives");
         if (once_in(3))
             step_aside(h, record);
-        if (h->has_ended(state) && once_in(2))
+        if (h->has_ended(&state) && once_in(2))
             return;
     }
 }

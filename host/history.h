@@ -20,6 +20,9 @@ struct history {
     size_t size;    /* of its record */
     unsigned steps; /* at the most */
 
+    /* Makes a fresh state and its record by a call; says whether that was accepted. */
+    int (*begin)(uint8_t *record, union state *state);
+
     /* One step of any kind on the record; `refusal` is one that goes before the step's. */
     struct lent *(*step)(const uint8_t *record, size_t size, int refusal, union state *state);
 
@@ -35,7 +38,7 @@ struct history {
     int (*has_ended)(const union state *state);
 };
 
-/* Goes on from a state and its record; beside it steps on records of another's making. */
-void follow_history(const struct history *h, const uint8_t *begun, union state *state);
+/* One history from its beginning; beside it steps on records of another's making. */
+void compare_history(const struct history *h);
 
 #endif
