@@ -24,7 +24,10 @@ static uint32_t expect(const char *what, uint32_t answer)
     if (answer < SKARROWITH_REFUSED)
         return answer;
     uint32_t length = skarrowith_refusal_text(answer, words, sizeof words);
-    printf("%s: refused %lu, %.*s\n", what, (unsigned long)(answer - SKARROWITH_REFUSED), (int)(length % 256), words);
+    printf("%s: refused %lu", what, (unsigned long)(answer - SKARROWITH_REFUSED));
+    if (length < SKARROWITH_REFUSED)
+        printf(", %.*s", (int)length, words);
+    putchar('\n');
     exit(1);
 }
 

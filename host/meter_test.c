@@ -2,6 +2,7 @@
 #include "skarrowith.h"
 
 #include "../second/example.h"
+#include "../second/number.h"
 
 #include <stdio.h>
 #include <string.h>
@@ -56,6 +57,19 @@ static void shows(const char *what, uint64_t t, uint64_t volume, uint64_t energy
     expect("its line reads as it", memcmp(&again, &answer, sizeof again) == 0, 1);
 }
 
+/* A record with one field changed, and the number by which it is refused. */
+struct change {
+    const char *what;
+    size_t at, width;
+    uint64_t value;
+    uint32_t number;
+};
+
+static void make(void *record, const struct change *c)
+{
+    second_put_number((uint8_t *)record + c->at, c->width, c->value);
+}
+
 /* A set-up that is refused leaves the meter's memory as it was. */
 static void no_set_up(const char *what, const struct skarrowith_telegram *given, size_t size, size_t places, uint32_t number)
 {
@@ -66,27 +80,43 @@ static void no_set_up(const char *what, const struct skarrowith_telegram *given,
             expect(what, i, sizeof meter);
 }
 
+/* Templates: what is no record is 101, and what is one but cannot be set up is 72. Writing refuses the one by 101 too, the other by 20. */
 static void set_ups(void)
 {
-    struct skarrowith_telegram other = data;
-    other.kind = SKARROWITH_READ;
-    no_set_up("a template that is no data", &other, sizeof other, sizeof meter, 72);
+    static const struct change changes[] = {
+        {"a template that is no data", offsetof(struct skarrowith_telegram, kind), 1, SKARROWITH_READ, 72},
+        {"a kind of 0", offsetof(struct skarrowith_telegram, kind), 1, 0, 101},
+        {"a kind of 6", offsetof(struct skarrowith_telegram, kind), 1, 6, 101},
+        {"a byte named zero that is not", offsetof(struct skarrowith_telegram, zero), 1, 1, 101},
+        {"an entry past the count", offsetof(struct skarrowith_telegram, count), 8, 6, 72},
+        {"a count of 9", offsetof(struct skarrowith_telegram, count), 8, 9, 72},
+        {"energy as a time's structure", offsetof(struct skarrowith_telegram, entries[0].structure), 1, 0x06, 72},
+        {"a sort of 2", offsetof(struct skarrowith_telegram, entries[6].sort), 1, 2, 101},
+        {"month 13", offsetof(struct skarrowith_telegram, entries[6].value.time.month), 1, 13, 72},
+        {"a time's last byte", offsetof(struct skarrowith_telegram, entries[6].value.time.zero[1]), 1, 1, 101},
+    };
+    uint16_t line[SKARROWITH_LINE_MOST];
+    struct skarrowith_telegram other;
+    for (size_t i = 0; i < sizeof changes / sizeof changes[0]; i++) {
+        uint32_t written = SKARROWITH_REFUSED + (changes[i].number == 101 ? 101 : 20);
+        other = data;
+        make(&other, &changes[i]);
+        expect(changes[i].what, skarrowith_write_line(&other, sizeof other, line, SKARROWITH_LINE_MOST), written);
+        no_set_up(changes[i].what, &other, sizeof other, sizeof meter, changes[i].number);
+    }
     other = data;
     other.entries[0].structure = 0x0E;
     no_set_up("energy in structure 0E", &other, sizeof other, sizeof meter, 72);
-    other = data;
-    other.count = 6;
-    no_set_up("an entry past the count", &other, sizeof other, sizeof meter, 72);
-    other = data;
-    other.zero[0] = 1;
-    no_set_up("a template that is no record", &other, sizeof other, sizeof meter, 101);
+    other.kind = SKARROWITH_ACK;
+    no_set_up("too few places before a template that is no data", &other, sizeof other, sizeof meter - 1, 21);
+    other.kind = 0;
     no_set_up("no record before too few places", &other, sizeof other, 0, 101);
     no_set_up("a template of 135 bytes", &data, sizeof data - 1, sizeof meter, 101);
     no_set_up("a meter of 191 bytes", &data, sizeof data, sizeof meter - 1, 21);
     other = data;
-    other.kind = SKARROWITH_ACK;
-    no_set_up("too few places before a template that is no data", &other, sizeof other, sizeof meter - 1, 21);
-    expect("set-up", skarrowith_meter_set_up(&meter, sizeof meter, OWN, &data, sizeof data), 0);
+    other.address = 0x99;
+    expect("set-up", skarrowith_meter_set_up(&meter, sizeof meter, OWN, &other, sizeof other), 0);
+    expect("the template's own address is kept", meter.data.address, 0x99);
     expect("it begins in use", meter.mode, 0);
     expect("with the template's volume", meter.used.volume, 12345678);
     expect("and energy", meter.used.energy, 96712345);
@@ -152,6 +182,17 @@ static void no_record(const char *what)
 
 static void refusals(void)
 {
+    static const struct change changes[] = {
+        {"a byte named zero that is not", offsetof(struct skarrowith_meter, zero[4]), 1, 1, 101},
+        {"a method in use", offsetof(struct skarrowith_meter, method), 1, 0x90, 101},
+        {"an instruction in use", offsetof(struct skarrowith_meter, since), 8, 1, 101},
+        {"mode 2", offsetof(struct skarrowith_meter, mode), 1, 2, 101},
+        {"an energy below the template's", offsetof(struct skarrowith_meter, used.energy), 8, 96712344, 101},
+        {"a total past the limit", offsetof(struct skarrowith_meter, used.volume), 8, 100000000, 101},
+        {"a verified total past the limit", offsetof(struct skarrowith_meter, verified.energy), 8, 100000000, 101},
+        {"a template that is not fit", offsetof(struct skarrowith_meter, data.entries[0].structure), 1, 0x0E, 101},
+        {"a template that is no record", offsetof(struct skarrowith_meter, data.entries[6].zero[0]), 1, 1, 101},
+    };
     const uint64_t t = meter.last;
     no_step("a time that goes back", sizeof meter, t - 1, sizeof answer, 70);
     no_measure("a measure whose time goes back", 1, 1, t - 1, 70);
@@ -164,32 +205,11 @@ static void refusals(void)
     no_step("no meter at all", 0, t, sizeof answer, 101);
 
     const struct skarrowith_meter good = meter;
-    meter.zero[4] = 1;
-    no_record("a byte named zero that is not");
-    meter = good;
-    meter.method = 0x90;
-    no_record("a method in use");
-    meter = good;
-    meter.since = 1;
-    no_record("an instruction in use");
-    meter = good;
-    meter.mode = 2;
-    no_record("mode 2");
-    meter = good;
-    meter.used.energy = 96712344;
-    no_record("an energy below the template's");
-    meter = good;
-    meter.used.volume = 100000000;
-    no_record("a total past the limit");
-    meter = good;
-    meter.verified.energy = 100000000;
-    no_record("a verified total past the limit");
-    meter = good;
-    meter.data.entries[0].structure = 0x0E;
-    no_record("a template that is not fit");
-    meter = good;
-    meter.data.entries[6].zero[0] = 1;
-    no_record("a template that is no record");
+    for (size_t i = 0; i < sizeof changes / sizeof changes[0]; i++) {
+        meter = good;
+        make(&meter, &changes[i]);
+        no_record(changes[i].what);
+    }
     meter = good;
     meter.mode = 1;
     meter.method = 0x93;

@@ -55,10 +55,11 @@ static void expect_words(uint32_t number, size_t places, uint32_t answer, const 
     }
 }
 
-/* Document 01 has words for these numbers and no others. */
+/* Document 01 has words for these numbers, and the library for two of its own. */
 static int has_words(uint32_t n)
 {
-    return (n >= 1 && n <= 21 && n != 19) || (n >= 30 && n <= 42) || (n >= 50 && n <= 52) || (n >= 60 && n <= 62) || (n >= 70 && n <= 72);
+    return (n >= 1 && n <= 21 && n != 19) || (n >= 30 && n <= 42) || (n >= 50 && n <= 52) || (n >= 60 && n <= 62) ||
+           (n >= 70 && n <= 72) || n == 100 || n == 101;
 }
 
 static void expect_all_words(void)
@@ -111,6 +112,12 @@ int main(void)
     expect_words(8, 13, SKARROWITH_REFUSED + 21, "");
     expect_words(8, 0, SKARROWITH_REFUSED + 21, "");
     expect_words(72, 260, 83, "meter: set up with data the writer refuses, or energy or volume not in structure 0C");
+    expect_words(21, 260, 32, "output: fewer places than needed");
+    expect_words(SKARROWITH_REFUSED + SKARROWITH_NO_SUCH_NUMBER, 260, 24, "no words for this number");
+    expect_words(SKARROWITH_NO_RECORD, 260, 95,
+                 "no record: another size, kind or sort, a byte that must be 0, or a state to which no steps lead");
+    expect_words(99, 260, SKARROWITH_REFUSED + SKARROWITH_NO_SUCH_NUMBER, "");
+    expect_words(102, 260, SKARROWITH_REFUSED + SKARROWITH_NO_SUCH_NUMBER, "");
     expect_words(19, 260, SKARROWITH_REFUSED + SKARROWITH_NO_SUCH_NUMBER, "");
     expect_words(4294967295u, 260, SKARROWITH_REFUSED + SKARROWITH_NO_SUCH_NUMBER, "");
     expect_all_words();

@@ -8,20 +8,31 @@
  * Answers. Every function answers one number. Below 256 it is the answer, 0 where there is nothing to say;
  * SKARROWITH_REFUSED plus n is refusal n. On a refusal nothing that was lent has changed, and otherwise only the places
  * that are named have. Where several refusals apply, the library's own (100, 101) go first and then the lowest number,
- * except that a wake-up gives 52 before 21.
+ * but for four rules:
+ *   - 17, an odd number of bytes, goes before 1 to 16;
+ *   - 11 to 14 are tried entry by entry from the left, in each entry the lowest first, and 16 after the last entry;
+ *   - a wake-up gives 52 before 21;
+ *   - adding to a bundle gives all that it has against the old bundle, 30 to 37, before 34, 37 and 38 for the new row.
  *
  * Lent memory is a pointer and the number of its places; with 0 of them the pointer may be null. Output that is too short
  * for what is to be written is refused by 21; a longer one is changed in its first places alone. A count that is answered
- * beside is written through a pointer to it.
+ * beside (rows, filled, written) is written through a pointer to it, which may not be null. Memory for uint16_t, int64_t and
+ * size_t is aligned as C aligns these types; bytes and records may stand at any address.
+ *
+ * Stack, as measured. skarrowith_bundle_list takes 28,000 bytes, the simulated meter up to 4,300, every other function fewer
+ * than 1,500.
  *
  * Lines. But for skarrowith_check_line and the bodies of a bundle, which are bytes, a line is its characters: each a
  * uint16_t with the byte received in the low eight bits and the parity bit received as bit 8. Lengths and places count
  * characters. Times are counted in bit times of 1/2400 s.
  *
  * Records. A struct below is its record, byte for byte (x86-64 is little-endian, and no struct has padding of the
- * compiler's). Each is lent with its size in bytes, sizeof x. A record that is read must have exactly that size and be one
- * that the library writes, else it is refused by SKARROWITH_NO_RECORD; memory for a record that is written may be longer,
- * and is refused by 21 if it is shorter. Bytes named zero are 0.
+ * compiler's). Each is lent with its size in bytes, sizeof x. Memory for a record that is written may be longer, and is
+ * refused by 21 if it is shorter. What is read must be a record, else it is refused by SKARROWITH_NO_RECORD: it has exactly
+ * its size; bytes named zero are 0; a telegram's kind is 1 to 5 and the sort of each of its seven entries 0 or 1. No other
+ * field of a telegram is asked about there: one with a count of 9 or a month 13 is a record, and what is done with it says
+ * the rest (writing refuses it by 20, set-up by 72). An exchange and a meter are records only if some history of steps leads
+ * to them.
  *
  * Build the archive target/staticlib/libskarrowith.a with `make`, and link it into an x86-64 program.
  */
@@ -38,10 +49,10 @@ extern "C" {
 /* A refusal: this plus its number in document 01, or plus one of the numbers below, which are neither 01's nor 02's. */
 #define SKARROWITH_REFUSED 256u
 
-/* There are no words for this number. */
+/* There are no words for this number. (For 100 and 101 there are.) */
 #define SKARROWITH_NO_SUCH_NUMBER 100u
 
-/* What is lent as a record has another size, or bytes that the library writes in no record. */
+/* What is lent as a record is none: see Records, above. */
 #define SKARROWITH_NO_RECORD 101u
 
 /* The five telegrams: what checking and reading answer for a line that is accepted. */
@@ -58,15 +69,15 @@ extern "C" {
  *        bit 8; so the first of the two is the byte, and the second is 0 or 1. They are not changed.
  * len:   the number of bytes. An odd number is refused by 17. Length 0 is the empty line and refused by 1.
  *
- * Answers SKARROWITH_ACK to SKARROWITH_DATA, or SKARROWITH_REFUSED plus the lowest refusal number that applies, 1 to 17
- * (11 to 15 are tried entry by entry from the left).
+ * Answers SKARROWITH_ACK to SKARROWITH_DATA, or SKARROWITH_REFUSED plus 17, or plus 1 to 14 or 16: the lowest that applies,
+ * 11 to 14 entry by entry from the left. (15, an eighth entry, is never given: it repeats a quantity, which is 14.)
  */
 uint32_t skarrowith_check_line(const uint8_t *bytes, size_t len);
 
 /*
- * Writes the words of document 01 for a refusal, for an operator to read.
+ * Writes the words for a refusal, document 01's or the library's own, for an operator to read.
  *
- * number: a refusal number of document 01, 1 to 72, or SKARROWITH_REFUSED plus one, as it was answered.
+ * number: a refusal number, 1 to 72, 100 or 101, or SKARROWITH_REFUSED plus one, as it was answered.
  * out:    len places. The words are ASCII, in one piece, without a zero behind them, and shorter than 256 bytes.
  *
  * Answers how many bytes were written, or SKARROWITH_REFUSED plus 21 (len is too small) or SKARROWITH_NO_SUCH_NUMBER.
@@ -126,7 +137,7 @@ struct skarrowith_found {
  */
 uint32_t skarrowith_find_line(const uint16_t *capture, size_t count, struct skarrowith_found *found, size_t size);
 
-/* Reads a line. Answers SKARROWITH_ACK to SKARROWITH_DATA, or refuses by 1 to 16, or 21. */
+/* Reads a line. Answers SKARROWITH_ACK to SKARROWITH_DATA, or refuses by 1 to 14, 16 or 21. */
 uint32_t skarrowith_read_line(const uint16_t *line, size_t count, struct skarrowith_telegram *telegram, size_t size);
 
 /*
@@ -190,8 +201,9 @@ struct skarrowith_exchange {
  * Times are counted in bit times of 1/2400 s and must not go back from step to step (40). A step that the state does not
  * call for is refused by 41.
  *
- * start: the request's first send has ended at t; method is looked at for an enter only. Refuses by 21, or 42 for a kind
- *        that is no request.
+ * start: the request's first send has ended at t; method is looked at for an enter only, and may be any byte there: whether
+ *        the request can be written is for skarrowith_write_request to say. Refuses by 21, or 42 for a kind that is no
+ *        request.
  * heard: a line was heard that began at t. If the exchange then stands SKARROWITH_WELL, its telegram has been written to
  *        reply; if not, reply is as it was. Refuses by 101, 21 (reply), 40 or 41.
  * tick:  no line has begun up to t; more than 450 after the send that is silence. Do not tick past the window while a
@@ -222,7 +234,9 @@ struct skarrowith_pair {
  * A simulated meter, 192 bytes, to be read and not to be changed: a record to which no set-up and history of steps leads
  * is refused by 101. last is the time of the last step, 0 before the first; address is the meter's own. mode is 0 in use
  * and 1 in verification; method and since, the time of the last instruction, are 0 in use. used is the pair of totals in
- * use, verified the one in verification, and data the template, with the access number.
+ * use, verified the one in verification. data is the template as it was given at set-up, but for the access number, which
+ * goes up with every read that is answered: data.address is the template's and plays no part, and the totals in its entries
+ * are those at set-up. An answer has address, and the totals in force, in their place.
  */
 struct skarrowith_meter {
     uint64_t last;
@@ -237,8 +251,8 @@ struct skarrowith_meter {
  * Times are counted in bit times of 1/2400 s and must not go back from step to step (70); the first step may carry any.
  * Each step first returns a meter to use that is in verification and has had no instruction for 4,320,000.
  *
- * set_up:  a meter in use, with its own address and a data template, whose address is ignored and whose energy and volume
- *          have structure 0C. Answers 0, or refuses by 101 (the template), 21 (the meter) or 72.
+ * set_up:  a meter in use, with its own address and a data template, whose address is kept and ignored and whose energy and
+ *          volume have structure 0C. Answers 0, or refuses by 101 (the template), 21 (the meter) or 72.
  * heard:   a line was heard at t. Answers SKARROWITH_SILENCE, SKARROWITH_ACK or SKARROWITH_DATA; then the answer's telegram has
  *          been written to answer, which silence leaves as it was. Refuses by 101 (the meter), 21 (answer) or 70.
  * measure: adds to the totals in force, as counts of the template's last digits. Answers 0, or refuses by 101, 70 or 71
@@ -281,7 +295,7 @@ struct skarrowith_row {
  * Checks a bundle.
  *
  * bundle, len: its bytes.
- * rows:        takes the count of rows, 0 to 512.
+ * rows:        takes the count of rows, 0 to 512; not null.
  *
  * Refuses by 30 to 37.
  */
@@ -302,7 +316,7 @@ uint32_t skarrowith_bundle_row(const uint8_t *bundle, size_t len, size_t i, stru
  * end stay. An empty bundle to begin with is two bytes of 0.
  *
  * buffer, len: all bytes of the buffer.
- * filled:      how many of them the bundle fills; takes how many it then fills.
+ * filled:      how many of them the bundle fills; takes how many it then fills; not null.
  * position, direction, time: those of the new row; no time is below the last row's.
  * body, body_len: its characters, two bytes each, low byte first.
  *
@@ -317,9 +331,9 @@ uint32_t skarrowith_bundle_add(uint8_t *buffer, size_t len, size_t *filled, uint
  * that is refused is listed as a line "refused 31", with its number; that is an answer and no refusal of this function.
  *
  * out, out_len: takes the text in its first bytes, and nothing beyond. SKARROWITH_LISTING_MOST bytes are always enough.
- * written:      takes how many bytes the text has; no zero byte ends it.
+ * written:      takes how many bytes the text has, and is not null; no zero byte ends it.
  *
- * Refuses by 21 if there are fewer bytes than the text has. It needs 28,000 bytes of stack.
+ * Refuses by 21 if there are fewer bytes than the text has. It takes 28,000 bytes of stack.
  */
 uint32_t skarrowith_bundle_list(const uint8_t *bundle, size_t len, uint8_t *out, size_t out_len, size_t *written);
 

@@ -1,6 +1,7 @@
 /*
  * The words of document 01's refusal table, in ASCII. A row for several numbers is taken apart at its semicolons;
- * those of the bundle say so first, as the other rows say whose they are.
+ * those of the bundle say so first, as the other rows say whose they are. 21 is said of every output, a record's too.
+ * 100 and 101 are the library's own (include/skarrowith.h).
  */
 #include "words.h"
 
@@ -28,7 +29,7 @@ const char *second_words(unsigned long number)
         [17] = "host form only, before 1: odd number of bytes",
         [18] = "search: no accepted line begins anywhere",
         [20] = "writer: no accepted line reads as this telegram",
-        [21] = "writer: fewer places than characters needed",
+        [21] = "output: fewer places than needed",
         [30] = "bundle: too long",
         [31] = "bundle: under two bytes",
         [32] = "bundle: count over 512",
@@ -51,6 +52,8 @@ const char *second_words(unsigned long number)
         [70] = "meter: time goes back",
         [71] = "meter: a total would pass 99,999,999",
         [72] = "meter: set up with data the writer refuses, or energy or volume not in structure 0C",
+        [100] = "no words for this number",
+        [101] = "no record: another size, kind or sort, a byte that must be 0, or a state to which no steps lead",
     };
     return number < sizeof words / sizeof words[0] ? words[number] : NULL;
 }

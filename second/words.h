@@ -1,8 +1,8 @@
-/* The words of document 01's refusal table, for the second program. */
+/* The words for refusals, document 01's and the library's own, for the second program. */
 #ifndef SECOND_WORDS_H
 #define SECOND_WORDS_H
 
-/* The words for a refusal number, in ASCII; NULL where the table has no such number. */
+/* The words for a refusal number, in ASCII; NULL where there are none. */
 const char *second_words(unsigned long number);
 
 #endif

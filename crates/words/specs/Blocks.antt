@@ -70,24 +70,24 @@ pub row-of-bundles : (n : ℕ) → 30 ≤ n → n < 50 → rowIn (block 30 13) (
 unfolding block same alike textOf wordsIn rowsFrom firstRow
 row-of-bundles n g h = right 30 13 20 refl n g (omega arith)
 
-pub row-of-steps : (n : ℕ) → 50 ≤ n → n < 73 → rowIn (block 50 23) (n - 50) ≡ textOf n
+pub row-of-steps : (n : ℕ) → 50 ≤ n → n < 102 → rowIn (block 50 52) (n - 50) ≡ textOf n
 unfolding block same alike textOf wordsIn rowsFrom firstRow
-row-of-steps n g h = right 50 23 23 refl n g (omega arith)
+row-of-steps n g h = right 50 52 52 refl n g (omega arith)
 
 -- ---- past the last number there are no words
 late : Row → Bool
-late r = ltb 72 (r .number)
+late r = ltb 101 (r .number)
 
-past : (rows : List Row) (n : ℕ) → any late rows ≡ false → 72 < n → wordsIn rows n ≡ refusal 100
+past : (rows : List Row) (n : ℕ) → any late rows ≡ false → 101 < n → wordsIn rows n ≡ refusal 100
 unfolding any wordsIn late
 past [] n e h = refl
 past (r ∷ rows) n e h =
     let both = neither (late r) (any late rows) e in
-    let early : r .number ≤ 72 = ltb-false 72 (r .number) (both .0) in
+    let early : r .number ≤ 101 = ltb-false 101 (r .number) (both .0) in
     let other : n ≡ r .number → ⊥ = λ same. omega arith in
     rw (ne-eqb n (r .number) other) (past rows n (both .1) h)
 
-pub no-words : (n : ℕ) → 73 ≤ n → textOf n ≡ refusal 100
+pub no-words : (n : ℕ) → 102 ≤ n → textOf n ≡ refusal 100
 unfolding textOf any late
 no-words n h = past refusalTexts n refl h
 

@@ -1,4 +1,4 @@
--- 01, "Refusal numbers" and "The run bundle": the words for each number.
+-- 01, "Refusal numbers" and "The run bundle": the words for each number, and for the two of the library's own.
 use Prim.Native.Nat.{ℕ, _-_}
 use Prim.Native.String.{String}
 use mathlib.Core.Bool.{cond}
@@ -15,8 +15,8 @@ pub record Row : Type 0 where
 abbrev row : ℕ → String → Row
 row n s = record { number = n; words = s }
 
--- 01's words in 01's order. Where 01 joins numbers in one row, the words that they share are said again; ≥ and – are written in ASCII;
--- those of the run bundle are told by its name.
+-- 01's words in 01's order, and the library's own numbers. Where 01 joins numbers in one row, the words that they share are said again;
+-- ≥ and – are written in ASCII; those of the run bundle are told by its name; 21 is said of every output, a record's too.
 abbrev pub refusalTexts : List Row
 refusalTexts =
     row 1 "the line is empty"
@@ -38,7 +38,7 @@ refusalTexts =
     ∷ row 17 "host form only, before 1: odd number of bytes"
     ∷ row 18 "search: no accepted line begins anywhere"
     ∷ row 20 "writer: no accepted line reads as this telegram"
-    ∷ row 21 "writer: fewer places than characters needed"
+    ∷ row 21 "output: fewer places than needed"
     ∷ row 30 "bundle: too long"
     ∷ row 31 "bundle: under two bytes"
     ∷ row 32 "bundle: count over 512"
@@ -61,6 +61,8 @@ refusalTexts =
     ∷ row 70 "meter: time goes back"
     ∷ row 71 "meter: a total would pass 99,999,999"
     ∷ row 72 "meter: set up with data the writer refuses, or energy or volume not in structure 0C"
+    ∷ row 100 "no words for this number"
+    ∷ row 101 "no record: another size, kind or sort, a byte that must be 0, or a state to which no steps lead"
     ∷ []
 
 -- the words that a table has for a number; 100: it has none

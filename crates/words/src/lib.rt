@@ -1,4 +1,4 @@
-// The words of document 01 for a refusal number, for the bench host: include/skarrowith.h says how.
+// The words for a refusal number, document 01's and the library's own, for the bench host: include/skarrowith.h says how.
 ghost use mathlib.Core.Path.{_≡_};
 ghost use Prim.Native.Nat.{_<_, _≤_};
 ghost use lib.ListN.{length, take, drop};
@@ -99,7 +99,7 @@ fn say_of_lines(out: &mut [u8], number: u32) -> u32
         search: no accepted line begins anywhere\n\
         \n\
         writer: no accepted line reads as this telegram\n\
-        writer: fewer places than characters needed\n",
+        output: fewer places than needed\n",
         number,
     )
 }
@@ -128,9 +128,9 @@ fn say_of_bundles(out: &mut [u8], number: u32) -> u32
     )
 }
 
-// The words for 50 to 72.
+// The words for 50 to 101.
 fn say_of_steps(out: &mut [u8], number: u32) -> u32
-    requires { ⌜ (50 ≤ number) × (number < 73) ⌝ }
+    requires { ⌜ (50 ≤ number) × (number < 102) ⌝ }
     ensures { λ r. ⌜ Says (textOf number) (now (out .entry)) r (now (out .exit)) ⌝ }
 {
     say_row(
@@ -145,7 +145,10 @@ fn say_of_steps(out: &mut [u8], number: u32) -> u32
         \n\n\n\n\n\n\n\
         meter: time goes back\n\
         meter: a total would pass 99,999,999\n\
-        meter: set up with data the writer refuses, or energy or volume not in structure 0C\n",
+        meter: set up with data the writer refuses, or energy or volume not in structure 0C\n\
+        \n\n\n\n\n\n\n\n\n\n\n\n\n\n\n\n\n\n\n\n\n\n\n\n\n\n\n\
+        no words for this number\n\
+        no record: another size, kind or sort, a byte that must be 0, or a state to which no steps lead\n",
         number - 50,
     )
 }
@@ -160,7 +163,7 @@ fn say_number(out: &mut [u8], number: u32) -> u32
     if number < 50 {
         return say_of_bundles(out, number);
     }
-    if number < 73 {
+    if number < 102 {
         return say_of_steps(out, number);
     }
     256 + 100
