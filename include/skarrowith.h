@@ -1,9 +1,9 @@
 /*
  * Skarrowith: lines, exchanges, simulated meters and run bundles of a heat-meter verification bench.
  *
- * The functions are proved against document 01's rules for every input, of any length: they read and write only the
- * memory that they are lent, keep no state, call nothing but memcpy and memset, and always return. They may be called
- * from any thread. What is lent to one call for writing must not overlap with anything else that it is lent.
+ * The functions are proved to keep the written rules (docs/RULES.md of the source) for every input, of any length: they
+ * read and write only the memory that they are lent, keep no state, call nothing but memcpy and memset, and always return.
+ * They may be called from any thread. What is lent to one call for writing must not overlap with anything else that it is lent.
  *
  * Answers. Every function answers one number. Below 256 it is the answer, 0 where there is nothing to say;
  * SKARROWITH_REFUSED plus n is refusal n. On a refusal nothing that was lent has changed, and otherwise only the places
@@ -46,7 +46,7 @@
 extern "C" {
 #endif
 
-/* A refusal: this plus its number in document 01, or plus one of the numbers below, which are neither 01's nor 02's. */
+/* A refusal: this plus its number in the rules (docs/REFUSALS.md has them all), or plus one of the library's own, below. */
 #define SKARROWITH_REFUSED 256u
 
 /* There are no words for this number. (For 100 and 101 there are.) */
@@ -75,7 +75,7 @@ extern "C" {
 uint32_t skarrowith_check_line(const uint8_t *bytes, size_t len);
 
 /*
- * Writes the words for a refusal, document 01's or the library's own, for an operator to read.
+ * Writes the words for a refusal, for an operator to read.
  *
  * number: a refusal number, 1 to 72, 100 or 101, or SKARROWITH_REFUSED plus one, as it was answered.
  * out:    len places. The words are ASCII, in one piece, without a zero behind them, and shorter than 256 bytes.
