@@ -1,24 +1,54 @@
--- Where a program's answer is an enum, one definition gives its case for each answer of the rules. No two answers are shown alike.
-use Prim.Native.Nat.{ℕ, _-_}
-use mathlib.Core.List.{List, _++_}
+-- 01, "The form to use in each place": where a program's answer is an enum, one definition gives its case for each answer of the rules. No two
+-- answers are shown alike.
+use Prim.Native.Nat.{_-_}
+use mathlib.Core.List.{List}
 use mathlib.Core.Path.{_≡_, sym, ap, _∙_}
 use lib.ListN.{length, take, replicate}
 use lib.Seq.{take-append-seam}
-use Rattle.format.specs.declared.Entry.{Entry}
-use Rattle.format.specs.declared.Outcome.the-variants.{Accepted, Refused}
-use Rattle.format.specs.declared.Telegram.{Telegram}
-use Rattle.format.specs.declared.Reading.{Reading}
-use Rattle.format.specs.Answers.{Answer, reads, refusal}
-use Rattle.format.specs.Telegrams.{blankEntry, shown}
-use Rattle.entries.specs.declared.Entries.{Entries}
-use Rattle.entries.specs.Walking.{entriesShown}
+use Rattle.bench_clock.specs.declared.Clock.{Clock}
+use Rattle.bench_clock.specs.Gaps.{shownGap}
+use Rattle.bench_clock.specs.Wakes.{shownWake}
+use Rattle.bench_clock.proofs.Laws.Gaps as gaps
+use Rattle.bench_clock.proofs.Laws.Wakes as wakes
+use Rattle.mbus_rules.specs.declared.Entry.{Entry}
+use Rattle.mbus_rules.specs.declared.Outcome.the-variants.{Accepted, Refused}
+use Rattle.mbus_rules.specs.declared.Reading.{Reading}
+use Rattle.mbus_rules.specs.Answers.{Answer, reads, refusal}
+use Rattle.mbus_rules.specs.Telegrams.{blankEntry, shown}
+use Rattle.mbus_entries.specs.declared.Entries.{Entries}
+use Rattle.mbus_entries.specs.Walking.{entriesShown}
+use Rattle.mbus_writing.specs.Answering as writing
+use Rattle.bench_indication.specs.Errors.{shownIndication}
+use Rattle.bench_indication.proofs.Laws.Errors as errors
+use Rattle.mbus_search.specs.Searching.{foundShown}
+use Rattle.mbus_search.proofs.Laws.Meaning as searches
+use Rattle.exchange_steps.specs.Steps as exchanges
+use Rattle.exchange_steps.proofs.Laws.Steps as steps
+use Rattle.meter_template.specs.Templates.{shownSum}
+use Rattle.meter_template.proofs.Laws.TemplateLaws as sums
+use Rattle.meter_steps.specs.declared.Meter.{Meter}
+use Rattle.meter_steps.specs.Meters as meters
+use Rattle.meter_steps.specs.Meters.{shownSetup}
+use Rattle.meter_steps.proofs.Laws.Shown as deeds
+use Rattle.bundle_check.specs.Shown.{shownChecked}
+use Rattle.bundle_check.proofs.Laws.Shown as bundles
+use Rattle.bundle_check.specs.RowsShown.{shownRow, shownBody}
+use Rattle.bundle_check.proofs.Laws.RowsShown as rows
+use Rattle.bundle_adding.specs.Shown.{shownAdded}
+use Rattle.bundle_adding.proofs.Laws.Shown as addings
+use Rattle.listing_text.specs.Shown.{shownListed}
+use Rattle.listing_text.proofs.Laws.Shown as listings
+
+-- Two answers that are shown alike are the same.
+abbrev pub Apart : {A B : Type 0} → (Answer A → B) → Type 0
+Apart {A} show = (a b : Answer A) → show a ≡ show b → a ≡ b
 
 -- reading a line
-pub shown-same : (a b : Answer Telegram) → shown a ≡ shown b → a ≡ b
-shown-same (refusal m) (refusal n) e = let o : Refused m ≡ Refused n = ap (λ (x : Reading). x .outcome) e in cc
-shown-same (refusal m) (reads u) e = let o : Refused m ≡ Accepted = ap (λ (x : Reading). x .outcome) e in cc
-shown-same (reads t) (refusal n) e = let o : Accepted ≡ Refused n = ap (λ (x : Reading). x .outcome) e in cc
-shown-same (reads t) (reads u) e = ap reads (ap (λ (x : Reading). x .telegram) e)
+pub reading-apart : Apart shown
+reading-apart (refusal m) (refusal n) e = let o : Refused m ≡ Refused n = ap (λ (x : Reading). x .outcome) e in cc
+reading-apart (refusal m) (reads u) e = let o : Refused m ≡ Accepted = ap (λ (x : Reading). x .outcome) e in cc
+reading-apart (reads t) (refusal n) e = let o : Accepted ≡ Refused n = ap (λ (x : Reading). x .outcome) e in cc
+reading-apart (reads t) (reads u) e = ap reads (ap (λ (x : Reading). x .telegram) e)
 
 -- reading all entries
 abbrev kept : Entries → List Entry
@@ -27,8 +57,57 @@ kept x = take (x .count) (x .entries)
 kept-shown : (done : List Entry) → kept (entriesShown (reads done)) ≡ done
 kept-shown done = take-append-seam done (replicate (7 - length done) blankEntry)
 
-pub entries-same : (a b : Answer (List Entry)) → entriesShown a ≡ entriesShown b → a ≡ b
-entries-same (refusal m) (refusal n) e = let o : Refused m ≡ Refused n = ap (λ (x : Entries). x .outcome) e in cc
-entries-same (refusal m) (reads u) e = let o : Refused m ≡ Accepted = ap (λ (x : Entries). x .outcome) e in cc
-entries-same (reads t) (refusal n) e = let o : Accepted ≡ Refused n = ap (λ (x : Entries). x .outcome) e in cc
-entries-same (reads t) (reads u) e = ap reads (sym (kept-shown t) ∙ ap kept e ∙ kept-shown u)
+pub entries-apart : Apart entriesShown
+entries-apart (refusal m) (refusal n) e = let o : Refused m ≡ Refused n = ap (λ (x : Entries). x .outcome) e in cc
+entries-apart (refusal m) (reads u) e = let o : Refused m ≡ Accepted = ap (λ (x : Entries). x .outcome) e in cc
+entries-apart (reads t) (refusal n) e = let o : Accepted ≡ Refused n = ap (λ (x : Entries). x .outcome) e in cc
+entries-apart (reads t) (reads u) e = ap reads (sym (kept-shown t) ∙ ap kept e ∙ kept-shown u)
+
+-- writing a line
+pub written-apart : Apart writing.shownWritten
+written-apart (refusal m) (refusal n) e = cc
+written-apart (refusal m) (reads n) e = cc
+written-apart (reads m) (refusal n) e = cc
+written-apart (reads m) (reads n) e = cc
+
+-- search, gap, wake-up, error
+pub found-apart : Apart foundShown
+found-apart = searches.found-same
+
+pub gap-apart : Apart shownGap
+gap-apart = gaps.shownGap-same
+
+pub wake-apart : Apart shownWake
+wake-apart = wakes.shownWake-same
+
+pub error-apart : Apart shownIndication
+error-apart = errors.shownIndication-same
+
+-- the exchange, and the simulated meter
+pub exchange-apart : Apart exchanges.shownStep
+exchange-apart = steps.shownStep-same
+
+pub set-up-apart : Apart shownSetup
+set-up-apart = deeds.shownSetup-same
+
+pub meter-apart : (m : Meter) (t : Clock) → Apart (meters.shownMeterStep m t)
+meter-apart = deeds.shownStep-same
+
+pub sum-apart : Apart shownSum
+sum-apart = sums.shownSum-same
+
+-- the run bundle
+pub checked-apart : Apart shownChecked
+checked-apart = bundles.shownChecked-same
+
+pub row-apart : Apart shownRow
+row-apart = rows.shownRow-same
+
+pub body-apart : Apart shownBody
+body-apart = rows.shownBody-same
+
+pub added-apart : Apart shownAdded
+added-apart = addings.shownAdded-same
+
+pub listed-apart : Apart shownListed
+listed-apart = listings.shownListed-same

@@ -3,28 +3,30 @@ use Prim.Native.Nat.{ℕ, _+_, _*_}
 use mathlib.Core.List.{List, [], _∷_, map}
 use mathlib.Core.Path.{_≡_, refl}
 use lib.Count.{onesIn}
-use lib.IntN.{ℤ, pos, negℤ}
-use Rattle.format.specs.declared.Value.the-variants.{Number, Time}
-use Rattle.format.specs.declared.Entry.{Entry}
-use Rattle.format.specs.declared.Header.{Header}
-use Rattle.format.specs.Lists.{any, total}
-use Rattle.format.specs.Characters.{odd, byteOf, carrier}
-use Rattle.format.specs.Answers.{reads, refusal}
-use Rattle.format.specs.Digits.{digitsOf}
-use Rattle.format.specs.Moments.{wrongMoment}
-use Rattle.format.specs.Headers.{wrongHeader}
-use Rattle.format.specs.Quantities.{quantityOf, widthOf, paired, powerOf}
-use Rattle.format.specs.Entries.{readEntries}
-use Rattle.format.specs.Telegrams.{ack, readOf, enterOf, leaveOf, dataOf}
-use Rattle.format.specs.Lines.{readBody, readLine, Accepted}
-use Rattle.format.specs.Writing.{lineOf}
-use Rattle.format.specs.Flips.{flipBit, flips}
-use Rattle.format.specs.FourFlips.{dataLine, four}
-use Rattle.indication.specs.Errors.{errorOf}
-use Rattle.exchange.specs.declared.Cause.the-variants.{Silent}
-use Rattle.exchange.specs.declared.State.the-variants.{Resend, Well}
-use Rattle.exchange.specs.Histories.{run}
-use Rattle.exchange.specs.Values.{heardAfter}
+use lib.ListN.{length, drop}
+use lib.IntN.{pos, negℤ}
+use Rattle.mbus_rules.specs.declared.Value.the-variants.{Number, Time}
+use Rattle.mbus_rules.specs.declared.Entry.{Entry}
+use Rattle.mbus_rules.specs.declared.Header.{Header}
+use Rattle.mbus_rules.specs.declared.Telegram.{Telegram}
+use Rattle.mbus_rules.specs.Lists.{at, any, total}
+use Rattle.mbus_rules.specs.Characters.{odd, byteOf, carrier}
+use Rattle.mbus_rules.specs.Answers.{reads, refusal}
+use Rattle.mbus_rules.specs.Digits.{digitsOf, packed}
+use Rattle.mbus_rules.specs.Moments.{wrongMoment}
+use Rattle.mbus_rules.specs.Headers.{wrongHeader}
+use Rattle.mbus_rules.specs.Quantities.{quantityOf, widthOf, paired, powerOf}
+use Rattle.mbus_rules.specs.Entries.{readEntries}
+use Rattle.mbus_rules.specs.Telegrams.{ack, readOf, enterOf, leaveOf, dataOf}
+use Rattle.mbus_rules.specs.Lines.{readBody, readLine}
+use Rattle.mbus_rules.specs.Writing.{bytesOfEntries, lineOf}
+use Rattle.mbus_rules.specs.Flips.{flipBit, flips}
+use Rattle.mbus_rules.specs.FourFlips.{dataLine, four}
+use Rattle.bench_indication.specs.Errors.{errorOf, indicationOf}
+use Rattle.exchange_steps.specs.declared.Cause.the-variants.{Silent}
+use Rattle.exchange_steps.specs.declared.State.the-variants.{Resend, Well}
+use Rattle.exchange_steps.specs.Histories.{run}
+use Rattle.exchange_steps.specs.Values.{heardAfter}
 
 -- every statement of a list holds
 abbrev pub Hold : List (Type 0) → Type 0
@@ -32,18 +34,22 @@ Hold [] = Unit {0}
 Hold (claim ∷ claims) = claim × Hold claims
 
 -- a packed number, with its structure and unit
-abbrev pub number : ℕ → ℕ → ℕ → Entry
-number st u n = record { structure = st; unit = u; value = Number (record { count = n }) }
+abbrev pub packedEntry : ℕ → ℕ → ℕ → Entry
+packedEntry st u n = record { structure = st; unit = u; value = Number (record { count = n }) }
 
--- what 000's data example holds: meter 12345678, maker STI, and the entries in their order
-abbrev pub exampleHeader : Header
-exampleHeader = record { number = 12345678; maker = 1024 * 19 + (32 * 20 + 9); version = 1; «meter_type» = 4; access = 3; status = 0 }
+-- what 000's data example holds: meter 12345678, maker STI, access and status, and the entries in their order
+abbrev pub exampleHeader : ℕ → ℕ → Header
+exampleHeader access status =
+    record { number = 12345678; maker = 1024 * 19 + (32 * 20 + 9); version = 1; «meter_type» = 4; access = access; status = status }
+
+abbrev pub exampleTime : Entry
+exampleTime =
+    record { structure = 0x06; unit = 0x6D; value = Time (record { year = 18; month = 7; day = 23; hour = 15; minute = 51; second = 28 }) }
 
 abbrev pub exampleEntries : List Entry
 exampleEntries =
-    number 0x0C 0x03 96712345 ∷ number 0x0C 0x11 12345678 ∷ number 0x0B 0x59 7812 ∷ number 0x0B 0x5D 6534 ∷ number 0x0C 0x2D 12345678
-    ∷ number 0x0C 0x3B 12345678
-    ∷ record { structure = 0x06; unit = 0x6D; value = Time (record { year = 18; month = 7; day = 23; hour = 15; minute = 51; second = 28 }) } ∷ []
+    packedEntry 0x0C 0x03 96712345 ∷ packedEntry 0x0C 0x11 12345678 ∷ packedEntry 0x0B 0x59 7812 ∷ packedEntry 0x0B 0x5D 6534 ∷ packedEntry 0x0C 0x2D 12345678
+    ∷ packedEntry 0x0C 0x3B 12345678 ∷ exampleTime ∷ []
 
 abbrev pub thirteen : List (Type 0)
 thirteen =
@@ -60,18 +66,43 @@ thirteen =
     ∷ (map byteOf (lineOf (enterOf 0xFE 0x92)) ≡ 0x68 ∷ 0x04 ∷ 0x04 ∷ 0x68 ∷ 0x53 ∷ 0xFE ∷ 0x50 ∷ 0x92 ∷ 0x33 ∷ 0x16 ∷ [])
     ∷ (map byteOf (lineOf (leaveOf 0xFE)) ≡ 0x68 ∷ 0x04 ∷ 0x04 ∷ 0x68 ∷ 0x53 ∷ 0xFE ∷ 0x50 ∷ 0x00 ∷ 0xA1 ∷ 0x16 ∷ [])
     -- 10: 000's data example; energy counts Wh, volume 10^−5 m³, inlet and outlet 10^−2 °C
-    ∷ ((readLine dataLine ≡ reads (dataOf 0 exampleHeader exampleEntries))
+    ∷ ((readLine dataLine ≡ reads (dataOf 0 (exampleHeader 3 0) exampleEntries))
     × (powerOf 0x03 ≡ pos 0) × (powerOf 0x11 ≡ negℤ (pos 5)) × (powerOf 0x59 ≡ negℤ (pos 2)) × (powerOf 0x5D ≡ negℤ (pos 2)))
-    -- 11: four flips, accepted
-    ∷ Accepted (flips four dataLine)
+    -- 11: four flips, accepted: the same with access 00 and status 03
+    ∷ (readLine (flips four dataLine) ≡ reads (dataOf 0 (exampleHeader 0 3) exampleEntries))
     -- 12: rises 10005, 9995, 10004 and 0 against 10000
-    ∷ ((errorOf 0 10005 0 10000 ≡ pos 1) × (errorOf 0 9995 0 10000 ≡ negℤ (pos 1)) × (errorOf 0 10004 0 10000 ≡ pos 0)
-    × (errorOf 0 0 0 10000 ≡ negℤ (pos 1000)))
+    ∷ ((indicationOf 0 10005 0 10000 ≡ reads (pos 1)) × (indicationOf 0 9995 0 10000 ≡ reads (negℤ (pos 1)))
+    × (indicationOf 0 10004 0 10000 ≡ reads (pos 0)) × (indicationOf 0 0 0 10000 ≡ reads (negℤ (pos 1000))))
     -- 13: a fitting line at 450 is taken; at 451 it is silence
     ∷ ((heardAfter 450 ≡ Well) × (heardAfter 451 ≡ Resend Silent))
     ∷ []
 
 pub thirteen-hold : Hold thirteen
-unfolding readLine readBody readEntries any total odd carrier onesIn lineOf flips flipBit wrongHeader digitsOf wrongMoment quantityOf widthOf paired powerOf errorOf run
-thirteen-hold =
-    (refl, (refl, (refl, (refl, (refl, (refl, (refl, (refl, (refl, ((refl, refl, refl, refl, refl), ((_, refl), ((refl, refl, refl, refl), ((refl, refl), tt)))))))))))))
+unfolding readLine readBody readEntries any total odd carrier onesIn lineOf flips flipBit wrongHeader digitsOf wrongMoment quantityOf widthOf paired
+    powerOf errorOf run
+thirteen-hold = (refl, (refl, (refl, (refl, (refl, from-six)))))
+  where
+    from-six : Hold (drop 5 thirteen)
+    from-six = (refl, (refl, (refl, (refl, ((refl, refl, refl, refl, refl), (refl, ((refl, refl, refl, refl), ((refl, refl), tt))))))))
+
+-- ---- 01, "Telegrams": L runs from 39 to 71, and both are reached
+
+-- the five required quantities, four digits each; and all seven, twelve digits each
+abbrev pub fewest : Telegram
+fewest = dataOf 0 (exampleHeader 3 0) (packedEntry 0x0A 0x03 9999 ∷ packedEntry 0x0A 0x11 9999 ∷ packedEntry 0x0A 0x59 7812 ∷ packedEntry 0x0A 0x5D 6534
+    ∷ exampleTime ∷ [])
+
+abbrev pub most : Telegram
+most =
+    dataOf 0 (exampleHeader 3 0) (
+    packedEntry 0x0E 0x03 999999999999 ∷ packedEntry 0x0E 0x11 999999999999 ∷ packedEntry 0x0E 0x59 7812 ∷ packedEntry 0x0E 0x5D 6534
+    ∷ packedEntry 0x0E 0x2D 999999999999 ∷ packedEntry 0x0E 0x3B 999999999999 ∷ exampleTime ∷ []
+    )
+
+pub shortest-data : (readLine (lineOf fewest) ≡ reads fewest) × (at (map byteOf (lineOf fewest)) 1 ≡ 39)
+unfolding readLine readBody readEntries any total odd carrier onesIn lineOf wrongHeader digitsOf wrongMoment quantityOf widthOf paired packed bytesOfEntries
+shortest-data = (refl, refl)
+
+pub longest-data : (readLine (lineOf most) ≡ reads most) × (at (map byteOf (lineOf most)) 1 ≡ 71) × (length (lineOf most) ≡ 77)
+unfolding readLine readBody readEntries any total odd carrier onesIn lineOf wrongHeader digitsOf wrongMoment quantityOf widthOf paired packed bytesOfEntries
+longest-data = (refl, refl, refl)

@@ -4,18 +4,19 @@ use mathlib.Core.Bool.{Bool, not, cond, _&&_}
 use mathlib.Core.List.{List, [], _∷_, _++_}
 use lib.Dec.{eqb, ltb, leb}
 use lib.ListN.{take, drop}
-use Rattle.format.specs.declared.Request.{Request}
-use Rattle.format.specs.declared.Request.the-variants.{Read, Enter, Leave}
-use Rattle.format.specs.Answers.{Answer, reads, refuse, follow}
-use Rattle.format.specs.Lists.{at}
-use Rattle.exchange.specs.declared.Cause.{Cause}
-use Rattle.exchange.specs.declared.Cause.the-variants.{Silent, Damaged, WrongKind}
-use Rattle.exchange.specs.declared.State.{State}
-use Rattle.exchange.specs.declared.State.the-variants.{Waiting, Resend, Well, Failed}
-use Rattle.exchange.specs.declared.Exchange.{Exchange}
-use Rattle.exchange.specs.Steps.{mostSends, past}
-use Rattle.low_first.specs.Numbers.{number, bytesOf}
-use Rattle.records.specs.Recorded.{noRecord, recorded}
+use Rattle.mbus_rules.specs.declared.Request.{Request}
+use Rattle.mbus_rules.specs.declared.Request.the-variants.{Read, Enter, Leave}
+use Rattle.mbus_rules.specs.Answers.{Answer, reads, refuse, follow}
+use Rattle.mbus_rules.specs.Lists.{at}
+use Rattle.exchange_steps.specs.declared.Cause.{Cause}
+use Rattle.exchange_steps.specs.declared.Cause.the-variants.{Silent, Damaged, WrongKind}
+use Rattle.exchange_steps.specs.declared.State.{State}
+use Rattle.exchange_steps.specs.declared.State.the-variants.{Waiting, Resend, Well, Failed}
+use Rattle.exchange_steps.specs.declared.Exchange.{Exchange}
+use Rattle.exchange_steps.specs.Steps.{mostSends, past}
+use Rattle.bytes_numbers.specs.Numbers.{number}
+use Rattle.bytes_numbers.specs.Records.{recordOf}
+use Rattle.host_records.specs.Recorded.{noRecord, recorded}
 
 abbrev pub exchangeSize : ℕ
 exchangeSize = 24
@@ -48,22 +49,22 @@ causeIn Well = 0
 causeIn (Failed cause) = causeNumber cause
 
 -- request, state, cause and sends, and two bytes of 0
-abbrev pub headBytes : Request → State → ℕ → List ℕ
-headBytes request state sends = requestBytes request ++ (stateNumber state ∷ causeIn state ∷ sends ∷ 0 ∷ 0 ∷ [])
+abbrev pub exchangeHead : Request → State → ℕ → List ℕ
+exchangeHead request state sends = requestBytes request ++ (stateNumber state ∷ causeIn state ∷ sends ∷ 0 ∷ 0 ∷ [])
 
 unfoldable pub exchangeBytes : Exchange → List ℕ
-exchangeBytes x = headBytes (x .request) (x .state) (x .sends) ++ (bytesOf 8 (x .began .0) ++ bytesOf 8 (x .last .0))
+exchangeBytes x = recordOf (exchangeHead (x .request) (x .state) (x .sends)) (x .began .0 ∷ x .last .0 ∷ []) []
 
 -- ---- read
 
 abbrev pub requestOf : ℕ → ℕ → ℕ → Request
 requestOf kind address method = cond (eqb kind 2) (Read address) (cond (eqb kind 3) (Enter address method) (Leave address))
 
-abbrev pub causeOf : ℕ → Cause
-causeOf n = cond (eqb n 1) Silent (cond (eqb n 2) Damaged WrongKind)
+abbrev pub causeOfNumber : ℕ → Cause
+causeOfNumber n = cond (eqb n 1) Silent (cond (eqb n 2) Damaged WrongKind)
 
 abbrev pub stateOf : ℕ → ℕ → State
-stateOf n cause = cond (eqb n 1) Waiting (cond (eqb n 2) (Resend (causeOf cause)) (cond (eqb n 3) Well (Failed (causeOf cause))))
+stateOf n cause = cond (eqb n 1) Waiting (cond (eqb n 2) (Resend (causeOfNumber cause)) (cond (eqb n 3) Well (Failed (causeOfNumber cause))))
 
 unfoldable pub exchangeIn : List ℕ → Exchange
 exchangeIn b = record {

@@ -1,18 +1,18 @@
 // The record of an exchange: bytes of a fixed size, numbers low byte first.
 ghost use mathlib.Core.Path.{_≡_};
 ghost use lib.ListN.{length};
-ghost use Rattle.exchange.specs.Steps.{shownStep};
-ghost use Rattle.exchange_record.specs.Exchanges.{requestBytes, causeNumber, stateNumber, causeIn, headBytes, exchangeBytes, requestOf, causeOf, stateOf, exchangeIn, failsBy, standsAt, reached, exchangeFrom};
-use clock::Clock;
-use exchange::Cause;
-use exchange::Exchange;
-use exchange::State;
-use exchange::Stepped;
-use format::Request;
-use lent::is_same;
-use lent::lay;
-use low_first::bytes_of_eight;
-use low_first::eight;
+ghost use Rattle.exchange_steps.specs.Steps.{shownStep};
+ghost use Rattle.exchange_record.specs.Exchanges.{requestBytes, causeNumber, stateNumber, causeIn, exchangeHead, exchangeBytes, requestOf};
+ghost use Rattle.exchange_record.specs.Exchanges.{causeOfNumber, stateOf, exchangeIn, failsBy, standsAt, reached, exchangeFrom};
+use bench_clock::Clock;
+use bytes_lent::is_same;
+use bytes_numbers::number_at;
+use bytes_numbers::put_record;
+use exchange_steps::Cause;
+use exchange_steps::Exchange;
+use exchange_steps::State;
+use exchange_steps::Stepped;
+use mbus_rules::Request;
 
 // The bytes of an exchange's record.
 pub const SIZE: usize = 24;
@@ -61,7 +61,7 @@ fn cause_in(state: State) -> u8
 
 // The part of the record before the times.
 fn head_bytes(request: Request, state: State, sends: u8) -> [u8; 8]
-    ensures { λ r. ⌜ r ≡ headBytes request state sends ⌝ }
+    ensures { λ r. ⌜ r ≡ exchangeHead request state sends ⌝ }
 {
     let asked = request_bytes(request);
     let number = state_number(state);
@@ -76,12 +76,9 @@ pub fn exchange_bytes(x: Exchange) -> [u8; 24]
     let request = x.request;
     let state = x.state;
     let head = head_bytes(request, state, x.sends);
-    let began = bytes_of_eight(x.began.0);
-    let last = bytes_of_eight(x.last.0);
+    let times = [x.began.0, x.last.0];
     let mut bytes = [0u8; 24];
-    lay(&mut bytes, 0, &head);
-    lay(&mut bytes, 8, &began);
-    lay(&mut bytes, 16, &last);
+    put_record(&mut bytes, &head, &times, b"");
     bytes
 }
 
@@ -100,7 +97,7 @@ fn request_of(kind: u8, address: u8, method: u8) -> Request
 }
 
 fn cause_of(n: u8) -> Cause
-    ensures { λ r. ⌜ r ≡ causeOf n ⌝ }
+    ensures { λ r. ⌜ r ≡ causeOfNumber n ⌝ }
 {
     let silent = n == 1;
     if silent {
@@ -140,8 +137,8 @@ fn exchange_in(b: &[u8]) -> Exchange
     let request = request_of(b[0], b[1], b[2]);
     let state = state_of(b[3], b[4]);
     let sends = b[5];
-    let began = eight(&b[8..16]);
-    let last = eight(&b[16..24]);
+    let began = number_at(b, 8, 8);
+    let last = number_at(b, 16, 8);
     Exchange {
         request,
         state,

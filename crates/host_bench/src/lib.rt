@@ -1,22 +1,21 @@
 // What a bench does around a line, for C: the wake-up, the gap after it, the error of indication. include/skarrowith.h says how.
 ghost use mathlib.Core.Path.{_≡_};
 ghost use mathlib.Core.List.{[], _∷_};
-ghost use lib.ListN.{replicate};
-ghost use Rattle.clock.specs.Gaps.{gapOf};
-ghost use Rattle.clock.specs.Wakes.{wakeOf, wakeCharacter};
-ghost use Rattle.lent.specs.Lent.{told, done, Leaves};
+ghost use Rattle.bench_clock.specs.Gaps.{gapOf};
+ghost use Rattle.bench_clock.specs.Wakes.{wakeOf, wakeLine};
+ghost use Rattle.bytes_lent.specs.Lent.{told, done, Leaves};
 ghost use Rattle.host_bench.specs.Calls.{errorFor};
-use clock::Clock;
-use clock::Gap;
-use clock::Wake;
-use clock::write_wake;
-use indication::Indication;
-use indication::error_of;
+use bench_clock::Clock;
+use bench_clock::Gap;
+use bench_clock::Wake;
+use bench_clock::write_wake;
+use bench_indication::Indication;
+use bench_indication::error_of;
 
 // Writes a wake-up of so many characters.
 #[no_mangle]
 pub extern "C" fn skarrowith_write_wake(count: usize, out: &mut [u16]) -> u32
-    ensures { λ r. ⌜ Leaves done (λ n. replicate n wakeCharacter) (wakeOf count (now (out .entry))) (now (out .entry)) (now (out .exit)) r ⌝ }
+    ensures { λ r. ⌜ Leaves done wakeLine (wakeOf count (now (out .entry))) (now (out .entry)) (now (out .exit)) r ⌝ }
 {
     let wake = write_wake(count, out);
     match wake {

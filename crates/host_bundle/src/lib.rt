@@ -1,20 +1,20 @@
 // The run bundle for the bench host, a C program: include/skarrowith.h says how its functions are called.
-ghost use Rattle.bundle.specs.Bundles.{checkOf};
-ghost use Rattle.adding.specs.Adding.{recorded};
+ghost use Rattle.bundle_check.specs.Bundles.{checkOf};
+ghost use Rattle.bundle_adding.specs.Adding.{newRecord};
 ghost use Rattle.host_bundle.specs.Lent.{Gives};
 ghost use Rattle.host_bundle.specs.Rows.{rowInto, GivesRow};
 ghost use Rattle.host_bundle.specs.Bundled.{AddsIn, ListsIn};
 use crate::record::ROW_BYTES;
 use crate::record::record_of;
-use adding::Added;
-use adding::add;
-use bundle::Checked;
-use bundle::checking::check;
-use lent::store;
-use listing::Listed;
-use listing::list;
-use rows::RowFound;
-use rows::row;
+use bundle_adding::Added;
+use bundle_adding::add;
+use bundle_check::Checked;
+use bundle_check::check;
+use bundle_check::rows::RowFound;
+use bundle_check::rows::row;
+use bytes_lent::store;
+use listing_text::Listed;
+use listing_text::list;
 
 mod record;
 
@@ -61,7 +61,8 @@ pub extern "C" fn skarrowith_bundle_add(
     time: u32,
     body: &[u8],
 ) -> u32
-    ensures { λ r. ⌜ AddsIn (now (buffer .entry)) (now (filled .entry)) (recorded position direction time (now (body .entry))) r (now (buffer .exit)) (now (filled .exit)) ⌝ }
+    ensures { λ r. ⌜ AddsIn (now (buffer .entry)) (now (filled .entry)) (newRecord position direction time (now (body .entry))) r (now (buffer .exit))
+        (now (filled .exit)) ⌝ }
 {
     match add(buffer, *filled, position, direction, time, body) {
         Added::Filled(bytes) => {

@@ -1,9 +1,8 @@
 // A row as a record for C.
 ghost use mathlib.Core.Path.{_≡_};
 ghost use Rattle.host_bundle.specs.Rows.{rowRecord};
-use contents::Row;
-use low_first::bytes_of_four;
-use low_first::bytes_of_two;
+use bundle_rows::Row;
+use bytes_numbers::bytes_of;
 
 // The bytes of a row's record.
 pub(crate) const ROW_BYTES: usize = 12;
@@ -12,9 +11,9 @@ pub(crate) const ROW_BYTES: usize = 12;
 pub(crate) fn record_of(row: Row) -> [u8; ROW_BYTES]
     ensures { λ r. ⌜ r ≡ rowRecord row ⌝ }
 {
-    let time = bytes_of_four(row.time);
-    let offset = bytes_of_four(row.offset);
-    let length = bytes_of_two(row.length);
+    let time = bytes_of(row.time as u64);
+    let offset = bytes_of(row.offset as u64);
+    let length = bytes_of(row.length as u64);
     [
         time[0],
         time[1],

@@ -1,20 +1,22 @@
 // The exchange for C: include/skarrowith.h says how.
+ghost use mathlib.Core.Bool.{cond};
+ghost use mathlib.Core.Path.{_≡_};
 ghost use Prim.Native.Nat.{_≤_};
 ghost use lib.ListN.{length};
-ghost use Rattle.format.specs.Lines.{readLine};
-ghost use Rattle.format.specs.Telegrams.{shown};
-ghost use Rattle.format.specs.Views.{viewed};
-ghost use Rattle.exchange.specs.Steps.{heardIn};
-ghost use Rattle.host_exchange.specs.Calls.{Answers, Hears, answerOf, startFor, tickFor, sentFor, heardFor};
-use clock::Clock;
-use exchange::Exchange;
-use exchange::Stepped;
+ghost use Rattle.mbus_rules.specs.Lines.{readLine};
+ghost use Rattle.mbus_rules.specs.Telegrams.{shown};
+ghost use Rattle.mbus_rules.specs.Views.{viewed};
+ghost use Rattle.exchange_steps.specs.Steps.{shownStep, heardIn, sentIn, tickIn};
+ghost use Rattle.host_exchange.specs.Calls.{Answers, HearsReply, answerOf, startFor, stepFor, tickFor, sentFor, heardFor};
+use bench_clock::Clock;
+use bytes_lent::store;
 use exchange_record::exchange_bytes;
 use exchange_record::exchange_from;
-use kinds::kind_in;
-use lent::store;
-use reading::body::plain;
-use records::telegrams::telegram_bytes;
+use exchange_steps::Exchange;
+use exchange_steps::Stepped;
+use host_records::telegrams::telegram_bytes;
+use mbus_telegrams::kinds::kind_in;
+use mbus_telegrams::plain;
 
 // Keeps the exchange as it then stands in its record, and answers its state, the fourth byte, or 256 plus the number by which the
 // step was refused.
@@ -35,7 +37,8 @@ fn keep(stepped: Stepped, kept: &mut [u8]) -> u32
 // A line heard at t by the exchange as it stood: keeps it as it then stands, and the reply too where the line ended it well.
 fn hear(x: Exchange, line: &[u16], t: Clock, kept: &mut [u8], reply: &mut [u8]) -> u32
     requires { ⌜ (24 ≤ length (now kept)) × (136 ≤ length (now reply)) ⌝ }
-    ensures { λ r. ⌜ Hears (heardIn x (viewed (readLine (now (line .entry)))) t) (shown (readLine (now (line .entry))) .telegram) (now (kept .entry)) (now (kept .exit)) (now (reply .entry)) (now (reply .exit)) r ⌝ }
+    ensures { λ r. ⌜ HearsReply (heardIn x (viewed (readLine (now (line .entry)))) t) (shown (readLine (now (line .entry))) .telegram) (now (kept .entry))
+        (now (kept .exit)) (now (reply .entry)) (now (reply .exit)) r ⌝ }
 {
     let heard = x.heard(line, t);
     let stepped = heard.stepped;
@@ -71,20 +74,36 @@ pub extern "C" fn skarrowith_exchange_start(
     keep(started, kept)
 }
 
+// The exchange after a resend's end at t, or after no line has begun up to t.
+fn stepped_at(x: Exchange, t: Clock, sent: bool) -> Stepped
+    ensures { λ r. ⌜ r ≡ shownStep (cond sent (sentIn x t) (tickIn x t)) ⌝ }
+{
+    if sent {
+        return x.sent(t);
+    }
+    x.tick(t)
+}
+
+// Either step, by the record.
+fn step(kept: &mut [u8], t: u64, sent: bool) -> u32
+    ensures { λ r. ⌜ Answers (stepFor sent (now (kept .entry)) t) (now (kept .entry)) (now (kept .exit)) r ⌝ }
+{
+    let stood = exchange_from(kept);
+    match stood {
+        Stepped::Refused(n) => 256 + n as u32,
+        Stepped::To(x) => {
+            let stepped = stepped_at(x, Clock(t), sent);
+            keep(stepped, kept)
+        }
+    }
+}
+
 // No line has begun up to t.
 #[no_mangle]
 pub extern "C" fn skarrowith_exchange_tick(kept: &mut [u8], t: u64) -> u32
     ensures { λ r. ⌜ Answers (tickFor (now (kept .entry)) t) (now (kept .entry)) (now (kept .exit)) r ⌝ }
 {
-    let size = kept.len();
-    let stood = exchange_from(&kept[0..size]);
-    match stood {
-        Stepped::Refused(n) => 256 + n as u32,
-        Stepped::To(x) => {
-            let stepped = x.tick(Clock(t));
-            keep(stepped, kept)
-        }
-    }
+    step(kept, t, false)
 }
 
 // A resend of the request has ended at t.
@@ -92,15 +111,7 @@ pub extern "C" fn skarrowith_exchange_tick(kept: &mut [u8], t: u64) -> u32
 pub extern "C" fn skarrowith_exchange_sent(kept: &mut [u8], t: u64) -> u32
     ensures { λ r. ⌜ Answers (sentFor (now (kept .entry)) t) (now (kept .entry)) (now (kept .exit)) r ⌝ }
 {
-    let size = kept.len();
-    let stood = exchange_from(&kept[0..size]);
-    match stood {
-        Stepped::Refused(n) => 256 + n as u32,
-        Stepped::To(x) => {
-            let stepped = x.sent(Clock(t));
-            keep(stepped, kept)
-        }
-    }
+    step(kept, t, true)
 }
 
 // A line heard at t, the start of its first character. The telegram of a line that ends the exchange well is written to the reply.
@@ -111,10 +122,10 @@ pub extern "C" fn skarrowith_exchange_heard(
     t: u64,
     reply: &mut [u8],
 ) -> u32
-    ensures { λ r. ⌜ Hears (heardFor (now (kept .entry)) (now (line .entry)) t (now (reply .entry))) (shown (readLine (now (line .entry))) .telegram) (now (kept .entry)) (now (kept .exit)) (now (reply .entry)) (now (reply .exit)) r ⌝ }
+    ensures { λ r. ⌜ HearsReply (heardFor (now (kept .entry)) (now (line .entry)) t (now (reply .entry))) (shown (readLine (now (line .entry))) .telegram)
+        (now (kept .entry)) (now (kept .exit)) (now (reply .entry)) (now (reply .exit)) r ⌝ }
 {
-    let size = kept.len();
-    let stood = exchange_from(&kept[0..size]);
+    let stood = exchange_from(kept);
     match stood {
         Stepped::Refused(n) => 256 + n as u32,
         Stepped::To(x) => {

@@ -2,15 +2,15 @@
 use Prim.Native.Nat.{ℕ}
 use mathlib.Core.List.{List}
 use lib.ListN.{length}
-use Rattle.format.specs.declared.Telegram.{Telegram}
-use Rattle.format.specs.Answers.{Answer, follow}
-use Rattle.format.specs.Host.{kindNumber}
-use Rattle.format.specs.Lines.{readLine}
-use Rattle.format.specs.Telegrams.{bare}
-use Rattle.format.specs.Writing.{writeLine}
-use Rattle.lent.specs.Lent.{placed}
-use Rattle.kinds.specs.Kinds.{kindIn}
-use Rattle.records.specs.Telegrams.{telegramSize, telegramFrom}
+use Rattle.mbus_rules.specs.declared.Telegram.{Telegram}
+use Rattle.mbus_rules.specs.Answers.{Answer, follow}
+use Rattle.mbus_rules.specs.Host.{kindNumber}
+use Rattle.mbus_rules.specs.Lines.{readLine}
+use Rattle.mbus_rules.specs.Telegrams.{bare}
+use Rattle.mbus_rules.specs.Writing.{writeLine}
+use Rattle.bytes_lent.specs.Lent.{placed}
+use Rattle.mbus_telegrams.specs.Kinds.{kindIn}
+use Rattle.host_records.specs.Telegrams.{telegramSize, telegramFrom}
 
 -- ---- what each call answers
 

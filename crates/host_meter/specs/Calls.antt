@@ -2,15 +2,15 @@
 use Prim.Native.Nat.{ℕ}
 use mathlib.Core.List.{List, []}
 use mathlib.Core.Path.{_≡_}
-use Rattle.clock.specs.declared.Clock.{Clock}
-use Rattle.format.specs.Answers.{Answer, follow}
-use Rattle.format.specs.Host.{kindNumber}
-use Rattle.meter.specs.declared.Meter.{Meter}
-use Rattle.meter.specs.Meters.{Said, silence, says, Deed, setUp, heardAt, measuredAt}
-use Rattle.meter_record.specs.Keeping.{leaves}
+use Rattle.bench_clock.specs.declared.Clock.{Clock}
+use Rattle.mbus_rules.specs.Answers.{Answer, follow}
+use Rattle.mbus_rules.specs.Host.{kindNumber}
+use Rattle.meter_steps.specs.declared.Meter.{Meter}
+use Rattle.meter_steps.specs.Meters.{Said, silence, says, Deed, setUp, heardAt, measuredAt}
+use Rattle.meter_record.specs.Leaving.{leaves}
 use Rattle.meter_record.specs.MeterRecords.{meterSize, meterBytes, meterFrom}
-use Rattle.lent.specs.Lent.{stored, needs, done, Leaves}
-use Rattle.records.specs.Telegrams.{telegramSize, telegramBytes, telegramFrom}
+use Rattle.bytes_lent.specs.Lent.{stored, needs, done, Leaves}
+use Rattle.host_records.specs.Telegrams.{telegramSize, telegramBytes, telegramFrom}
 
 -- ---- what each call answers
 
@@ -19,8 +19,8 @@ abbrev pub setUpFor : List ℕ → ℕ → List ℕ → Answer Meter
 setUpFor out own template = follow (telegramFrom template) (λ t. needs meterSize out (setUp own t))
 
 -- A line heard: 101 for the meter's record, then 21 where the answer's record is too short, then 70.
-abbrev pub heardFor : List ℕ → List ℕ → Clock → List ℕ → Answer Deed
-heardFor b line t out = follow (meterFrom b) (λ m. needs telegramSize out (heardAt m line t))
+abbrev pub lineHeardFor : List ℕ → List ℕ → Clock → List ℕ → Answer Deed
+lineHeardFor b line t out = follow (meterFrom b) (λ m. needs telegramSize out (heardAt m line t))
 
 -- Measure: 101 for the meter's record, then 70 and 71.
 abbrev pub measureFor : List ℕ → ℕ → ℕ → Clock → Answer Deed
@@ -46,6 +46,6 @@ abbrev pub saidBytes : Said → List ℕ
 saidBytes silence = []
 saidBytes (says x) = telegramBytes x
 
-pub record Hears (a : Answer Deed) (t : Clock) (before after out then : List ℕ) (r : ℕ) : Type 0 where
+pub record HearsLine (a : Answer Deed) (t : Clock) (before after out then : List ℕ) (r : ℕ) : Type 0 where
   pub step : Steps a t before after r
   pub said : then ≡ stored (λ d. saidBytes (d .said)) out a

@@ -1,4 +1,3 @@
 -- The simulated meter for C: what each call answers and leaves.
 pub mod Calls
-pub mod CallLaws
-pub mod ReadBack
+pub mod Kept

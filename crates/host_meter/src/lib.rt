@@ -2,22 +2,22 @@
 ghost use mathlib.Core.Path.{_≡_};
 ghost use Prim.Native.Nat.{_≤_};
 ghost use lib.ListN.{length};
-ghost use Rattle.meter.specs.Meters.{heardAt};
-ghost use Rattle.host_meter.specs.Calls.{setUpFor, heardFor, measureFor, SetsUp, Steps, Hears};
-ghost use Rattle.host_meter.specs.CallLaws.{answerIn, numberBy, keptBy, saidBy, Kept};
-use clock::Clock;
-use format::Outcome;
-use format::Telegram;
-use kinds::kind_number;
-use lent::store;
-use meter::Meter;
-use meter::Reply;
-use meter::Setup;
-use meter::Step;
+ghost use Rattle.meter_steps.specs.Meters.{heardAt};
+ghost use Rattle.host_meter.specs.Calls.{setUpFor, lineHeardFor, measureFor, SetsUp, Steps, HearsLine};
+ghost use Rattle.host_meter.specs.Kept.{answerIn, numberBy, keptBy, saidBy, Kept};
+use bench_clock::Clock;
+use bytes_lent::store;
+use host_records::telegrams::telegram_bytes;
+use host_records::telegrams::telegram_from;
+use mbus_rules::Outcome;
+use mbus_rules::Telegram;
+use mbus_telegrams::kinds::kind_number;
 use meter_record::meter_bytes;
 use meter_record::meter_from;
-use records::telegrams::telegram_bytes;
-use records::telegrams::telegram_from;
+use meter_steps::Meter;
+use meter_steps::Reply;
+use meter_steps::Setup;
+use meter_steps::Step;
 
 // What a step answers: 0 silence, the number of a telegram's kind, or 256 plus a refusal's number.
 fn number_by(reply: Reply, telegram: Telegram) -> u32
@@ -69,7 +69,8 @@ fn keep_step(step: Step, kept: &mut [u8]) -> u32
 // A line heard at t by a meter, which is kept, and its answer written.
 fn hear(m: Meter, line: &[u16], t: u64, kept: &mut [u8], answer: &mut [u8]) -> u32
     requires { ⌜ (192 ≤ length (now kept)) × (136 ≤ length (now answer)) ⌝ }
-    ensures { λ r. ⌜ Hears (heardAt m (now (line .entry)) (record { 0 = t })) (record { 0 = t }) (now (kept .entry)) (now (kept .exit)) (now (answer .entry)) (now (answer .exit)) r ⌝ }
+    ensures { λ r. ⌜ HearsLine (heardAt m (now (line .entry)) (record { 0 = t })) (record { 0 = t }) (now (kept .entry)) (now (kept .exit))
+        (now (answer .entry)) (now (answer .exit)) r ⌝ }
 {
     let step = m.heard(line, Clock(t));
     let reply = step.reply;
@@ -117,10 +118,10 @@ pub extern "C" fn skarrowith_meter_heard(
     t: u64,
     answer: &mut [u8],
 ) -> u32
-    ensures { λ r. ⌜ Hears (heardFor (now (kept .entry)) (now (line .entry)) (record { 0 = t }) (now (answer .entry))) (record { 0 = t }) (now (kept .entry)) (now (kept .exit)) (now (answer .entry)) (now (answer .exit)) r ⌝ }
+    ensures { λ r. ⌜ HearsLine (lineHeardFor (now (kept .entry)) (now (line .entry)) (record { 0 = t }) (now (answer .entry))) (record { 0 = t })
+        (now (kept .entry)) (now (kept .exit)) (now (answer .entry)) (now (answer .exit)) r ⌝ }
 {
-    let size = kept.len();
-    let stood = meter_from(&kept[0..size]);
+    let stood = meter_from(kept);
     let outcome = stood.outcome;
     if let Outcome::Refused(n) = outcome {
         return 256 + n as u32;
@@ -137,8 +138,7 @@ pub extern "C" fn skarrowith_meter_heard(
 pub extern "C" fn skarrowith_meter_measure(kept: &mut [u8], volume: u64, energy: u64, t: u64) -> u32
     ensures { λ r. ⌜ Steps (measureFor (now (kept .entry)) volume energy (record { 0 = t })) (record { 0 = t }) (now (kept .entry)) (now (kept .exit)) r ⌝ }
 {
-    let size = kept.len();
-    let stood = meter_from(&kept[0..size]);
+    let stood = meter_from(kept);
     let outcome = stood.outcome;
     if let Outcome::Refused(n) = outcome {
         return 256 + n as u32;

@@ -1,9 +1,8 @@
 // The search of a capture for C: include/skarrowith.h says how.
 ghost use Rattle.host_search.specs.Finding.{Finds};
-use capture::Found;
-use capture::find_line;
-use lent::lay;
-use low_first::bytes_of_eight;
+use bytes_numbers::put_record;
+use mbus_search::Found;
+use mbus_search::find_line;
 
 // The lowest place of a capture at which an accepted line begins, with its length, both in characters.
 #[no_mangle]
@@ -18,10 +17,8 @@ pub extern "C" fn skarrowith_find_line(capture: &[u16], found: &mut [u8]) -> u32
             if short {
                 return 256 + 21;
             }
-            let first = bytes_of_eight(place as u64);
-            let second = bytes_of_eight(length as u64);
-            lay(found, 0, &first);
-            lay(found, 8, &second);
+            let words = [place as u64, length as u64];
+            put_record(found, b"", &words, b"");
             0
         }
     }

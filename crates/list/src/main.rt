@@ -1,7 +1,7 @@
 // Reads a run bundle from standard input and prints its listing (document 01, "The run bundle").
 use libc::STDIN_FILENO;
 use libc::STDOUT_FILENO;
-use listing::Listed;
+use listing_text::Listed;
 
 // Writes the first bytes of a text.
 fn print(text: &[u8], size: usize) {
@@ -15,7 +15,7 @@ fn main() {
     let mut input = [0u8; 65_537];
     let mut text = [0u8; 15_901];
     let n = io::read_full(STDIN_FILENO, &mut input);
-    match listing::list(&input[..n], &mut text) {
+    match listing_text::list(&input[..n], &mut text) {
         Listed::Written(size) => print(&text, size),
         Listed::Refused(_) => {},
     }

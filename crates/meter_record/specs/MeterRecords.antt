@@ -4,22 +4,23 @@ use mathlib.Core.Bool.{Bool, false, cond, not, _||_}
 use mathlib.Core.List.{List, [], _∷_, _++_}
 use lib.Dec.{ltb, eqb}
 use lib.ListN.{take, drop}
-use Rattle.clock.specs.Times.{due, earlier}
-use Rattle.format.specs.declared.Telegram.{Telegram}
-use Rattle.format.specs.Answers.{Answer, reads, refuse, follow}
-use Rattle.format.specs.Lines.{isMethod}
-use Rattle.format.specs.Lists.{at}
-use Rattle.low_first.specs.Numbers.{number, bytesOf}
-use Rattle.meter.specs.declared.Core.{Core}
-use Rattle.meter.specs.declared.Meter.{Meter}
-use Rattle.meter.specs.declared.Mode.{Mode}
-use Rattle.meter.specs.declared.Mode.the-variants.{Use, Verifying}
-use Rattle.meter.specs.Meters.{zeros}
-use Rattle.records.specs.Recorded.{noRecord}
-use Rattle.lent.specs.Same.{same}
-use Rattle.records.specs.Telegrams.{telegramBytes, telegramFrom}
-use Rattle.template.specs.declared.Pair.{Pair}
-use Rattle.template.specs.Templates.{unfit, pairIn, totalMost}
+use Rattle.bench_clock.specs.Times.{due, earlier}
+use Rattle.mbus_rules.specs.declared.Telegram.{Telegram}
+use Rattle.mbus_rules.specs.Answers.{Answer, reads, refuse, follow}
+use Rattle.mbus_rules.specs.Lines.{isMethod}
+use Rattle.mbus_rules.specs.Lists.{at}
+use Rattle.bytes_numbers.specs.Numbers.{number, bytesOf}
+use Rattle.bytes_numbers.specs.Records.{recordOf}
+use Rattle.meter_steps.specs.declared.Core.{Core}
+use Rattle.meter_steps.specs.declared.Meter.{Meter}
+use Rattle.meter_steps.specs.declared.Mode.{Mode}
+use Rattle.meter_steps.specs.declared.Mode.the-variants.{Use, Verifying}
+use Rattle.meter_steps.specs.Meters.{zeros}
+use Rattle.host_records.specs.Recorded.{noRecord}
+use Rattle.bytes_lent.specs.Same.{same}
+use Rattle.host_records.specs.Telegrams.{telegramBytes, telegramFrom}
+use Rattle.meter_template.specs.declared.Pair.{Pair}
+use Rattle.meter_template.specs.Templates.{unfitTemplate, pairIn, totalMost}
 
 abbrev pub meterSize : ℕ
 meterSize = 192
@@ -39,17 +40,16 @@ abbrev pub sinceOf : Mode → ℕ
 sinceOf Use = 0
 sinceOf (Verifying s since) = since .0
 
-abbrev pub stateBytes : ℕ → ℕ → Mode → List ℕ
-stateBytes last own mode =
-    bytesOf 8 last ++ ((own ∷ modeNumber mode ∷ methodOf mode ∷ 0 ∷ 0 ∷ 0 ∷ 0 ∷ 0 ∷ []) ++ bytesOf 8 (sinceOf mode))
+-- the time of the last step, the own address, mode and method, and five bytes of 0
+abbrev pub meterHead : ℕ → ℕ → Mode → List ℕ
+meterHead last own mode = bytesOf 8 last ++ (own ∷ modeNumber mode ∷ methodOf mode ∷ 0 ∷ 0 ∷ 0 ∷ 0 ∷ 0 ∷ [])
 
-abbrev pub pairBytes : Pair → List ℕ
-pairBytes p = bytesOf 8 (p .volume) ++ bytesOf 8 (p .energy)
+-- the time of the last instruction, and both pairs of totals
+abbrev pub coreWords : Core → List ℕ
+coreWords c = sinceOf (c .mode) ∷ c .used .volume ∷ c .used .energy ∷ c .verified .volume ∷ c .verified .energy ∷ []
 
 unfoldable pub meterBytes : Meter → List ℕ
-meterBytes m =
-    stateBytes (m .last .0) (m .core .address) (m .core .mode)
-    ++ (pairBytes (m .core .used) ++ (pairBytes (m .core .verified) ++ telegramBytes (m .core .template)))
+meterBytes m = recordOf (meterHead (m .last .0) (m .core .address) (m .core .mode)) (coreWords (m .core)) (telegramBytes (m .core .template))
 
 -- ---- read
 
@@ -90,7 +90,7 @@ wrongPair least p = wrongTotal (least .volume) (p .volume) || wrongTotal (least 
 -- a template that is refused by 72; or one of these
 abbrev pub unreached : Meter → Bool
 unreached m =
-    unfit (m .core .template) || wrongMode (m .last .0) (m .core .mode) || wrongPair (pairIn (m .core .template .entries)) (m .core .used)
+    unfitTemplate (m .core .template) || wrongMode (m .last .0) (m .core .mode) || wrongPair (pairIn (m .core .template .entries)) (m .core .used)
     || wrongPair zeros (m .core .verified)
 
 -- The meter whose record the bytes are, or 101: they are not the bytes written for any meter, or no history leads to it.

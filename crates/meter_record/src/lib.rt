@@ -1,30 +1,31 @@
 // The record of a simulated meter: bytes of a fixed size, numbers low byte first.
 ghost use mathlib.Core.Path.{_≡_};
-ghost use Prim.Native.Nat.{_≤_};
 ghost use lib.ListN.{length};
-ghost use Rattle.format.specs.Answers.{refusal};
-ghost use Rattle.format.specs.Lines.{isMethod};
-ghost use Rattle.meter.specs.Meters.{shownSetup};
-ghost use Rattle.records.specs.Recorded.{noRecord};
-ghost use Rattle.meter_record.specs.MeterRecords.{modeNumber, methodOf, sinceOf, stateBytes, pairBytes, meterBytes, wordAt, modeIn, meterIn, wrongMode, wrongPair, unreached, recalled, meterFrom};
-use clock::Clock;
-use format::Kind;
-use format::Outcome;
-use format::Telegram;
-use lent::is_same;
-use lent::lay;
-use low_first::bytes_of_eight;
-use low_first::eight;
-use meter::Core;
-use meter::Meter;
-use meter::Mode;
-use meter::Setup;
-use reading::body::plain;
-use records::telegrams::telegram_bytes;
-use records::telegrams::telegram_from;
-use template::Pair;
-use template::TOTAL_MOST;
-use template::is_unfit;
+ghost use Rattle.mbus_rules.specs.Answers.{refusal};
+ghost use Rattle.mbus_rules.specs.Lines.{isMethod};
+ghost use Rattle.meter_steps.specs.Meters.{shownSetup};
+ghost use Rattle.host_records.specs.Recorded.{noRecord};
+ghost use Rattle.meter_record.specs.MeterRecords.{modeNumber, methodOf, sinceOf, meterHead, meterBytes, modeIn, meterIn, wrongMode, wrongPair};
+ghost use Rattle.meter_record.specs.MeterRecords.{unreached, recalled, meterFrom};
+use bench_clock::Clock;
+use bytes_lent::is_same;
+use bytes_numbers::bytes_of;
+use bytes_numbers::number_at;
+use bytes_numbers::put_record;
+use host_records::telegrams::telegram_bytes;
+use host_records::telegrams::telegram_from;
+use mbus_rules::Kind;
+use mbus_rules::Outcome;
+use mbus_rules::Telegram;
+use mbus_telegrams::is_method;
+use mbus_telegrams::plain;
+use meter_steps::Core;
+use meter_steps::Meter;
+use meter_steps::Mode;
+use meter_steps::Setup;
+use meter_template::Pair;
+use meter_template::TOTAL_MOST;
+use meter_template::is_unfit;
 
 // The bytes of a meter's record.
 pub const SIZE: usize = 192;
@@ -56,31 +57,31 @@ fn since_of(mode: Mode) -> u64
     }
 }
 
-fn state_bytes(last: u64, own: u8, mode: Mode) -> [u8; 24]
-    ensures { λ r. ⌜ r ≡ stateBytes last own mode ⌝ }
+// The part of the record before the numbers.
+fn head_bytes(last: u64, own: u8, mode: Mode) -> [u8; 16]
+    ensures { λ r. ⌜ r ≡ meterHead last own mode ⌝ }
 {
     let number = mode_number(mode);
     let method = method_of(mode);
-    let since = since_of(mode);
-    let step = bytes_of_eight(last);
-    let modes = [own, number, method, 0, 0, 0, 0, 0];
-    let instruction = bytes_of_eight(since);
-    let mut bytes = [0u8; 24];
-    lay(&mut bytes, 0, &step);
-    lay(&mut bytes, 8, &modes);
-    lay(&mut bytes, 16, &instruction);
-    bytes
-}
-
-fn pair_bytes(p: Pair) -> [u8; 16]
-    ensures { λ r. ⌜ r ≡ pairBytes p ⌝ }
-{
-    let volume = bytes_of_eight(p.volume);
-    let energy = bytes_of_eight(p.energy);
-    let mut bytes = [0u8; 16];
-    lay(&mut bytes, 0, &volume);
-    lay(&mut bytes, 8, &energy);
-    bytes
+    let step = bytes_of(last);
+    [
+        step[0],
+        step[1],
+        step[2],
+        step[3],
+        step[4],
+        step[5],
+        step[6],
+        step[7],
+        own,
+        number,
+        method,
+        0,
+        0,
+        0,
+        0,
+        0,
+    ]
 }
 
 // The mode alone, so that the caller holds no second core.
@@ -95,24 +96,18 @@ pub fn meter_bytes(m: Meter) -> [u8; 192]
     ensures { λ r. ⌜ r ≡ meterBytes m ⌝ }
 {
     let mode = mode_of(m.core);
-    let state = state_bytes(m.last.0, m.core.address, mode);
-    let in_use = pair_bytes(m.core.used);
-    let in_verification = pair_bytes(m.core.verified);
+    let head = head_bytes(m.last.0, m.core.address, mode);
+    let words = [
+        since_of(mode),
+        m.core.used.volume,
+        m.core.used.energy,
+        m.core.verified.volume,
+        m.core.verified.energy,
+    ];
     let template = telegram_bytes(m.core.template);
     let mut bytes = [0u8; 192];
-    lay(&mut bytes, 0, &state);
-    lay(&mut bytes, 24, &in_use);
-    lay(&mut bytes, 40, &in_verification);
-    lay(&mut bytes, 56, &template);
+    put_record(&mut bytes, &head, &words, &template);
     bytes
-}
-
-// The number of the eight bytes at a place.
-fn word_at(b: &[u8], at: usize) -> u64
-    requires { ⌜ at ≤ length (now b) ⌝ }
-    ensures { λ r. ⌜ r ≡ wordAt (now (b .entry)) at ⌝ }
-{
-    eight(&b[at..])
 }
 
 fn mode_in(b: &[u8]) -> Mode
@@ -121,7 +116,7 @@ fn mode_in(b: &[u8]) -> Mode
 {
     let verifies = b[9] == 1;
     if verifies {
-        let since = word_at(b, 16);
+        let since = number_at(b, 16, 8);
         return Mode::Verifying(b[10], Clock(since));
     }
     Mode::Use
@@ -132,15 +127,15 @@ fn meter_in(b: &[u8], template: Telegram) -> Meter
     requires { ⌜ length (now b) ≡ 192 ⌝ }
     ensures { λ r. ⌜ r ≡ meterIn (now (b .entry)) template ⌝ }
 {
-    let last = word_at(b, 0);
+    let last = number_at(b, 0, 8);
     let mode = mode_in(b);
     let used = Pair {
-        volume: word_at(b, 24),
-        energy: word_at(b, 32),
+        volume: number_at(b, 24, 8),
+        energy: number_at(b, 32, 8),
     };
     let verified = Pair {
-        volume: word_at(b, 40),
-        energy: word_at(b, 48),
+        volume: number_at(b, 40, 8),
+        energy: number_at(b, 48, 8),
     };
     Meter {
         last: Clock(last),
@@ -152,12 +147,6 @@ fn meter_in(b: &[u8], template: Telegram) -> Meter
             template,
         },
     }
-}
-
-fn is_method(s: u8) -> bool
-    ensures { λ r. ⌜ r ≡ isMethod s ⌝ }
-{
-    (s == 0x90) | (s == 0x91) | (s == 0x92)
 }
 
 fn wrong_mode(last: Clock, mode: Mode) -> bool

@@ -2,8 +2,8 @@
 use borrow.Author.Needs.{needs}
 use denote.Ref.{now}
 use mathlib.Core.Path.{sym, ap}
-use Rattle.exchange.specs.Steps.{shownStep}
-use Rattle.exchange_record.specs.ExchangeLaws.{other-size, found, unreached, unlike}
+use Rattle.exchange_steps.specs.Steps.{shownStep}
+use Rattle.exchange_record.proofs.Laws.ExchangeLaws.{other-size, found, unreached, unlike}
 use Rattle.exchange_record.proofs.exchange_from.Statement.{statement}
 use Rattle.exchange_record.proofs.exchange_from.Tie as tie
 
@@ -26,13 +26,19 @@ is-reached-requires : tie.Need-is-reached-requires
 is-reached-requires c κs = search needs
 
 returns-2 : tie.Need-returns-2
-returns-2 c = sym (ap shownStep (found (now (c .before .before .before .before .before .before .before .before .before .args .b)) (c .before .before .before .before .before .before .exchange-in .ensures) (c .before .before .before .before .before .exchange-bytes .ensures) (c .before .before .before .is-same .ensures) (c .before .before .is-reached .ensures) (c .before .if2 .taken) (c .if3 .taken)))
+returns-2 c = sym (ap shownStep (found (now (c .before .before .before .before .before .before .before .before .before .args .b))
+    (c .before .before .before .before .before .before .exchange-in .ensures) (c .before .before .before .before .before .exchange-bytes .ensures)
+    (c .before .before .before .is-same .ensures) (c .before .before .is-reached .ensures) (c .before .if2 .taken) (c .if3 .taken)))
 
 returns-3 : tie.Need-returns-3
-returns-3 c = sym (ap shownStep (unreached (now (c .before .before .before .before .before .before .before .before .before .args .b)) (c .before .before .before .before .before .before .exchange-in .ensures) (c .before .before .before .before .before .exchange-bytes .ensures) (c .before .before .before .is-same .ensures) (c .before .before .is-reached .ensures) (c .before .if2 .taken) (c .if3 .left)))
+returns-3 c = sym (ap shownStep (unreached (now (c .before .before .before .before .before .before .before .before .before .args .b))
+    (c .before .before .before .before .before .before .exchange-in .ensures) (c .before .before .before .before .before .exchange-bytes .ensures)
+    (c .before .before .before .is-same .ensures) (c .before .before .is-reached .ensures) (c .before .if2 .taken) (c .if3 .left)))
 
 returns-4 : tie.Need-returns-4
-returns-4 c = sym (ap shownStep (unlike (now (c .before .before .before .before .before .before .before .before .args .b)) (c .before .before .before .before .before .exchange-in .ensures) (c .before .before .before .before .exchange-bytes .ensures) (c .before .before .is-same .ensures) (c .before .is-reached .ensures) (c .if2 .left)))
+returns-4 c = sym (ap shownStep (unlike (now (c .before .before .before .before .before .before .before .before .args .b))
+    (c .before .before .before .before .before .exchange-in .ensures) (c .before .before .before .before .exchange-bytes .ensures)
+    (c .before .before .is-same .ensures) (c .before .is-reached .ensures) (c .if2 .left)))
 
 pub exchange-from-spec : {M : Type 1} → statement M
 exchange-from-spec =

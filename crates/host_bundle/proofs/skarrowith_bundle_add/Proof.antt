@@ -1,6 +1,6 @@
 -- `host_bundle::skarrowith_bundle_add` meets its contract, by the two cases of adding. Assumes nothing.
 use borrow.Author.Needs.{needs}
-use Rattle.host_bundle.specs.Bundled.{adds-value, adds-number}
+use Rattle.host_bundle.proofs.Laws.Bundled.{adds-value, adds-number}
 use Rattle.host_bundle.proofs.skarrowith_bundle_add.Statement.{statement}
 use Rattle.host_bundle.proofs.skarrowith_bundle_add.Tie as tie
 

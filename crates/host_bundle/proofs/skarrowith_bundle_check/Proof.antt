@@ -2,10 +2,10 @@
 use borrow.Author.Needs.{needs}
 use mathlib.Core.Path.{sym, _∙_}
 use denote.Ref.{now}
-use Rattle.format.specs.Answers.{reads, refusal}
-use Rattle.bundle.specs.Bundles.{checkOf}
-use Rattle.bundle.specs.Shown.{shownChecked-same}
-use Rattle.host_bundle.specs.Lent.{gives-value, gives-number}
+use Rattle.mbus_rules.specs.Answers.{reads, refusal}
+use Rattle.bundle_check.specs.Bundles.{checkOf}
+use Rattle.bundle_check.proofs.Laws.Shown.{shownChecked-same}
+use Rattle.host_bundle.proofs.Laws.Lent.{gives-value, gives-number}
 use Rattle.host_bundle.proofs.skarrowith_bundle_check.Statement.{statement}
 use Rattle.host_bundle.proofs.skarrowith_bundle_check.Tie as tie
 
@@ -27,12 +27,14 @@ add-result c = search needs
 returns : tie.Need-returns
 returns c =
     let b = now (c .before .before .before .before .before .args .bundle) in
-    gives-value (shownChecked-same (checkOf b) (reads (c .before .count .given .0 .0)) (sym (c .before .before .before .check .ensures) ∙ c .before .count .given .1))
+    gives-value (shownChecked-same (checkOf b) (reads (c .before .count .given .0 .0)) (sym (c .before .before .before .check .ensures)
+    ∙ c .before .count .given .1))
 
 returns-2 : tie.Need-returns-2
 returns-2 c =
     let b = now (c .before .before .before .before .before .args .bundle) in
-    gives-number (shownChecked-same (checkOf b) (refusal (c .before .number .given .0 .0)) (sym (c .before .before .before .check .ensures) ∙ c .before .number .given .1))
+    gives-number (shownChecked-same (checkOf b) (refusal (c .before .number .given .0 .0)) (sym (c .before .before .before .check .ensures)
+    ∙ c .before .number .given .1))
 
 pub skarrowith-bundle-check-spec : {M : Type 1} → statement M
 skarrowith-bundle-check-spec =

@@ -1,6 +1,6 @@
 -- `host_bundle::skarrowith_bundle_list` meets its contract, by the two cases of the listing. Assumes nothing.
 use borrow.Author.Needs.{needs}
-use Rattle.host_bundle.specs.Bundled.{lists-value, lists-number}
+use Rattle.host_bundle.proofs.Laws.Bundled.{lists-value, lists-number}
 use Rattle.host_bundle.proofs.skarrowith_bundle_list.Statement.{statement}
 use Rattle.host_bundle.proofs.skarrowith_bundle_list.Tie as tie
 

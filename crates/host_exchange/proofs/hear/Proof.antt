@@ -1,7 +1,7 @@
 -- `host_exchange::hear` meets its contract: what the exchange answers, kept. Assumes nothing.
 use borrow.Author.Needs.{needs}
 use denote.Ref.{now}
-use Rattle.host_exchange.specs.Calls.{heard-well, heard-other, heard-line}
+use Rattle.host_exchange.proofs.Laws.CallLaws.{heard-well, heard-other, heard-line}
 use Rattle.host_exchange.proofs.hear.Statement.{statement}
 use Rattle.host_exchange.proofs.hear.Tie as tie
 
@@ -29,7 +29,11 @@ same-length-2 c = search needs
 returns : tie.Need-returns
 returns c =
     let a = c .before .before .before .before .before .before .before .before .before .before .before .before .before .before .before .args in
-    heard-line (a .x) (now (a .line)) (a .t) (c .before .before .before .before .before .before .before .before .before .before .before .heard .ensures) (heard-well (c .before .before .before .before .before .before .before .before .before .keep .ensures) (c .before .before .before .before .before .before .if1 .taken) (c .before .before .before .before .before .telegram-bytes .ensures) (search needs) (c .before .before .store .ensures .1))
+    heard-line (a .x) (now (a .line)) (a .t)
+    (c .before .before .before .before .before .before .before .before .before .before .before .heard .ensures)
+    (heard-well (c .before .before .before .before .before .before .before .before .before .keep .ensures)
+    (c .before .before .before .before .before .before .if1 .taken) (c .before .before .before .before .before .telegram-bytes .ensures) (search needs)
+    (c .before .before .store .ensures .1))
 
 same-length-3 : tie.Need-same-length-3
 same-length-3 c = search needs
@@ -37,7 +41,8 @@ same-length-3 c = search needs
 returns-2 : tie.Need-returns-2
 returns-2 c =
     let a = c .before .before .before .before .before .before .before .before .before .args in
-    heard-line (a .x) (now (a .line)) (a .t) (c .before .before .before .before .before .heard .ensures) (heard-other (c .before .before .before .keep .ensures) (c .if1 .left))
+    heard-line (a .x) (now (a .line)) (a .t) (c .before .before .before .before .before .heard .ensures)
+    (heard-other (c .before .before .before .keep .ensures) (c .if1 .left))
 
 pub hear-spec : {M : Type 1} → statement M
 hear-spec =

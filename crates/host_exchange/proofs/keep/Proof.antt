@@ -2,7 +2,7 @@
 use borrow.Author.Needs.{needs}
 use denote.Ref.{now}
 use mathlib.Core.Path.{refl}
-use Rattle.host_exchange.specs.Calls.{kept-refused, kept-to}
+use Rattle.host_exchange.proofs.Laws.CallLaws.{kept-refused, kept-to}
 use Rattle.host_exchange.proofs.keep.Statement.{statement}
 use Rattle.host_exchange.proofs.keep.Tie as tie
 
@@ -40,7 +40,11 @@ same-length : tie.Need-same-length
 same-length c = search needs
 
 returns-2 : tie.Need-returns-2
-returns-2 c = kept-to (now (c .before .before .before .before .before .before .before .before .before .before .args .kept)) (c .before .before .before .before .before .before .before .stepped2 .given .1) (c .before .before .before .before .before .exchange-bytes .ensures) (c .before .before .before .before .before .before .before .before .before .before .pre) (c .before .before .store .ensures .1) refl
+returns-2 c =
+    kept-to (now (c .before .before .before .before .before .before .before .before .before .before .args .kept))
+    (c .before .before .before .before .before .before .before .stepped2 .given .1)
+    (c .before .before .before .before .before .exchange-bytes .ensures)
+    (c .before .before .before .before .before .before .before .before .before .before .pre) (c .before .before .store .ensures .1) refl
 
 pub keep-spec : {M : Type 1} → statement M
 keep-spec =

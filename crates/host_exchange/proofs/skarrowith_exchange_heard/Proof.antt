@@ -1,20 +1,11 @@
 -- `host_exchange::skarrowith_exchange_heard` meets its contract. Assumes nothing.
-use borrow.Author.Needs.{needs}
 use denote.Ref.{now}
 use lib.ListN.{length}
 use borrow.Author.Tests.{ltb-false}
-use Rattle.host_exchange.specs.Calls.{room-read, lent-whole, hears-none, hears-short, hears-line}
+use Rattle.host_exchange.proofs.Laws.CallLaws.{room-read, hears-none, hears-short, hears-line}
+use borrow.Author.Needs.{needs}
 use Rattle.host_exchange.proofs.skarrowith_exchange_heard.Statement.{statement}
 use Rattle.host_exchange.proofs.skarrowith_exchange_heard.Tie as tie
-
-sub-exchange-from : tie.Need-sub-exchange-from
-sub-exchange-from c = search needs
-
-part-exchange-from-start : tie.Need-part-exchange-from-start
-part-exchange-from-start c = search needs
-
-part-exchange-from-end : tie.Need-part-exchange-from-end
-part-exchange-from-end c = search needs
 
 exchange-from-requires : tie.Need-exchange-from-requires
 exchange-from-requires c κs = search needs
@@ -38,16 +29,27 @@ same-length : tie.Need-same-length
 same-length c = search needs
 
 returns : tie.Need-returns
-returns c = let args = c .before .before .before .before .before .before .before .before .before .before .args in hears-short (now (args .kept)) (now (args .line)) (args .t) (now (args .reply)) (lent-whole (now (args .kept)) (c .before .before .before .before .exchange-from .ensures)) (c .before .before .stood2 .given .1) (c .if1 .taken)
+returns c =
+    let a = c .before .before .before .before .before .before .before .before .before .args in
+    hears-short (now (a .kept)) (now (a .line)) (a .t) (now (a .reply)) (c .before .before .before .before .exchange-from .ensures)
+    (c .before .before .stood2 .given .1) (c .if1 .taken)
 
 hear-requires : tie.Need-hear-requires
-hear-requires c κs = let args = c .before .before .before .before .before .before .before .before .before .before .before .before .args in (room-read (now (args .kept)) (lent-whole (now (args .kept)) (c .before .before .before .before .before .before .exchange-from .ensures)) (c .before .before .before .before .stood2 .given .1), ltb-false (length (now (args .reply))) 136 (c .before .before .if1 .left))
+hear-requires c κs =
+    let a = c .before .before .before .before .before .before .before .before .before .before .before .args in (
+      room-read (now (a .kept)) (c .before .before .before .before .before .before .exchange-from .ensures)
+          (c .before .before .before .before .stood2 .given .1),
+      ltb-false (length (now (a .reply))) 136 (c .before .before .if1 .left),
+    )
 
 same-length-2 : tie.Need-same-length-2
 same-length-2 c = search needs
 
 returns-2 : tie.Need-returns-2
-returns-2 c = let args = c .before .before .before .before .before .before .before .before .before .args in hears-none (now (args .kept)) (now (args .line)) (args .t) (now (args .reply)) (lent-whole (now (args .kept)) (c .before .before .before .exchange-from .ensures)) (c .before .stood .given .1)
+returns-2 c =
+    let a = c .before .before .before .before .before .before .before .before .args in
+    hears-none (now (a .kept)) (now (a .line)) (a .t) (now (a .reply)) (c .before .before .before .exchange-from .ensures)
+    (c .before .stood .given .1)
 
 same-length-3 : tie.Need-same-length-3
 same-length-3 c = search needs
@@ -56,15 +58,17 @@ same-length-4 : tie.Need-same-length-4
 same-length-4 c = search needs
 
 returns-3 : tie.Need-returns-3
-returns-3 c = let args = c .before .before .before .before .before .before .before .before .before .before .before .before .before .before .before .before .before .args in hears-line (now (args .kept)) (now (args .line)) (args .t) (now (args .reply)) (lent-whole (now (args .kept)) (c .before .before .before .before .before .before .before .before .before .before .before .exchange-from .ensures)) (c .before .before .before .before .before .before .before .before .before .stood2 .given .1) (c .before .before .before .before .before .before .before .if1 .left) (c .before .before .before .before .hear .ensures)
+returns-3 c =
+    let a = c .before .before .before .before .before .before .before .before .before .before .before .before .before .before .before .before .args in
+    hears-line (now (a .kept)) (now (a .line)) (a .t) (now (a .reply))
+    (c .before .before .before .before .before .before .before .before .before .before .before .exchange-from .ensures)
+    (c .before .before .before .before .before .before .before .before .before .stood2 .given .1)
+    (c .before .before .before .before .before .before .before .if1 .left) (c .before .before .before .before .hear .ensures)
 
 pub skarrowith-exchange-heard-spec : {M : Type 1} → statement M
 skarrowith-exchange-heard-spec =
     tie.close
     (tie.spec
-    sub-exchange-from
-    part-exchange-from-start
-    part-exchange-from-end
     exchange-from-requires
     enum-known-stood
     cast-result

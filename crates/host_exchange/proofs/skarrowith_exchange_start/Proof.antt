@@ -2,7 +2,7 @@
 use borrow.Author.Needs.{needs}
 use mathlib.Core.Path.{refl}
 use denote.Ref.{now}
-use Rattle.host_exchange.specs.Calls.{start-kept}
+use Rattle.host_exchange.proofs.Laws.CallLaws.{start-kept}
 use Rattle.host_exchange.proofs.skarrowith_exchange_start.Statement.{statement}
 use Rattle.host_exchange.proofs.skarrowith_exchange_start.Tie as tie
 
@@ -28,7 +28,12 @@ same-length : tie.Need-same-length
 same-length c = search needs
 
 returns-2 : tie.Need-returns-2
-returns-2 c = let args = c .before .before .before .before .before .before .before .before .before .before .args in start-kept (now (args .kept)) (args .kind) (args .address) (args .method) (args .t) (c .before .before .before .before .before .before .before .before .if1 .left) (c .before .before .before .before .before .before .before .kind-in .ensures) (c .before .before .before .before .before .before .plain .ensures) (c .before .before .before .before .start .ensures) (c .before .before .keep .ensures)
+returns-2 c =
+    let args = c .before .before .before .before .before .before .before .before .before .before .args in
+    start-kept (now (args .kept)) (args .kind) (args .address) (args .method) (args .t)
+    (c .before .before .before .before .before .before .before .before .if1 .left)
+    (c .before .before .before .before .before .before .before .kind-in .ensures) (c .before .before .before .before .before .before .plain .ensures)
+    (c .before .before .before .before .start .ensures) (c .before .before .keep .ensures)
 
 pub skarrowith-exchange-start-spec : {M : Type 1} → statement M
 skarrowith-exchange-start-spec =

@@ -1,9 +1,9 @@
 -- `host_lines::skarrowith_read_line` meets its contract. Assumes nothing.
 use borrow.Author.Needs.{needs}
 use denote.Ref.{now}
-use Rattle.records.specs.Telegrams.{telegramBytes}
+use Rattle.host_records.specs.Telegrams.{telegramBytes}
 use Rattle.host_lines.specs.Calls.{kindOf}
-use Rattle.host_lines.specs.CallLaws.{line-refused, line-read, placed-short, placed-whole}
+use Rattle.host_lines.proofs.Laws.CallLaws.{line-refused, line-read, placed-short, placed-whole}
 use Rattle.host_lines.proofs.skarrowith_read_line.Statement.{statement}
 use Rattle.host_lines.proofs.skarrowith_read_line.Tie as tie
 
@@ -38,7 +38,13 @@ same-length : tie.Need-same-length
 same-length c = search needs
 
 returns : tie.Need-returns
-returns c = let args = c .before .before .before .before .before .before .before .before .before .before .before .before .before .args in line-read (now (args .line)) (now (args .telegram)) (c .before .before .before .before .before .before .before .before .before .before .read-line .ensures) (c .before .before .before .before .before .before .before .enum-told .given .1) (placed-short kindOf telegramBytes 136 _ (now (args .telegram)) (c .before .before .before .before .before .before .telegram-bytes .ensures) (search needs) (c .before .before .before .store .ensures .0) (c .before .before .before .store .ensures .1) (c .if1 .taken))
+returns c =
+    let args = c .before .before .before .before .before .before .before .before .before .before .before .before .before .args in
+    line-read (now (args .line)) (now (args .telegram))
+    (c .before .before .before .before .before .before .before .before .before .before .read-line .ensures)
+    (c .before .before .before .before .before .before .before .enum-told .given .1)
+    (placed-short kindOf telegramBytes _ (now (args .telegram)) (c .before .before .before .before .before .before .telegram-bytes .ensures)
+    (c .before .before .before .store .ensures .0) (c .before .before .before .store .ensures .1) 136 (search needs) (c .if1 .taken))
 
 kind-number-requires : tie.Need-kind-number-requires
 kind-number-requires c κs = search needs
@@ -47,13 +53,22 @@ cast-result-2 : tie.Need-cast-result-2
 cast-result-2 c = search needs
 
 returns-2 : tie.Need-returns-2
-returns-2 c = let args = c .before .before .before .before .before .before .before .args in line-refused (now (args .line)) (now (args .telegram)) (c .before .before .before .before .read-line .ensures) (c .before .outcome .given .1)
+returns-2 c =
+    let args = c .before .before .before .before .before .before .before .args in
+    line-refused (now (args .line)) (now (args .telegram)) (c .before .before .before .before .read-line .ensures) (c .before .outcome .given .1)
 
 same-length-2 : tie.Need-same-length-2
 same-length-2 c = search needs
 
 returns-3 : tie.Need-returns-3
-returns-3 c = let args = c .before .before .before .before .before .before .before .before .before .before .before .before .before .before .args in line-read (now (args .line)) (now (args .telegram)) (c .before .before .before .before .before .before .before .before .before .before .before .read-line .ensures) (c .before .before .before .before .before .before .before .before .enum-told .given .1) (placed-whole kindOf telegramBytes 136 _ (now (args .telegram)) (c .before .before .before .before .before .before .before .telegram-bytes .ensures) (search needs) (c .before .before .before .before .store .ensures .0) (c .before .before .before .before .store .ensures .1) (c .before .if1 .left) (c .kind-number .ensures))
+returns-3 c =
+    let args = c .before .before .before .before .before .before .before .before .before .before .before .before .before .before .args in
+    line-read (now (args .line)) (now (args .telegram))
+    (c .before .before .before .before .before .before .before .before .before .before .before .read-line .ensures)
+    (c .before .before .before .before .before .before .before .before .enum-told .given .1)
+    (placed-whole kindOf telegramBytes _ (now (args .telegram)) (c .before .before .before .before .before .before .before .telegram-bytes .ensures)
+    (c .before .before .before .before .store .ensures .0) (c .before .before .before .before .store .ensures .1) 136 (search needs) (c .before .if1 .left)
+    (c .kind-number .ensures))
 
 pub skarrowith-read-line-spec : {M : Type 1} → statement M
 skarrowith-read-line-spec =

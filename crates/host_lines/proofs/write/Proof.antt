@@ -1,7 +1,7 @@
 -- `host_lines::write` meets its contract. Assumes nothing.
 use borrow.Author.Needs.{needs}
 use native.Mathlib.Omega.{arith}
-use Rattle.host_lines.specs.CallLaws.{not-written, line-written, written-few}
+use Rattle.host_lines.proofs.Laws.CallLaws.{not-written, line-written, written-few}
 use Rattle.host_lines.proofs.write.Statement.{statement}
 use Rattle.host_lines.proofs.write.Tie as tie
 
@@ -21,19 +21,25 @@ enum-known-written-2 : tie.Need-enum-known-written-2
 enum-known-written-2 c = search needs
 
 cast-result-2 : tie.Need-cast-result-2
-cast-result-2 c = omega (arith, written-few (c .before .before .before .before .before .before .before .before .args .telegram) (c .before .before .before .before .before .write-line .ensures) (c .before .written2 .given .1))
+cast-result-2 c = omega (
+  arith,
+  written-few (c .before .before .before .before .before .before .before .before .args .telegram)
+      (c .before .before .before .before .before .write-line .ensures) (c .before .written2 .given .1),
+)
 
 same-length : tie.Need-same-length
 same-length c = search needs
 
 returns : tie.Need-returns
-returns c = not-written (c .before .before .before .before .before .before .before .before .args .telegram) (c .before .before .before .before .before .write-line .ensures) (c .before .written .given .1)
+returns c = not-written (c .before .before .before .before .before .before .before .before .args .telegram)
+    (c .before .before .before .before .before .write-line .ensures) (c .before .written .given .1)
 
 same-length-2 : tie.Need-same-length-2
 same-length-2 c = search needs
 
 returns-2 : tie.Need-returns-2
-returns-2 c = line-written (c .before .before .before .before .before .before .before .before .args .telegram) (c .before .before .before .before .before .write-line .ensures) (c .before .written2 .given .1)
+returns-2 c = line-written (c .before .before .before .before .before .before .before .before .args .telegram)
+    (c .before .before .before .before .before .write-line .ensures) (c .before .written2 .given .1)
 
 pub write-spec : {M : Type 1} → statement M
 write-spec =

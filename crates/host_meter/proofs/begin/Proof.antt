@@ -1,6 +1,6 @@
 -- `host_meter::begin` meets its contract. Assumes nothing.
 use denote.Ref.{now}
-use Rattle.host_meter.specs.CallLaws.{begun-refused, begun-kept}
+use Rattle.host_meter.proofs.Laws.CallLaws.{begun-refused, begun-kept}
 use borrow.Author.Needs.{needs}
 use Rattle.host_meter.proofs.begin.Statement.{statement}
 use Rattle.host_meter.proofs.begin.Tie as tie
@@ -35,7 +35,8 @@ same-length c = search needs
 returns-2 : tie.Need-returns-2
 returns-2 c =
     let a = c .before .before .before .before .before .before .before .before .before .args in
-    begun-kept (now (a .kept)) (a .setup) (c .before .before .before .before .before .before .enum-told .given .1) (c .before .before .before .before .before .meter-bytes .ensures) (search needs) (c .before .before .store .ensures .1)
+    begun-kept (now (a .kept)) (a .setup) (c .before .before .before .before .before .before .enum-told .given .1)
+    (c .before .before .before .before .before .meter-bytes .ensures) (search needs) (c .before .before .store .ensures .1)
 
 pub begin-spec : {M : Type 1} → statement M
 begin-spec =

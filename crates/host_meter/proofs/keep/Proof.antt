@@ -6,23 +6,23 @@ use denote.Ref.{now}
 use denote.Enum.Declared.{tagOf}
 use types.Run.{OneOf, miss}
 use lib.ListN.{length}
-use Rattle.format.specs.Answers.{reads}
-use Rattle.lent.specs.Lent.{stored, needs as places, stored-whole}
-use Rattle.meter.proofs.Reply as told
-use Rattle.meter.specs.declared.Meter.{Meter}
-use Rattle.meter.specs.declared.Reply.{Reply}
-use Rattle.meter.specs.declared.Reply.the-variants.{Silence, Says, Refused}
+use Rattle.bytes_lent.specs.Copying.{copied}
+use Rattle.bytes_lent.proofs.Laws.LentLaws.{all-copied}
+use Rattle.meter_steps.proofs.Reply as told
+use Rattle.meter_steps.specs.declared.Meter.{Meter}
+use Rattle.meter_steps.specs.declared.Reply.{Reply}
+use Rattle.meter_steps.specs.declared.Reply.the-variants.{Silence, Says, Refused}
 use Rattle.meter_record.specs.MeterRecords.{meterBytes}
-use Rattle.host_meter.specs.CallLaws.{keptBy}
+use Rattle.host_meter.specs.Kept.{keptBy}
 use borrow.Author.Needs.{needs}
 use Rattle.host_meter.proofs.keep.Statement.{statement}
 use Rattle.host_meter.proofs.keep.Tie as tie
 
 -- the meter's record, in as many places as it needs: by a reply that is no refusal
 kept-whole : (b : List ℕ) (m : Meter) (reply : Reply) {w after : List ℕ} → OneOf (0 ∷ 1 ∷ []) (tagOf told.the-type reply) → w ≡ meterBytes m
-    → length w ≤ length b → after ≡ stored (λ c. c) b (places (length w) b (reads w)) → after ≡ keptBy reply m b
-kept-whole b m Silence one n h l = stored-whole meterBytes m b n (rw n at h) l
-kept-whole b m Says one n h l = stored-whole meterBytes m b n (rw n at h) l
+    → length w ≤ length b → after ≡ copied b 0 w → after ≡ keptBy reply m b
+kept-whole b m Silence one n h l = all-copied meterBytes b m n h l
+kept-whole b m Says one n h l = all-copied meterBytes b m n h l
 kept-whole b m (Refused k) one n h l = absurd (miss (0 ∷ 1 ∷ []) 2 tt one)
 
 enum-told : tie.Need-enum-told
@@ -46,7 +46,8 @@ same-length c = search needs
 returns-2 : tie.Need-returns-2
 returns-2 c =
     let a = c .before .before .before .before .before .before .before .before .args in
-    kept-whole (now (a .kept)) (a .m) (a .reply) (c .before .before .before .before .before .before .match .keys2) (c .before .before .before .before .before .meter-bytes .ensures) (search needs) (c .before .before .store .ensures .1)
+    kept-whole (now (a .kept)) (a .m) (a .reply) (c .before .before .before .before .before .before .match .keys2)
+    (c .before .before .before .before .before .meter-bytes .ensures) (search needs) (c .before .before .store .ensures .1)
 
 pub keep-spec : {M : Type 1} → statement M
 keep-spec =

@@ -5,11 +5,12 @@ use mathlib.Core.Path.{_≡_, refl}
 use denote.Ref.{now}
 use denote.Enum.Declared.{tagOf}
 use types.Run.{OneOf, miss}
-use Rattle.format.specs.declared.Telegram.{Telegram}
-use Rattle.meter.proofs.Reply as told
-use Rattle.meter.specs.declared.Reply.{Reply}
-use Rattle.meter.specs.declared.Reply.the-variants.{Silence, Says, Refused}
-use Rattle.host_meter.specs.CallLaws.{saidBy, said-says}
+use Rattle.mbus_rules.specs.declared.Telegram.{Telegram}
+use Rattle.meter_steps.proofs.Reply as told
+use Rattle.meter_steps.specs.declared.Reply.{Reply}
+use Rattle.meter_steps.specs.declared.Reply.the-variants.{Silence, Says, Refused}
+use Rattle.host_meter.specs.Kept.{saidBy}
+use Rattle.host_meter.proofs.Laws.CallLaws.{said-says}
 use borrow.Author.Needs.{needs}
 use Rattle.host_meter.proofs.say.Statement.{statement}
 use Rattle.host_meter.proofs.say.Tie as tie
@@ -38,7 +39,8 @@ same-length c = search needs
 returns : tie.Need-returns
 returns c =
     let a = c .before .before .before .before .before .before .before .before .before .args in
-    said-says (now (a .answer)) (a .telegram) (c .before .before .before .before .before .before .enum-told .given .1) (c .before .before .before .before .before .telegram-bytes .ensures) (search needs) (c .before .before .store .ensures .1)
+    said-says (now (a .answer)) (a .telegram) (c .before .before .before .before .before .before .enum-told .given .1)
+    (c .before .before .before .before .before .telegram-bytes .ensures) (search needs) (c .before .before .store .ensures .1)
 
 returns-2 : tie.Need-returns-2
 returns-2 c = let a = c .before .before .args in said-nothing (now (a .answer)) (a .telegram) (a .reply) (c .match .keys2)

@@ -1,18 +1,9 @@
 -- `host_meter::skarrowith_meter_measure` meets its contract. Assumes nothing.
 use denote.Ref.{now}
-use Rattle.host_meter.specs.CallLaws.{lent-whole, room, measures-none, measures}
+use Rattle.host_meter.proofs.Laws.CallLaws.{room, measures-none, measures}
 use borrow.Author.Needs.{needs}
 use Rattle.host_meter.proofs.skarrowith_meter_measure.Statement.{statement}
 use Rattle.host_meter.proofs.skarrowith_meter_measure.Tie as tie
-
-sub-meter-from : tie.Need-sub-meter-from
-sub-meter-from c = search needs
-
-part-meter-from-start : tie.Need-part-meter-from-start
-part-meter-from-start c = search needs
-
-part-meter-from-end : tie.Need-part-meter-from-end
-part-meter-from-end c = search needs
 
 meter-from-requires : tie.Need-meter-from-requires
 meter-from-requires c κs = search needs
@@ -31,8 +22,9 @@ same-length c = search needs
 
 returns : tie.Need-returns
 returns c =
-    let a = c .before .before .before .before .before .before .before .args in
-    measures-none (now (a .kept)) (lent-whole (now (a .kept)) (c .before .before .before .meter-from .ensures)) (a .volume) (a .energy) (record { 0 = a .t }) (c .before .outcome .given .1)
+    let a = c .before .before .before .before .before .before .args in
+    measures-none (now (a .kept)) (c .before .before .before .meter-from .ensures) (a .volume) (a .energy) (record { 0 = a .t })
+    (c .before .outcome .given .1)
 
 enum-told : tie.Need-enum-told
 enum-told c = search needs
@@ -42,24 +34,23 @@ measure-requires c κs = search needs
 
 keep-step-requires : tie.Need-keep-step-requires
 keep-step-requires c κs =
-    let kept = now (c .before .before .before .before .before .before .before .before .before .args .kept) in
-    room kept (lent-whole kept (c .before .before .before .before .before .meter-from .ensures)) (c .before .before .before .enum-told .given .1)
+    room (now (c .before .before .before .before .before .before .before .before .args .kept))
+    (c .before .before .before .before .before .meter-from .ensures) (c .before .before .before .enum-told .given .1)
 
 same-length-2 : tie.Need-same-length-2
 same-length-2 c = search needs
 
 returns-2 : tie.Need-returns-2
 returns-2 c =
-    let a = c .before .before .before .before .before .before .before .before .before .before .before .before .args in
-    measures (now (a .kept)) (lent-whole (now (a .kept)) (c .before .before .before .before .before .before .before .before .meter-from .ensures)) (a .volume) (a .energy) (record { 0 = a .t }) (c .before .before .before .before .before .before .enum-told .given .1) (c .before .before .before .before .measure .ensures) (c .before .before .keep-step .ensures)
+    let a = c .before .before .before .before .before .before .before .before .before .before .before .args in
+    measures (now (a .kept)) (c .before .before .before .before .before .before .before .before .meter-from .ensures) (a .volume) (a .energy)
+    (record { 0 = a .t }) (c .before .before .before .before .before .before .enum-told .given .1)
+    (c .before .before .before .before .measure .ensures) (c .before .before .keep-step .ensures)
 
 pub skarrowith-meter-measure-spec : {M : Type 1} → statement M
 skarrowith-meter-measure-spec =
     tie.close
     (tie.spec
-    sub-meter-from
-    part-meter-from-start
-    part-meter-from-end
     meter-from-requires
     enum-known-outcome
     cast-result

@@ -1,6 +1,6 @@
 -- `host_meter::skarrowith_meter_set_up` meets its contract. Assumes nothing.
 use denote.Ref.{now}
-use Rattle.host_meter.specs.CallLaws.{sets-none, sets-short, sets-up}
+use Rattle.host_meter.proofs.Laws.CallLaws.{sets-none, sets-short, sets-up}
 use borrow.Author.Needs.{needs}
 use Rattle.host_meter.proofs.skarrowith_meter_set_up.Statement.{statement}
 use Rattle.host_meter.proofs.skarrowith_meter_set_up.Tie as tie
@@ -31,7 +31,8 @@ add-result-2 c = search needs
 returns-2 : tie.Need-returns-2
 returns-2 c =
     let a = c .before .before .before .before .before .before .args in
-    sets-short (now (a .kept)) (a .address) (now (a .template)) (c .before .before .before .telegram-from .ensures) (c .before .enum-told .given .1) (c .if1 .taken)
+    sets-short (now (a .kept)) (a .address) (now (a .template)) (c .before .before .before .telegram-from .ensures) (c .before .enum-told .given .1)
+    (c .if1 .taken)
 
 set-up-requires : tie.Need-set-up-requires
 set-up-requires c κs = search needs
@@ -45,7 +46,9 @@ same-length c = search needs
 returns-3 : tie.Need-returns-3
 returns-3 c =
     let a = c .before .before .before .before .before .before .before .before .before .before .before .args in
-    sets-up (now (a .kept)) (a .address) (now (a .template)) (c .before .before .before .before .before .before .before .before .telegram-from .ensures) (c .before .before .before .before .before .before .enum-told .given .1) (c .before .before .before .before .before .if1 .left) (c .before .before .before .before .set-up .ensures) (c .before .before .begin .ensures)
+    sets-up (now (a .kept)) (a .address) (now (a .template)) (c .before .before .before .before .before .before .before .before .telegram-from .ensures)
+    (c .before .before .before .before .before .before .enum-told .given .1) (c .before .before .before .before .before .if1 .left)
+    (c .before .before .before .before .set-up .ensures) (c .before .before .begin .ensures)
 
 pub skarrowith-meter-set-up-spec : {M : Type 1} → statement M
 skarrowith-meter-set-up-spec =

@@ -22,7 +22,15 @@ wrong-pair-requires-2 : tie.Need-wrong-pair-requires-2
 wrong-pair-requires-2 c κs = search needs
 
 returns : tie.Need-returns
-returns c = rw (c .wrong-pair2 .ensures, c .before .wrong-pair .ensures, c .before .before .wrong-mode .ensures, c .before .before .before .is-unfit .ensures, c .before .before .before .before .of .ensures, c .before .before .before .before .before .before .mode-of .ensures)
+returns c = rw (
+  c .wrong-pair2 .ensures,
+  c .before .wrong-pair .ensures,
+  c .before .before .wrong-mode .ensures,
+  c .before .before .before .is-unfit
+      .ensures,
+  c .before .before .before .before .of .ensures,
+  c .before .before .before .before .before .before .mode-of .ensures,
+)
 
 pub is-unreached-spec : {M : Type 1} → statement M
 is-unreached-spec =

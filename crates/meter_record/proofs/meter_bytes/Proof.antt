@@ -1,11 +1,11 @@
--- `meter_record::meter_bytes` meets its contract. Assumes nothing.
+-- `meter_record::meter_bytes` meets its contract: one record of its parts. Assumes nothing.
 use Prim.Native.Nat.{ℕ}
-use mathlib.Core.List.{List}
-use mathlib.Core.Path.{refl, ap, _∙_}
+use mathlib.Core.Path.{ap, _∙_}
+use mathlib.Core.List.{[], _∷_}
 use lib.ListN.{replicate}
-use Rattle.lent.specs.Copying.{copied}
-use Rattle.meter_record.specs.Laying.{meter-laid}
-use Rattle.meter_record.specs.MeterRecords.{stateBytes}
+use Rattle.bytes_numbers.proofs.Laws.RecordLaws.{record-made}
+use Rattle.host_records.specs.Telegrams.{telegramBytes}
+use Rattle.meter_record.specs.MeterRecords.{sinceOf, meterHead, coreWords, meterBytes}
 use borrow.Author.Needs.{needs}
 use Rattle.meter_record.proofs.meter_bytes.Statement.{statement}
 use Rattle.meter_record.proofs.meter_bytes.Tie as tie
@@ -13,83 +13,53 @@ use Rattle.meter_record.proofs.meter_bytes.Tie as tie
 mode-of-requires : tie.Need-mode-of-requires
 mode-of-requires c κs = search needs
 
-state-bytes-requires : tie.Need-state-bytes-requires
-state-bytes-requires c κs = search needs
+head-bytes-requires : tie.Need-head-bytes-requires
+head-bytes-requires c κs = search needs
 
-pair-bytes-requires : tie.Need-pair-bytes-requires
-pair-bytes-requires c κs = search needs
-
-pair-bytes-requires-2 : tie.Need-pair-bytes-requires-2
-pair-bytes-requires-2 c κs = search needs
+since-of-requires : tie.Need-since-of-requires
+since-of-requires c κs = search needs
 
 telegram-bytes-requires : tie.Need-telegram-bytes-requires
 telegram-bytes-requires c κs = search needs
 
-slice-aggregate-lay : tie.Need-slice-aggregate-lay
-slice-aggregate-lay c = search needs
+slice-aggregate-put-record : tie.Need-slice-aggregate-put-record
+slice-aggregate-put-record c = search needs
 
-slice-aggregate-lay-2 : tie.Need-slice-aggregate-lay-2
-slice-aggregate-lay-2 c = search needs
+slice-aggregate-put-record-2 : tie.Need-slice-aggregate-put-record-2
+slice-aggregate-put-record-2 c = search needs
 
-lay-requires : tie.Need-lay-requires
-lay-requires c κs = search needs
+slice-aggregate-put-record-3 : tie.Need-slice-aggregate-put-record-3
+slice-aggregate-put-record-3 c = search needs
 
-slice-aggregate-lay-3 : tie.Need-slice-aggregate-lay-3
-slice-aggregate-lay-3 c = search needs
+slice-aggregate-put-record-4 : tie.Need-slice-aggregate-put-record-4
+slice-aggregate-put-record-4 c = search needs
 
-slice-aggregate-lay-4 : tie.Need-slice-aggregate-lay-4
-slice-aggregate-lay-4 c = search needs
-
-lay-requires-2 : tie.Need-lay-requires-2
-lay-requires-2 c κs = search needs
-
-slice-aggregate-lay-5 : tie.Need-slice-aggregate-lay-5
-slice-aggregate-lay-5 c = search needs
-
-slice-aggregate-lay-6 : tie.Need-slice-aggregate-lay-6
-slice-aggregate-lay-6 c = search needs
-
-lay-requires-3 : tie.Need-lay-requires-3
-lay-requires-3 c κs = search needs
-
-slice-aggregate-lay-7 : tie.Need-slice-aggregate-lay-7
-slice-aggregate-lay-7 c = search needs
-
-slice-aggregate-lay-8 : tie.Need-slice-aggregate-lay-8
-slice-aggregate-lay-8 c = search needs
-
-lay-requires-4 : tie.Need-lay-requires-4
-lay-requires-4 c κs = search needs
+put-record-requires : tie.Need-put-record-requires
+put-record-requires c κs = search needs
 
 returns : tie.Need-returns
+unfolding meterBytes
 returns c =
-    let m = c .before .before .before .before .before .before .before .before .before .before .before .before .before .before .before .before .before .before .before .before .before .args .m in
-    let s = c .before .before .before .before .before .before .before .before .before .before .before .before .before .before .before .before .before .before .before .state-bytes .ensures ∙ ap (stateBytes (m .last .0) (m .core .address)) (c .before .before .before .before .before .before .before .before .before .before .before .before .before .before .before .before .before .before .before .before .mode-of .ensures) in
-    let u = c .before .before .before .before .before .before .before .before .before .before .before .before .before .before .before .before .before .before .pair-bytes in
-    let v = c .before .before .before .before .before .before .before .before .before .before .before .before .before .before .before .before .before .pair-bytes2 in
-    let t = c .before .before .before .before .before .before .before .before .before .before .before .before .before .before .before .before .telegram-bytes in
-    meter-laid m (replicate 192 0) refl s (u .ensures) (v .ensures) (t .ensures) (search needs)
-    (c .before .lay4 .ensures ∙ ap (λ (d : List ℕ). copied d 56 (t .result)) (c .before .before .before .before .before .lay3 .ensures ∙ ap (λ (d : List ℕ). copied d 40 (v .result)) (c .before .before .before .before .before .before .before .before .before .lay2 .ensures ∙ ap (λ (d : List ℕ). copied d 24 (u .result)) (c .before .before .before .before .before .before .before .before .before .before .before .before .before .lay .ensures))))
+    let m = c .before .before .before .before .before .before .before .before .before .before .args .m in
+    let k = m .core in
+    let mode = c .before .before .before .before .before .before .before .before .before .mode-of .ensures in
+    record-made (replicate 192 0) (meterHead (m .last .0) (k .address) (k .mode)) (coreWords k) (telegramBytes (k .template)) (search needs)
+    (c .before .before .before .before .before .before .before .before .head-bytes .ensures ∙ ap (meterHead (m .last .0) (k .address)) mode)
+    (ap (λ (n : ℕ). n ∷ k .used .volume ∷ k .used .energy ∷ k .verified .volume ∷ k .verified .energy ∷ [])
+    (c .before .before .before .before .before .before .before .since-of .ensures ∙ ap sinceOf mode))
+    (c .before .before .before .before .before .before .telegram-bytes .ensures) (c .before .put-record .ensures)
 
 pub meter-bytes-spec : {M : Type 1} → statement M
 meter-bytes-spec =
     tie.close
     (tie.spec
     mode-of-requires
-    state-bytes-requires
-    pair-bytes-requires
-    pair-bytes-requires-2
+    head-bytes-requires
+    since-of-requires
     telegram-bytes-requires
-    slice-aggregate-lay
-    slice-aggregate-lay-2
-    lay-requires
-    slice-aggregate-lay-3
-    slice-aggregate-lay-4
-    lay-requires-2
-    slice-aggregate-lay-5
-    slice-aggregate-lay-6
-    lay-requires-3
-    slice-aggregate-lay-7
-    slice-aggregate-lay-8
-    lay-requires-4
+    slice-aggregate-put-record
+    slice-aggregate-put-record-2
+    slice-aggregate-put-record-3
+    slice-aggregate-put-record-4
+    put-record-requires
     returns)

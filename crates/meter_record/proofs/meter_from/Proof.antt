@@ -1,8 +1,8 @@
 -- `meter_record::meter_from` meets its contract. Assumes nothing.
 use denote.Ref.{now}
 use mathlib.Core.Path.{sym, ap, _∙_}
-use Rattle.meter.specs.Meters.{shownSetup}
-use Rattle.meter_record.specs.Recalling.{meter-size, from-refused, from-accepted}
+use Rattle.meter_steps.specs.Meters.{shownSetup}
+use Rattle.meter_record.proofs.Laws.Recalling.{meter-size, from-refused, from-accepted}
 use borrow.Author.Needs.{needs}
 use Rattle.meter_record.proofs.meter_from.Statement.{statement}
 use Rattle.meter_record.proofs.meter_from.Tie as tie
@@ -32,7 +32,8 @@ no-meter-requires-2 : tie.Need-no-meter-requires-2
 no-meter-requires-2 c κs = search needs
 
 returns-2 : tie.Need-returns-2
-returns-2 c = c .no-meter2 .ensures ∙ sym (ap shownSetup (from-refused (now (c .before .before .before .before .before .before .before .args .b)) (c .before .before .before .before .before .if1 .left) (c .before .before .before .telegram-from .ensures) _ (c .before .enum-told .given .1)))
+returns-2 c = c .no-meter2 .ensures ∙ sym (ap shownSetup (from-refused (now (c .before .before .before .before .before .before .before .args .b))
+    (c .before .before .before .before .before .if1 .left) (c .before .before .before .telegram-from .ensures) _ (c .before .enum-told .given .1)))
 
 enum-told-2 : tie.Need-enum-told-2
 enum-told-2 c = search needs
@@ -41,7 +42,8 @@ recalled-requires : tie.Need-recalled-requires
 recalled-requires c κs = search needs
 
 returns-3 : tie.Need-returns-3
-returns-3 c = c .recalled .ensures ∙ sym (ap shownSetup (from-accepted (now (c .before .before .before .before .before .before .before .args .b)) (c .before .before .before .before .before .if1 .left) (c .before .before .before .telegram-from .ensures) (c .before .enum-told2 .given .1)))
+returns-3 c = c .recalled .ensures ∙ sym (ap shownSetup (from-accepted (now (c .before .before .before .before .before .before .before .args .b))
+    (c .before .before .before .before .before .if1 .left) (c .before .before .before .telegram-from .ensures) (c .before .enum-told2 .given .1)))
 
 pub meter-from-spec : {M : Type 1} → statement M
 meter-from-spec =

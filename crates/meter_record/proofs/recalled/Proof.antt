@@ -1,10 +1,10 @@
 -- `meter_record::recalled` meets its contract. Assumes nothing.
 use denote.Ref.{now}
 use mathlib.Core.Path.{sym, ap, _∙_}
-use Rattle.meter.specs.declared.Meter.{Meter}
-use Rattle.meter.specs.Meters.{shownSetup}
+use Rattle.meter_steps.specs.declared.Meter.{Meter}
+use Rattle.meter_steps.specs.Meters.{shownSetup}
 use Rattle.meter_record.specs.MeterRecords.{recalled}
-use Rattle.meter_record.specs.Recalling.{recalled-other, recalled-unreached, recalled-same}
+use Rattle.meter_record.proofs.Laws.Recalling.{recalled-other, recalled-unreached, recalled-same}
 use borrow.Author.Needs.{needs}
 use Rattle.meter_record.proofs.recalled.Statement.{statement}
 use Rattle.meter_record.proofs.recalled.Tie as tie
@@ -27,7 +27,8 @@ no-meter-requires c κs = search needs
 returns : tie.Need-returns
 returns c =
     let b = now (c .before .before .before .before .before .before .before .args .b) in
-    c .no-meter .ensures ∙ sym (ap shownSetup (recalled-other b (c .before .before .before .before .before .meter-in .result) (c .before .before .before .before .meter-bytes .ensures) (c .before .before .is-same .ensures) (c .before .if1 .taken)))
+    c .no-meter .ensures ∙ sym (ap shownSetup (recalled-other b (c .before .before .before .before .before .meter-in .result)
+    (c .before .before .before .before .meter-bytes .ensures) (c .before .before .is-same .ensures) (c .before .if1 .taken)))
     ∙ ap (λ (m : Meter). shownSetup (recalled b m)) (c .before .before .before .before .before .meter-in .ensures)
 
 is-unreached-requires : tie.Need-is-unreached-requires
@@ -39,13 +40,17 @@ no-meter-requires-2 c κs = search needs
 returns-2 : tie.Need-returns-2
 returns-2 c =
     let b = now (c .before .before .before .before .before .before .before .before .before .args .b) in
-    c .no-meter2 .ensures ∙ sym (ap shownSetup (recalled-unreached b (c .before .before .before .before .before .before .before .meter-in .result) (c .before .before .before .before .before .before .meter-bytes .ensures) (c .before .before .before .before .is-same .ensures) (c .before .before .is-unreached .ensures) (c .before .before .before .if1 .left) (c .before .if2 .taken)))
+    c .no-meter2 .ensures ∙ sym (ap shownSetup (recalled-unreached b (c .before .before .before .before .before .before .before .meter-in .result)
+    (c .before .before .before .before .before .before .meter-bytes .ensures) (c .before .before .before .before .is-same .ensures)
+    (c .before .before .is-unreached .ensures) (c .before .before .before .if1 .left) (c .before .if2 .taken)))
     ∙ ap (λ (m : Meter). shownSetup (recalled b m)) (c .before .before .before .before .before .before .before .meter-in .ensures)
 
 returns-3 : tie.Need-returns-3
 returns-3 c =
     let b = now (c .before .before .before .before .before .before .before .before .args .b) in
-    sym (ap shownSetup (recalled-same b (c .before .before .before .before .before .before .meter-in .result) (c .before .before .before .before .before .meter-bytes .ensures) (c .before .before .before .is-same .ensures) (c .before .is-unreached .ensures) (c .before .before .if1 .left) (c .if2 .left)))
+    sym (ap shownSetup (recalled-same b (c .before .before .before .before .before .before .meter-in .result)
+    (c .before .before .before .before .before .meter-bytes .ensures) (c .before .before .before .is-same .ensures) (c .before .is-unreached .ensures)
+    (c .before .before .if1 .left) (c .if2 .left)))
     ∙ ap (λ (m : Meter). shownSetup (recalled b m)) (c .before .before .before .before .before .before .meter-in .ensures)
 
 pub recalled-spec : {M : Type 1} → statement M

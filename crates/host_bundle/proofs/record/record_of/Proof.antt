@@ -1,17 +1,26 @@
 -- `host_bundle::record::record_of` meets its contract, byte by byte. Assumes nothing.
+use Rattle.bytes_numbers.specs.Numbers.{bytesOf}
 use borrow.Author.Needs.{needs}
-use Rattle.low_first.specs.Numbers.{bytesOf}
 use Rattle.host_bundle.proofs.record.record_of.Statement.{statement}
 use Rattle.host_bundle.proofs.record.record_of.Tie as tie
 
-bytes-of-four-requires : tie.Need-bytes-of-four-requires
-bytes-of-four-requires c κs = search needs
+cast-bytes-of : tie.Need-cast-bytes-of
+cast-bytes-of c = search needs
 
-bytes-of-four-requires-2 : tie.Need-bytes-of-four-requires-2
-bytes-of-four-requires-2 c κs = search needs
+bytes-of-requires : tie.Need-bytes-of-requires
+bytes-of-requires c κs = search needs
 
-bytes-of-two-requires : tie.Need-bytes-of-two-requires
-bytes-of-two-requires c κs = search needs
+cast-bytes-of-2 : tie.Need-cast-bytes-of-2
+cast-bytes-of-2 c = search needs
+
+bytes-of-requires-2 : tie.Need-bytes-of-requires-2
+bytes-of-requires-2 c κs = search needs
+
+cast-bytes-of-3 : tie.Need-cast-bytes-of-3
+cast-bytes-of-3 c = search needs
+
+bytes-of-requires-3 : tie.Need-bytes-of-requires-3
+bytes-of-requires-3 c κs = search needs
 
 array-read-t9 : tie.Need-array-read-t9
 array-read-t9 c = search needs
@@ -45,15 +54,18 @@ array-read-t36 c = search needs
 
 returns : tie.Need-returns
 unfolding bytesOf
-returns c = rw (c .before .before .bytes-of-four .ensures, c .before .bytes-of-four2 .ensures, c .bytes-of-two .ensures)
+returns c = rw (c .before .before .before .before .bytes-of .ensures, c .before .before .bytes-of2 .ensures, c .bytes-of3 .ensures)
 
 pub record-of-spec : {M : Type 1} → statement M
 record-of-spec =
     tie.close
     (tie.spec
-    bytes-of-four-requires
-    bytes-of-four-requires-2
-    bytes-of-two-requires
+    cast-bytes-of
+    bytes-of-requires
+    cast-bytes-of-2
+    bytes-of-requires-2
+    cast-bytes-of-3
+    bytes-of-requires-3
     array-read-t9
     array-read-t12
     array-read-t15

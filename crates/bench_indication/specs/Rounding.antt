@@ -1,0 +1,13 @@
+-- 01, "Error of indication": rounded to nearest, halves away from zero.
+-- The core rounds naturals, halves up (02's 2026-13); the sign is put back afterwards (02's 2026-04 rounds the same way).
+use Prim.Native.Nat.{ℕ, suc, _+_, _*_, _/_}
+use lib.IntN.{ℤ, pos, negsuc, negℤ}
+
+-- the whole number nearest to a / d, halves up
+abbrev pub nearest : ℕ → ℕ → ℕ
+nearest a d = (2 * a + d) / (2 * d)
+
+-- the integer nearest to n / d, halves away from zero
+abbrev pub rounded : ℤ → ℕ → ℤ
+rounded (pos a) d = pos (nearest a d)
+rounded (negsuc a) d = negℤ (pos (nearest (suc a) d))

@@ -1,9 +1,0 @@
--- What document 01 says of the run bundle: one module for each thing, in 01's order, and the laws about each beside it.
-pub mod Walks
-pub mod Rows
-pub mod Walking
-pub mod Bundles
-pub mod Accepted
-pub mod Records
-pub mod Shown
-pub mod Example

@@ -1,0 +1,5 @@
+-- What follows from the definitions, invariants of loops among it.
+pub mod Copying
+pub mod LentLaws
+pub mod Same
+pub mod PieceLaws

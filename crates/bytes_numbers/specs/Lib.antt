@@ -1,0 +1,3 @@
+-- Numbers low byte first.
+pub mod Numbers
+pub mod Records

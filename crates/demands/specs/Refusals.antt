@@ -1,0 +1,454 @@
+-- Demand 1: any input gets a result. The definitions are total and every public function answers by one of them; here is, for each order of
+-- refusals, which numbers it can give. What a refusal leaves is in `Unchanged`.
+use Prim.Native.Nat.{ℕ, zero, suc, _+_, _-_, _%_}
+use mathlib.Core.Bool.{Bool, true, false, cond, not, _||_}
+use mathlib.Core.List.{List, [], _∷_, _++_, map}
+use mathlib.Core.Path.{_≡_, refl, sym, ap, subst, _∙_}
+use lib.Dec.{ltb, leb, eqb}
+use lib.IntN.{ℤ}
+use lib.ListN.{length, take, drop}
+use borrow.Author.Tests.{eqb-true}
+use Rattle.bytes_numbers.specs.Numbers.{number}
+use Rattle.bytes_lent.specs.Same.{same}
+use Rattle.bytes_lent.specs.Lent.{needs, placed}
+use Rattle.mbus_telegrams.specs.Kinds.{kindIn}
+use Rattle.bench_clock.specs.declared.Clock.{Clock}
+use Rattle.bench_clock.specs.Times.{earlier, gapLeast, gapMost}
+use Rattle.bench_clock.specs.Gaps.{gapOf}
+use Rattle.bench_clock.specs.Wakes.{outsideWake, wakeOf}
+use Rattle.mbus_rules.specs.declared.Entry.{Entry}
+use Rattle.mbus_rules.specs.declared.Telegram.{Telegram}
+use Rattle.mbus_rules.specs.declared.View.{View}
+use Rattle.mbus_rules.specs.declared.View.the-variants as views
+use Rattle.mbus_rules.specs.Lists.{at, any}
+use Rattle.mbus_rules.specs.Characters.{over, odd, byteOf}
+use Rattle.mbus_rules.specs.Answers.{Answer, reads, refusal, refuse, within, follow}
+use Rattle.mbus_rules.specs.Headers.{headerOf, wrongHeader}
+use Rattle.mbus_rules.specs.Host.{chars, lineNumber, hostNumber}
+use Rattle.mbus_rules.specs.Quantities.{quantityOf}
+use Rattle.mbus_rules.specs.Entries.{entryOf, entryWidth, unfit, wrongDigit, wrongTime, seen, missing, readEntries}
+use Rattle.mbus_rules.specs.Telegrams.{ack, readOf, dataOf, bare}
+use Rattle.mbus_rules.specs.Lines.{isAck, isShort, field, isCommand, isData, commandOf, readBody, readLine}
+use Rattle.mbus_rules.specs.Lines.{wrongStart, wrongCount, wrongLengths, wrongEnd, wrongSum}
+use Rattle.mbus_rules.specs.Views.{viewOf, viewed}
+use Rattle.mbus_rules.specs.Writing.{lineOf, unwritable, writeLine}
+use Rattle.mbus_rules.proofs.Laws.Seven.{never-15}
+use Rattle.bench_indication.specs.Errors.{indicationOf}
+use Rattle.bench_indication.specs.Errors as errors
+use Rattle.mbus_search.specs.Searching.{Spot, lengthHere, further, orElse, findIn}
+use Rattle.exchange_steps.specs.declared.Exchange.{Exchange}
+use Rattle.exchange_steps.specs.Steps.{afterLine, afterTick, waits, asksResend, sending, moved, past, step, startWith, startOf}
+use Rattle.exchange_steps.specs.Histories.{Step, heard, tick, sent, answer}
+use Rattle.meter_template.specs.Templates as templates
+use Rattle.meter_steps.specs.declared.Meter.{Meter}
+use Rattle.meter_steps.specs.declared.Core.{Core}
+use Rattle.meter_steps.specs.Meters.{setUp, inForce, measured, returned, heardAt, measuredAt}
+use Rattle.bundle_rows.specs.declared.Row.{Row}
+use Rattle.bundle_rows.specs.Rows.{firstOffset, mostRows, rowsOf}
+use Rattle.bundle_check.specs.RowRules.{wrongRow, wrongRows, wrongPlaces, bodiesEnd}
+use Rattle.bundle_check.specs.Bundles.{mostBytes, countOf, contentsOf, checkRows, checkOf}
+use Rattle.bundle_check.specs.Records.{Recorded, rowFor}
+use Rattle.bundle_check.specs.Handing.{placeOf, rowAt, bodyAt}
+use Rattle.bundle_adding.specs.Adding.{lastTime, grown, noRoom, addOf}
+use Rattle.listing_text.specs.Shown.{listedIn}
+use Rattle.host_words.specs.Refusals as words
+use Rattle.host_words.specs.Refusals.{wordsIn, textOf}
+use Rattle.host_words.specs.Words.{text}
+use Rattle.host_words.specs.Saying.{fitted}
+use Rattle.host_records.specs.Recorded.{noRecord, recorded}
+use Rattle.host_records.specs.Telegrams.{telegramSize, telegramBytes, telegramIn, telegramFrom}
+use Rattle.exchange_record.specs.Exchanges.{exchangeSize, exchangeBytes, exchangeIn, reached, exchangeFrom}
+use Rattle.meter_record.specs.MeterRecords.{meterSize, meterBytes, meterIn, unreached, meterFrom}
+use Rattle.host_lines.specs.Calls.{readFor, writeFor, requestFor}
+use Rattle.host_search.specs.Finding.{findFor}
+use Rattle.host_bench.specs.Calls.{errorFor}
+use Rattle.host_exchange.specs.Calls as exchanges
+use Rattle.host_exchange.specs.Calls.{startFor, tickFor, sentFor}
+use Rattle.host_meter.specs.Calls as meters
+use Rattle.host_meter.specs.Calls.{setUpFor, measureFor}
+use Rattle.host_bundle.specs.Rows.{rowInto}
+
+-- A refusal, if the answer is one, has one of these numbers.
+unfoldable pub By : {A : Type 0} → List ℕ → Answer A → Type 0
+By ns (refusal n) = any (eqb n) ns ≡ true
+By ns (reads a) = Unit {0}
+
+-- ---- by the forms of answers
+
+abbrev among : List ℕ → ℕ → Type 0
+among ns n = any (eqb n) ns ≡ true
+
+reads-by : {A : Type 0} (ns : List ℕ) (a : A) → By ns (reads a)
+unfolding By
+reads-by ns a = tt
+
+refusal-by : (A : Type 0) (ns : List ℕ) (n : ℕ) → among ns n → By {A = A} ns (refusal n)
+unfolding By
+refusal-by A ns n h = h
+
+refuse-by : {A : Type 0} (ns : List ℕ) (n : ℕ) (test : Bool) (next : Answer A) → among ns n → By ns next → By ns (refuse n test next)
+unfolding By
+refuse-by ns n true next h k = h
+refuse-by ns n false next h k = k
+
+cond-by : {A : Type 0} (ns : List ℕ) (test : Bool) (u v : Answer A) → By ns u → By ns v → By ns (cond test u v)
+cond-by ns true u v h k = h
+cond-by ns false u v h k = k
+
+within-by : {A B : Type 0} (ns : List ℕ) (f : A → B) (a : Answer A) → By ns a → By ns (within f a)
+unfolding By
+within-by ns f (refusal n) h = h
+within-by ns f (reads a) h = tt
+
+follow-by : {A B : Type 0} (ns : List ℕ) (a : Answer A) (next : A → Answer B) → By ns a → ((x : A) → By ns (next x)) → By ns (follow a next)
+unfolding By
+follow-by ns (refusal n) next h k = h
+follow-by ns (reads a) next h k = k a
+
+-- all numbers of one list stand in the other
+abbrev less : List ℕ → List ℕ → Bool
+less ns ms = not (any (λ n. not (any (eqb n) ms)) ns)
+
+among-more : (ns ms : List ℕ) (n : ℕ) → less ns ms ≡ true → among ns n → among ms n
+unfolding any
+among-more [] ms n l h = absurd (subst (λ (b : Bool). cond b Unit ⊥) (sym h) tt)
+among-more (k ∷ ns) ms n l h = go (eqb n k) (any (eqb k) ms) refl refl l h (λ x y. among-more ns ms n x y)
+  where
+    go : (same in-it : Bool) → eqb n k ≡ same → any (eqb k) ms ≡ in-it → not (not in-it || any (λ n. not (any (eqb n) ms)) ns) ≡ true
+        → same || any (eqb n) ns ≡ true → (less ns ms ≡ true → among ns n → among ms n) → among ms n
+    go true true e i l h rest = ap (λ (x : ℕ). any (eqb x) ms) (eqb-true n k e) ∙ i
+    go same false e i l h rest = absurd (subst (λ (b : Bool). cond b ⊥ Unit) l tt)
+    go false true e i l h rest = rest l h
+
+more : {A : Type 0} (ns ms : List ℕ) (a : Answer A) → less ns ms ≡ true → By ns a → By ms a
+unfolding By
+more ns ms (refusal n) l h = among-more ns ms n l h
+more ns ms (reads a) l h = tt
+
+-- ---- reading a line
+
+abbrev pub lineNumbers : List ℕ
+lineNumbers = 1 ∷ 2 ∷ 3 ∷ 4 ∷ 5 ∷ 6 ∷ 7 ∷ 8 ∷ 9 ∷ 10 ∷ 11 ∷ 12 ∷ 13 ∷ 14 ∷ 16 ∷ []
+
+abbrev with15 : List ℕ
+with15 = 15 ∷ lineNumbers
+
+entries-by : (left : ℕ) (s : List ℕ) (done : List Entry) → By with15 (readEntries left s done)
+unfolding By readEntries any
+entries-by zero s done = refl
+entries-by (suc left) [] done = refuse-by with15 16 (missing done) (reads done) refl tt
+entries-by (suc left) (b ∷ s) done =
+    chain (unfit (b ∷ s)) (wrongDigit (b ∷ s)) (wrongTime (b ∷ s)) (seen (quantityOf (at (b ∷ s) 1)) done) (eqb (length done) 7) _
+    (entries-by left (drop (entryWidth (b ∷ s)) (b ∷ s)) (done ++ (entryOf (b ∷ s) ∷ [])))
+  where
+    chain : (a b c d e : Bool) (next : Answer (List Entry)) → By with15 next
+        → By with15 (refuse 11 a (refuse 12 b (refuse 13 c (refuse 14 d (refuse 15 e next)))))
+    chain true b c d e next k = refl
+    chain false true c d e next k = refl
+    chain false false true d e next k = refl
+    chain false false false true e next k = refl
+    chain false false false false true next k = refl
+    chain false false false false false next k = k
+
+body-by : (b : List ℕ) → By with15 (readBody b)
+unfolding By readBody any
+body-by b =
+    let f = field b in
+    let d = drop 3 f in
+    forms (isAck b) (isShort b) (not (eqb (at f 0) 0x5B)) (isCommand f) (not (isData f)) (wrongHeader d) ack (readOf (at f 1)) (commandOf f)
+    (within (dataOf (at f 1) (headerOf d)) (readEntries 8 (drop 12 d) []))
+    (within-by with15 (dataOf (at f 1) (headerOf d)) (readEntries 8 (drop 12 d) []) (entries-by 8 (drop 12 d) []))
+  where
+    forms : (a b c d e f : Bool) (x y z : Telegram) (next : Answer Telegram) → By with15 next
+        → By with15 (cond a (reads x) (cond b (refuse 9 c (reads y)) (cond d (reads z) (refuse 9 e (refuse 10 f next)))))
+    forms true b c d e f x y z next k = tt
+    forms false true true d e f x y z next k = refl
+    forms false true false d e f x y z next k = tt
+    forms false false c true e f x y z next k = tt
+    forms false false c false true f x y z next k = refl
+    forms false false c false false true x y z next k = refl
+    forms false false c false false false x y z next k = k
+
+line-with-15 : (s : List ℕ) → By with15 (readLine s)
+unfolding By readLine any
+line-with-15 s =
+    let b = map byteOf s in
+    chain (eqb (length s) 0) (any over s) (any odd s) (wrongStart b) (wrongCount b) (wrongLengths b) (wrongEnd b) (wrongSum b) (readBody b) (body-by b)
+  where
+    chain : (a b c d e f g h : Bool) (next : Answer Telegram) → By with15 next
+        → By with15 (refuse 1 a (refuse 2 b (refuse 3 c (refuse 4 d (refuse 5 e (refuse 6 f (refuse 7 g (refuse 8 h next))))))))
+    chain true b c d e f g h next k = refl
+    chain false true c d e f g h next k = refl
+    chain false false true d e f g h next k = refl
+    chain false false false true e f g h next k = refl
+    chain false false false false true f g h next k = refl
+    chain false false false false false true g h next k = refl
+    chain false false false false false false true h next k = refl
+    chain false false false false false false false true next k = refl
+    chain false false false false false false false false next k = k
+
+-- Reading a line gives 1 to 14 or 16.
+pub reading-by : (s : List ℕ) → By lineNumbers (readLine s)
+unfolding By any
+reading-by s = go (readLine s) refl (line-with-15 s)
+  where
+    go : (a : Answer Telegram) → readLine s ≡ a → By with15 a → By lineNumbers a
+    go (reads t) e h = tt
+    go (refusal n) e h =
+        by-first (eqb n 15) (any (eqb n) lineNumbers) h (λ y. never-15 s (e ∙ ap refusal (eqb-true n 15 y)))
+      where
+        by-first : (a b : Bool) → a || b ≡ true → (a ≡ true → ⊥) → b ≡ true
+        by-first true b h k = absurd (k refl)
+        by-first false b h k = h
+
+-- For C: 17, before 1; the number is 256 plus it.
+abbrev hostAnswer : List ℕ → Answer Telegram
+hostAnswer b = refuse 17 (eqb (length b % 2) 1) (readLine (chars b))
+
+pub checking-by : (b : List ℕ) → (hostNumber b ≡ lineNumber (hostAnswer b)) × By (17 ∷ lineNumbers) (hostAnswer b)
+unfolding any
+checking-by b = (
+  go (eqb (length b % 2) 1) (readLine (chars b)),
+  refuse-by _ 17 (eqb (length b % 2) 1) _ refl (more lineNumbers _ _ refl (reading-by (chars b))),
+)
+  where
+    go : (test : Bool) (a : Answer Telegram) → cond test (256 + 17) (lineNumber a) ≡ lineNumber (refuse 17 test a)
+    go true a = refl
+    go false a = refl
+
+-- ---- search and writing
+
+pub searching-by : (s : List ℕ) → By (18 ∷ []) (findIn s)
+unfolding By findIn any
+searching-by [] = refl
+searching-by (c ∷ s) = go (lengthHere (c ∷ s)) (findIn s) (searching-by s)
+  where
+    go : (a : Answer ℕ) (b : Answer Spot) → By (18 ∷ []) b → By (18 ∷ []) (orElse a (further b))
+    go (reads n) b h = tt
+    go (refusal n) (refusal m) h = h
+    go (refusal n) (reads p) h = tt
+
+pub writing-by : (t : Telegram) (places : ℕ) → By (20 ∷ 21 ∷ []) (writeLine t places)
+unfolding any
+writing-by t places = refuse-by _ 20 (unwritable t) _ refl (refuse-by _ 21 (ltb places (length (lineOf t))) _ refl (reads-by _ _))
+
+-- ---- the bench: wake-up, gap, error
+
+pub wake-by : (count : ℕ) (out : List ℕ) → By (52 ∷ 21 ∷ []) (wakeOf count out)
+unfolding any
+wake-by count out = refuse-by _ 52 (outsideWake count) _ refl (refuse-by _ 21 (ltb (length out) count) _ refl (reads-by _ _))
+
+pub gap-by : (ended begins : ℕ) → By (50 ∷ 51 ∷ []) (gapOf ended begins)
+unfolding any
+gap-by ended begins =
+    refuse-by _ 50 (ltb begins ended || ltb (begins - ended) gapLeast) _ refl (refuse-by _ 51 (ltb gapMost (begins - ended)) _ refl (reads-by _ _))
+
+pub error-by : (m1 m2 s1 s2 : ℕ) → By (60 ∷ 61 ∷ 62 ∷ []) (indicationOf m1 m2 s1 s2)
+unfolding any
+error-by m1 m2 s1 s2 =
+    refuse-by _ 60 (errors.countOver m1 m2 s1 s2) _ refl (refuse-by _ 61 (ltb m2 m1) _ refl (refuse-by _ 62 (leb s2 s1) _ refl (reads-by _ _)))
+
+-- ---- the exchange: start, and each step
+
+pub start-by : (t : Telegram) (at : Clock) → By (42 ∷ []) (startOf t at)
+unfolding By any
+start-by t at = go (viewOf (t .kind) (t .address) (t .method))
+  where
+    go : (v : View) → By (42 ∷ []) (startWith v at)
+    go (views.Refused n) = refl
+    go views.Ack = refl
+    go (views.Asks q) = tt
+    go (views.Data a) = refl
+
+called-by : (x : Exchange) (t : Clock) (called : Bool) (y : Exchange) → By (40 ∷ 41 ∷ []) (step x t called y)
+unfolding any
+called-by x t called y = refuse-by _ 40 (earlier (x .last .0) (t .0)) _ refl (refuse-by _ 41 (not called) _ refl (reads-by _ y))
+
+pub exchange-by : (x : Exchange) (s : Step) → By (40 ∷ 41 ∷ []) (answer x s)
+exchange-by x (heard line t) = called-by x t (waits (x .state)) (moved x (afterLine (x .request) (x .sends) (past x t) (viewed (readLine line))) t)
+exchange-by x (tick t) = called-by x t (waits (x .state)) (moved x (afterTick (x .sends) (past x t)) t)
+exchange-by x (sent t) = called-by x t (asksResend (x .state) (x .sends)) (sending (x .request) (x .sends + 1) t)
+
+-- ---- the simulated meter: set-up, and each step
+
+pub set-up-by : (own : ℕ) (template : Telegram) → By (72 ∷ []) (setUp own template)
+unfolding any
+set-up-by own template = refuse-by _ 72 (templates.unfitTemplate template) _ refl (reads-by _ _)
+
+measured-by : (c : Core) (v e : ℕ) → By (70 ∷ 71 ∷ []) (measured c v e)
+unfolding any
+measured-by c v e = refuse-by _ 71 (templates.overflows (inForce c) v e) _ refl (reads-by _ _)
+
+pub heard-by : (m : Meter) (line : List ℕ) (t : Clock) → By (70 ∷ []) (heardAt m line t)
+unfolding any
+heard-by m line t = refuse-by _ 70 (earlier (m .last .0) (t .0)) _ refl (reads-by _ _)
+
+pub measure-by : (m : Meter) (v e : ℕ) (t : Clock) → By (70 ∷ 71 ∷ []) (measuredAt m v e t)
+unfolding any
+measure-by m v e t = refuse-by _ 70 (earlier (m .last .0) (t .0)) _ refl (measured-by (returned t (m .core)) v e)
+
+-- ---- the run bundle
+
+abbrev pub bundleNumbers : List ℕ
+bundleNumbers = 30 ∷ 31 ∷ 32 ∷ 33 ∷ 34 ∷ 35 ∷ 36 ∷ 37 ∷ []
+
+rows-by : (n : ℕ) (b : List ℕ) → By bundleNumbers (checkRows n b)
+unfolding any
+rows-by n b =
+    let rows = rowsOf n (drop 2 b) in
+    refuse-by bundleNumbers 34 (wrongRows 0 rows) _ refl
+    (refuse-by bundleNumbers 35 (wrongPlaces (length b) (firstOffset n) rows) _ refl
+    (refuse-by bundleNumbers 36 (ltb (bodiesEnd (firstOffset n) rows) (length b)) _ refl
+    (refuse-by bundleNumbers 37 (any over (chars (drop (firstOffset n) b))) _ refl
+    (reads-by bundleNumbers n))))
+
+pub bundle-by : (b : List ℕ) → By bundleNumbers (checkOf b)
+unfolding any checkOf
+bundle-by b =
+    refuse-by bundleNumbers 30 (ltb mostBytes (length b)) _ refl
+    (refuse-by bundleNumbers 31 (ltb (length b) 2) _ refl
+    (refuse-by bundleNumbers 32 (ltb mostRows (countOf b)) _ refl
+    (refuse-by bundleNumbers 33 (ltb (length b) (firstOffset (countOf b))) _ refl
+    (rows-by (countOf b) b))))
+
+-- 39: no such row
+pub row-by : (b : List ℕ) (i : ℕ) → By (39 ∷ bundleNumbers) (rowAt b i)
+unfolding any rowAt
+row-by b i =
+    follow-by _ (checkOf b) _ (more bundleNumbers _ _ refl (bundle-by b)) (λ n. refuse-by _ 39 (leb n i) _ refl (reads-by _ _))
+
+pub body-place-by : (b : List ℕ) (i : ℕ) → By (39 ∷ bundleNumbers) (bodyAt b i)
+body-place-by b i = within-by _ placeOf (rowAt b i) (row-by b i)
+
+-- 38: no room
+pub adding-by : (buffer : List ℕ) (filled : ℕ) (k : Recorded) → By (38 ∷ bundleNumbers) (addOf buffer filled k)
+unfolding any addOf
+adding-by buffer filled k =
+    let ns : List ℕ = 38 ∷ bundleNumbers in
+    refuse-by ns 30 (ltb (length buffer) filled) _ refl
+    (follow-by ns (checkOf (take filled buffer)) _ (more bundleNumbers ns _ refl (bundle-by (take filled buffer)))
+    (λ n. refuse-by ns 34 (wrongRow (lastTime (contentsOf (take filled buffer))) (rowFor (filled + 12) k)) _ refl
+    (refuse-by ns 37 (any over (chars (k .body))) _ refl
+    (refuse-by ns 38 (noRoom buffer n (grown filled k)) _ refl
+    (reads-by ns _)))))
+
+-- Listing answers for every bundle; a refused one has its number in the text.
+pub listing-by : (text out : List ℕ) → By (21 ∷ []) (listedIn text out)
+unfolding any
+listing-by text out = refuse-by _ 21 (ltb (length out) (length text)) _ refl (reads-by _ _)
+
+-- ---- the words for a number, and records
+
+table-by : (rows : List words.Row) (n : ℕ) → By (100 ∷ []) (wordsIn rows n)
+unfolding any wordsIn
+table-by [] n = refusal-by (List ℕ) _ 100 refl
+table-by (r ∷ rows) n = cond-by _ (eqb n (r .number)) _ _ (reads-by _ _) (table-by rows n)
+
+pub words-by : (n : ℕ) (out : List ℕ) → By (100 ∷ 21 ∷ []) (follow (textOf n) (fitted out))
+unfolding any textOf
+words-by n out =
+    follow-by _ (textOf n) (fitted out) (more (100 ∷ []) _ _ refl (table-by words.refusalTexts n))
+    (λ w. refuse-by _ 21 (ltb (length out) (length w)) _ refl (reads-by _ _))
+
+recorded-by : {A : Type 0} (written : A → List ℕ) (taken : List ℕ → A) (b : List ℕ) → By (noRecord ∷ []) (recorded written taken b)
+unfolding any
+recorded-by written taken b = refuse-by _ noRecord (not (same b (written (taken b)))) _ refl (reads-by _ _)
+
+pub telegram-record-by : (b : List ℕ) → By (101 ∷ []) (telegramFrom b)
+telegram-record-by b = recorded-by telegramBytes telegramIn b
+
+pub exchange-record-by : (b : List ℕ) → By (101 ∷ []) (exchangeFrom b)
+unfolding any
+exchange-record-by b =
+    follow-by _ (recorded exchangeBytes exchangeIn b) _ (recorded-by exchangeBytes exchangeIn b)
+    (λ x. refuse-by _ 101 (not (reached x)) _ refl (reads-by _ _))
+
+pub meter-record-by : (b : List ℕ) → By (101 ∷ []) (meterFrom b)
+unfolding any
+meter-record-by b =
+    follow-by _ (telegramFrom (drop 56 b)) _ (telegram-record-by (drop 56 b))
+    (λ t. let m = meterIn b t in
+    refuse-by _ 101 (not (same b (meterBytes m))) _ refl (refuse-by _ 101 (unreached m) _ refl (reads-by _ _)))
+
+-- ---- the functions for C, each in the order of its own record or places and of what it calls
+
+needs-by : {A B : Type 0} (ns : List ℕ) (n : ℕ) (out : List B) (next : Answer A) → among ns 21 → By ns next → By ns (needs n out next)
+needs-by ns n out next h k = refuse-by ns 21 (ltb (length out) n) next h k
+
+placed-by : {A B : Type 0} (ns : List ℕ) (n : ℕ) (out : List B) (a : Answer A) → among ns 21 → By ns a → By ns (placed n out a)
+placed-by ns n out a h k = follow-by ns a _ k (λ x. needs-by ns n out (reads x) h (reads-by ns x))
+
+module _ (b out : List ℕ) where
+  pub read-for-by : By (21 ∷ lineNumbers) (readFor b out)
+  unfolding any
+  read-for-by = placed-by _ telegramSize out (readLine b) refl (more lineNumbers _ _ refl (reading-by b))
+
+  pub write-for-by : By (101 ∷ 20 ∷ 21 ∷ []) (writeFor b out)
+  unfolding any
+  write-for-by =
+      follow-by _ (telegramFrom b) _ (more (101 ∷ []) _ _ refl (telegram-record-by b))
+      (λ t. more (20 ∷ 21 ∷ []) _ _ refl (writing-by t (length out)))
+
+  pub find-for-by : By (18 ∷ 21 ∷ []) (findFor b out)
+  unfolding any
+  find-for-by = placed-by _ 16 out (findIn b) refl (more (18 ∷ []) _ _ refl (searching-by b))
+
+  pub row-into-by : (i : ℕ) → By (21 ∷ 39 ∷ bundleNumbers) (rowInto b i out)
+  unfolding any
+  row-into-by i = needs-by _ 12 out (rowAt b i) refl (more (39 ∷ bundleNumbers) _ _ refl (row-by b i))
+
+pub request-for-by : (kind address method : ℕ) (out : List ℕ) → By (20 ∷ 21 ∷ []) (requestFor kind address method out)
+request-for-by kind address method out = writing-by (bare (kindIn kind) address method) (length out)
+
+pub error-for-by : (m1 m2 s1 s2 : ℕ) (out : List ℤ) → By (21 ∷ 60 ∷ 61 ∷ 62 ∷ []) (errorFor m1 m2 s1 s2 out)
+unfolding any
+error-for-by m1 m2 s1 s2 out = needs-by _ 1 out (indicationOf m1 m2 s1 s2) refl (more (60 ∷ 61 ∷ 62 ∷ []) _ _ refl (error-by m1 m2 s1 s2))
+
+pub start-for-by : (out : List ℕ) (kind address method t : ℕ) → By (21 ∷ 42 ∷ []) (startFor out kind address method t)
+unfolding any
+start-for-by out kind address method t =
+    let x = bare (kindIn kind) address method in
+    let at : Clock = record { 0 = t } in
+    needs-by _ exchangeSize out (startOf x at) refl (more (42 ∷ []) _ _ refl (start-by x at))
+
+-- the steps of an exchange that is kept in a record
+module _ (b : List ℕ) (t : ℕ) where
+  abbrev time : Clock
+  time = record { 0 = t }
+
+  pub tick-for-by : By (101 ∷ 40 ∷ 41 ∷ []) (tickFor b t)
+  unfolding any
+  tick-for-by =
+      follow-by _ (exchangeFrom b) _ (more (101 ∷ []) _ _ refl (exchange-record-by b))
+      (λ x. more (40 ∷ 41 ∷ []) _ _ refl (exchange-by x (tick time)))
+
+  pub sent-for-by : By (101 ∷ 40 ∷ 41 ∷ []) (sentFor b t)
+  unfolding any
+  sent-for-by =
+      follow-by _ (exchangeFrom b) _ (more (101 ∷ []) _ _ refl (exchange-record-by b))
+      (λ x. more (40 ∷ 41 ∷ []) _ _ refl (exchange-by x (sent time)))
+
+  pub heard-for-by : (line reply : List ℕ) → By (101 ∷ 21 ∷ 40 ∷ 41 ∷ []) (exchanges.heardFor b line t reply)
+  unfolding any
+  heard-for-by line reply =
+      follow-by _ (exchangeFrom b) _ (more (101 ∷ []) _ _ refl (exchange-record-by b))
+      (λ x. needs-by _ telegramSize reply _ refl (more (40 ∷ 41 ∷ []) _ _ refl (exchange-by x (heard line time))))
+
+-- and of a meter
+pub set-up-for-by : (out : List ℕ) (own : ℕ) (template : List ℕ) → By (101 ∷ 21 ∷ 72 ∷ []) (setUpFor out own template)
+unfolding any
+set-up-for-by out own template =
+    follow-by _ (telegramFrom template) _ (more (101 ∷ []) _ _ refl (telegram-record-by template))
+    (λ t. needs-by _ meterSize out (setUp own t) refl (more (72 ∷ []) _ _ refl (set-up-by own t)))
+
+pub meter-heard-for-by : (b line : List ℕ) (t : Clock) (out : List ℕ) → By (101 ∷ 21 ∷ 70 ∷ []) (meters.lineHeardFor b line t out)
+unfolding any
+meter-heard-for-by b line t out =
+    follow-by _ (meterFrom b) _ (more (101 ∷ []) _ _ refl (meter-record-by b))
+    (λ m. needs-by _ telegramSize out (heardAt m line t) refl (more (70 ∷ []) _ _ refl (heard-by m line t)))
+
+pub measure-for-by : (b : List ℕ) (v e : ℕ) (t : Clock) → By (101 ∷ 70 ∷ 71 ∷ []) (measureFor b v e t)
+unfolding any
+measure-for-by b v e t =
+    follow-by _ (meterFrom b) _ (more (101 ∷ []) _ _ refl (meter-record-by b))
+    (λ m. more (70 ∷ 71 ∷ []) _ _ refl (measure-by m v e t))

@@ -1,0 +1,89 @@
+-- 01, "How much each promise says": any two results that a promise allows are the same. One shape, and a law for each form that a promise of a
+-- public function has: an equation; a record of equations on the answer and on what is left in lent memory; a stretch handed out.
+use Prim.Native.Nat.{ℕ}
+use mathlib.Core.List.{List}
+use mathlib.Core.Path.{_≡_, sym, _∙_}
+use denote.Ref.{RefT, now, ptr}
+use Rattle.bench_clock.specs.declared.Clock.{Clock}
+use Rattle.mbus_rules.specs.declared.Telegram.{Telegram}
+use Rattle.mbus_rules.specs.Answers.{Answer}
+use Rattle.bytes_lent.specs.Lent.{Leaves}
+use Rattle.mbus_writing.specs.declared.Written.{Written}
+use Rattle.mbus_writing.specs.Answering.{WritesLine}
+use Rattle.bundle_check.specs.Records.{Recorded}
+use Rattle.bundle_check.specs.Handing.{BodyPlace}
+use Rattle.bundle_check.specs.Stretches.{Handed}
+use Rattle.bundle_adding.specs.declared.Added.{Added}
+use Rattle.bundle_adding.specs.Shown.{Adds}
+use Rattle.listing_text.specs.declared.Listed.{Listed}
+use Rattle.listing_text.specs.Shown.{Lists}
+use Rattle.host_words.specs.Saying.{Says}
+use Rattle.exchange_steps.specs.declared.Exchange.{Exchange}
+use Rattle.host_exchange.specs.Calls as exchanges
+use Rattle.meter_steps.specs.Meters.{Deed}
+use Rattle.host_meter.specs.Calls as meters
+use Rattle.host_bundle.specs.Lent.{Gives}
+use Rattle.host_bundle.specs.Bundled.{AddsIn, ListsIn}
+
+-- Any two results that the promise allows are the same. (A result is the answer, and beside it what is left in each thing lent.)
+abbrev pub Settled : {R : Type 0} → (R → Type 0) → Type 0
+Settled {R} promise = (x y : R) → promise x → promise y → x ≡ y
+
+-- ---- an equation: every promise `r ≡ ..`, and every `now (out .exit) ≡ ..`
+
+pub equation : {R : Type 0} (a : R) → Settled (λ r. r ≡ a)
+equation a x y p q = p ∙ sym q
+
+-- two of them: the answer, and what was lent (`clock::write_wake`, `bytes_lent::store`)
+pub two-equations : {R L : Type 0} (a : R) (b : L) → Settled (λ (x : R × L). (x .0 ≡ a) × (x .1 ≡ b))
+two-equations a b x y p q i = (equation a (x .0) (y .0) (p .0) (q .0) i, equation b (x .1) (y .1) (p .1) (q .1) i)
+
+-- ---- records of equations, in Rattle
+
+pub writing-settled : (t : Telegram) (before : List ℕ) → Settled (λ (x : Written × List ℕ). WritesLine t before (x .1) (x .0))
+writing-settled t before x y p q = two-equations _ _ x y (p .answer, p .places) (q .answer, q .places)
+
+pub adding-settled : (before : List ℕ) (filled : ℕ) (k : Recorded) → Settled (λ (x : Added × List ℕ). Adds before filled k (x .0) (x .1))
+adding-settled before filled k x y p q = two-equations _ _ x y (p .answers, p .leaves) (q .answers, q .leaves)
+
+pub listing-settled : (b before : List ℕ) → Settled (λ (x : Listed × List ℕ). Lists b before (x .0) (x .1))
+listing-settled b before x y p q = two-equations _ _ x y (p .answer, p .holds) (q .answer, q .holds)
+
+-- ---- and for C
+
+-- lines, search, wake-up, error, rows, and the record of an exchange or of a meter
+pub leaves-settled : {A B : Type 0} (tell : A → ℕ) (written : A → List B) (a : Answer A) (before : List B)
+    → Settled (λ (x : ℕ × List B). Leaves tell written a before (x .1) (x .0))
+leaves-settled tell written a before x y p q = two-equations _ _ x y (p .answer, p .left) (q .answer, q .left)
+
+-- the same with the reply, or the meter's answer, beside it
+pub exchange-heard-settled : (a : Answer Exchange) (telegram : Telegram) (before out : List ℕ)
+    → Settled (λ (x : (ℕ × List ℕ) × List ℕ). exchanges.HearsReply a telegram before (x .0 .1) out (x .1) (x .0 .0))
+exchange-heard-settled a telegram before out x y p q i =
+    (leaves-settled _ _ a before (x .0) (y .0) (p .step) (q .step) i, equation _ (x .1) (y .1) (p .reply) (q .reply) i)
+
+pub meter-heard-settled : (a : Answer Deed) (t : Clock) (before out : List ℕ)
+    → Settled (λ (x : (ℕ × List ℕ) × List ℕ). meters.HearsLine a t before (x .0 .1) out (x .1) (x .0 .0))
+meter-heard-settled a t before out x y p q i =
+    (leaves-settled _ _ a before (x .0) (y .0) (p .step) (q .step) i, equation _ (x .1) (y .1) (p .said) (q .said) i)
+
+-- a number in its place, and the buffer or the places beside it
+pub gives-settled : (a : Answer ℕ) (before : ℕ) → Settled (λ (x : ℕ × ℕ). Gives a before (x .0) (x .1))
+gives-settled a before x y p q = two-equations _ _ x y (p .number, p .place) (q .number, q .place)
+
+pub add-settled : (buffer : List ℕ) (filled : ℕ) (k : Recorded)
+    → Settled (λ (x : (ℕ × ℕ) × List ℕ). AddsIn buffer filled k (x .0 .0) (x .1) (x .0 .1))
+add-settled buffer filled k x y p q i =
+    (gives-settled _ filled (x .0) (y .0) (p .gives) (q .gives) i, equation _ (x .1) (y .1) (p .holds) (q .holds) i)
+
+pub list-settled : (b out : List ℕ) (written : ℕ) → Settled (λ (x : (ℕ × ℕ) × List ℕ). ListsIn b out written (x .0 .0) (x .1) (x .0 .1))
+list-settled b out written x y p q i =
+    (gives-settled _ written (x .0) (y .0) (p .gives) (q .gives) i, equation _ (x .1) (y .1) (p .holds) (q .holds) i)
+
+pub words-settled : (said : Answer (List ℕ)) (out : List ℕ) → Settled (λ (x : ℕ × List ℕ). Says said out (x .0) (x .1))
+words-settled said out x y p q = two-equations _ _ x y (p .answer, p .holds) (q .answer, q .holds)
+
+-- ---- a stretch handed out: its bytes, and where it lies. (docs/PROMISES.md says what is left open, and why.)
+
+pub stretch-settled : (a : Answer BodyPlace) (whole x y : RefT (List ℕ)) → Handed a whole x → Handed a whole y → (now x ≡ now y) × (ptr x ≡ ptr y)
+stretch-settled a whole x y p q = (p .bytes ∙ sym (q .bytes), two-equations _ _ (ptr x) (ptr y) (p .block, p .place) (q .block, q .place))

@@ -1,2 +1,0 @@
--- What reading entries holds on to.
-pub mod Walking

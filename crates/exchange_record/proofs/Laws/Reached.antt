@@ -1,0 +1,145 @@
+-- Start and every step give an exchange that is reached, so what a step writes is read back as the same exchange.
+use Prim.Native.Nat.{ℕ, _+_, _^_, _≤_, _<_}
+use mathlib.Core.Bool.{Bool, true, false, not, cond, and-eq-true-iff}
+use mathlib.Core.Path.{_≡_, refl, ap, subst}
+use native.Mathlib.Nat.{le-refl, le-trans}
+use native.Mathlib.Omega.{arith}
+use borrow.Author.Tests.{ltb-true, ltb-false, leb-true, lt-ltb, le-leb, eq-eqb}
+use lib.Dec.{ltb, leb}
+use Rattle.bench_clock.specs.declared.Clock.{Clock}
+use Rattle.bench_clock.proofs.Laws.Times.{le-late}
+use Rattle.mbus_rules.specs.declared.Request.{Request}
+use Rattle.mbus_rules.specs.declared.Telegram.{Telegram}
+use Rattle.mbus_rules.specs.declared.View.{View}
+use Rattle.mbus_rules.specs.declared.View.the-variants as views
+use Rattle.mbus_rules.specs.Answers.{Answer, reads, refusal}
+use Rattle.mbus_rules.specs.Views.{viewOf}
+use Rattle.exchange_steps.specs.declared.Cause.{Cause}
+use Rattle.exchange_steps.specs.declared.Cause.the-variants.{Silent}
+use Rattle.exchange_steps.specs.declared.State.{State}
+use Rattle.exchange_steps.specs.declared.State.the-variants.{Resend, Well, Failed}
+use Rattle.exchange_steps.specs.declared.Exchange.{Exchange}
+use Rattle.exchange_replies.specs.Fits.{fits}
+use Rattle.exchange_steps.specs.Steps.{mostSends, failed, causeOf, afterLine, afterTick, waits, asksResend, sending, begun, moved, past, heardIn, tickIn}
+use Rattle.exchange_steps.specs.Steps.{sentIn, startOf, startWith}
+use Rattle.exchange_steps.proofs.Laws.Steps.{asks-few, step-cases}
+use Rattle.exchange_record.specs.Exchanges.{failsBy, standsAt, reached, exchangeBytes, exchangeFrom}
+use Rattle.exchange_record.proofs.Laws.ExchangeLaws.{Fits, exchange-read}
+
+-- ---- the state that comes next goes with the sends and the time
+
+failed-stands : (sends : ℕ) (cause : Cause) (l : Bool) → sends ≤ mostSends → failsBy cause l ≡ true → standsAt (failed sends cause) sends l ≡ true
+failed-stands sends cause l few f = go (ltb sends mostSends) refl
+  where
+    go : (t : Bool) → ltb sends mostSends ≡ t → standsAt (cond t (Resend cause) (Failed cause)) sends l ≡ true
+    go true e = rw (e, f)
+    go false e = rw (eq-eqb sends mostSends (omega (arith, ltb-false sends mostSends e)), f)
+
+judged : (view : View) → failsBy (causeOf view) false ≡ true
+judged (views.Refused n) = refl
+judged views.Ack = refl
+judged (views.Asks other) = refl
+judged (views.Data answers) = refl
+
+line-stands : (request : Request) (sends : ℕ) (l : Bool) (view : View) → sends ≤ mostSends → standsAt (afterLine request sends l view) sends l ≡ true
+line-stands request sends true view few = failed-stands sends Silent true few refl
+line-stands request sends false view few = go (fits request view)
+  where
+    go : (t : Bool) → standsAt (cond t Well (failed sends (causeOf view))) sends false ≡ true
+    go true = refl
+    go false = failed-stands sends (causeOf view) false few (judged view)
+
+tick-stands : (sends : ℕ) (l : Bool) → sends ≤ mostSends → standsAt (afterTick sends l) sends l ≡ true
+tick-stands sends true few = failed-stands sends Silent true few refl
+tick-stands sends false few = refl
+
+-- ---- the four parts of `reached`
+
+pub record Parts (x : Exchange) : Type 0 where
+  pub some : 0 < x .sends
+  pub few : x .sends ≤ mostSends
+  pub in-order : x .began .0 ≤ x .last .0
+  pub stands : standsAt (x .state) (x .sends) (past x (x .last)) ≡ true
+
+pub parts : (x : Exchange) → reached x ≡ true → Parts x
+parts x e =
+    let one = and-eq-true-iff (ltb 0 (x .sends)) _ .0 e in
+    let two = and-eq-true-iff (leb (x .sends) mostSends) _ .0 (one .1) in
+    let three = and-eq-true-iff (leb (x .began .0) (x .last .0)) _ .0 (two .1) in
+    record {
+      some = ltb-true 0 (x .sends) (one .0);
+      few = leb-true (x .sends) mostSends (two .0);
+      in-order = leb-true (x .began .0) (x .last .0) (three .0);
+      stands = three .1;
+    }
+
+whole : (x : Exchange) → Parts x → reached x ≡ true
+whole x p = rw (lt-ltb 0 (x .sends) (p .some), le-leb (x .sends) mostSends (p .few), le-leb (x .began .0) (x .last .0) (p .in-order)) (p .stands)
+
+-- ---- kept by start and every step
+
+sending-reached : (request : Request) (sends : ℕ) (t : Clock) → 0 < sends → sends ≤ mostSends → reached (sending request sends t) ≡ true
+sending-reached request sends t some few =
+    whole (sending request sends t)
+    (record { some = some; few = few; in-order = le-refl (t .0); stands = ap not (le-late (t .0) (t .0) (omega arith)) })
+
+moved-reached : (x : Exchange) (state : State) (t : Clock) → reached x ≡ true → x .last .0 ≤ t .0 → standsAt state (x .sends) (past x t) ≡ true
+    → reached (moved x state t) ≡ true
+moved-reached x state t r l s =
+    let p = parts x r in
+    whole (moved x state t) (record { some = p .some; few = p .few; in-order = le-trans (p .in-order) l; stands = s })
+
+-- An exchange that is reached and whose times fit their type.
+pub record Good (x : Exchange) : Type 0 where
+  pub fits : Fits x
+  pub so : reached x ≡ true
+
+-- What a step answers, if it is an exchange, is good.
+abbrev pub Keeps : Answer Exchange → Type 0
+Keeps (refusal n) = Unit {0}
+Keeps (reads y) = Good y
+
+sending-good : (request : Request) (sends : ℕ) (t : Clock) → t .0 < 256 ^ 8 → 0 < sends → sends ≤ mostSends → Good (sending request sends t)
+sending-good request sends t f some few = record { fits = record { began = f; last = f }; so = sending-reached request sends t some few }
+
+moved-good : (x : Exchange) (state : State) (t : Clock) → Good x → t .0 < 256 ^ 8 → x .last .0 ≤ t .0 → standsAt state (x .sends) (past x t) ≡ true
+    → Good (moved x state t)
+moved-good x state t g f l s = record { fits = record { began = g .fits .began; last = f }; so = moved-reached x state t (g .so) l s }
+
+pub begun-good : (request : Request) (t : Clock) → t .0 < 256 ^ 8 → Good (begun request t)
+begun-good request t f = sending-good request 1 t f (omega arith) (omega arith)
+
+pub start-good : (telegram : Telegram) (t : Clock) → t .0 < 256 ^ 8 → Keeps (startOf telegram t)
+start-good telegram t f = go (viewOf (telegram .kind) (telegram .address) (telegram .method))
+  where
+    go : (v : View) → Keeps (startWith v t)
+    go (views.Refused n) = tt
+    go views.Ack = tt
+    go (views.Asks request) = begun-good request t f
+    go (views.Data answers) = tt
+
+module _ (x : Exchange) (g : Good x) (t : Clock) (f : t .0 < 256 ^ 8) where
+  pub heard-good : (view : View) → Keeps (heardIn x view t)
+  heard-good view =
+      let state : State = afterLine (x .request) (x .sends) (past x t) view in
+      step-cases x t Keeps (waits (x .state)) (moved x state t) (λ n. tt)
+      (λ l c. moved-good x state t g f l (line-stands (x .request) (x .sends) (past x t) view (parts x (g .so) .few)))
+
+  pub tick-good : Keeps (tickIn x t)
+  tick-good =
+      let state : State = afterTick (x .sends) (past x t) in
+      step-cases x t Keeps (waits (x .state)) (moved x state t) (λ n. tt)
+      (λ l c. moved-good x state t g f l (tick-stands (x .sends) (past x t) (parts x (g .so) .few)))
+
+  pub sent-good : Keeps (sentIn x t)
+  sent-good =
+      step-cases x t Keeps (asksResend (x .state) (x .sends)) (sending (x .request) (x .sends + 1) t) (λ n. tt)
+      (λ l c. let few = asks-few (x .state) (x .sends) c in
+      sending-good (x .request) (x .sends + 1) t f (omega arith) (omega arith))
+
+-- What start or a step writes is read back as the same exchange.
+pub read-back : (a : Answer Exchange) → Keeps a → (y : Exchange) → a ≡ reads y → exchangeFrom (exchangeBytes y) ≡ reads y
+read-back (refusal n) k y e = let z : _≡_ {A = ℕ} 0 1 = cc in absurd (omega arith)
+read-back (reads x) k y e =
+    let same : x ≡ y = cc in
+    subst (λ (w : Exchange). exchangeFrom (exchangeBytes w) ≡ reads w) same (exchange-read x (k .fits) (k .so))

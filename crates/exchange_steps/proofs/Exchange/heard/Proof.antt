@@ -1,0 +1,58 @@
+-- `Exchange::heard` meets its contract: reading, view, step and reply put together.
+use mathlib.Core.Path.{_≡_, sym, ap, _∙_}
+use mathlib.Core.Bool.{cond}
+use borrow.Author.Needs.{needs}
+use denote.Ref.{now}
+use Rattle.mbus_rules.specs.declared.Reading.{Reading}
+use Rattle.mbus_rules.specs.Lines.{readLine}
+use Rattle.mbus_rules.specs.Telegrams.{blank}
+use Rattle.mbus_rules.specs.declared.View.{View}
+use Rattle.mbus_rules.specs.Views.{viewed, viewIn}
+use Rattle.mbus_rules.proofs.Laws.Views.{view-shown}
+use Rattle.exchange_steps.specs.Steps.{heardIn, shownStep}
+use Rattle.exchange_steps.proofs.Laws.Steps.{heard-parts}
+use Rattle.exchange_steps.proofs.Exchange.heard.Statement.{statement}
+use Rattle.exchange_steps.proofs.Exchange.heard.Tie as tie
+
+read-line-requires : tie.Need-read-line-requires
+read-line-requires c κs = search needs
+
+view-of-requires : tie.Need-view-of-requires
+view-of-requires c κs = search needs
+
+seen-requires : tie.Need-seen-requires
+seen-requires c κs = search needs
+
+ends-well-requires : tie.Need-ends-well-requires
+ends-well-requires c κs = search needs
+
+-- the step, from the view of the reading
+step-is : (c : tie.After-seen)
+    → c .seen .result
+    ≡ shownStep (heardIn (c .before .before .before .before .args .self) (viewed (readLine (now (c .before .before .before .before .args .line))))
+    (c .before .before .before .before .args .t))
+step-is c =
+    let a = c .before .before .before .before .args in
+    c .seen .ensures ∙ ap (λ (v : View). shownStep (heardIn (a .self) v (a .t))) (c .before .view-of .ensures
+    ∙ ap (λ (r : Reading). viewIn (r .outcome) (r .telegram)) (c .before .before .read-line .ensures) ∙ view-shown (readLine (now (a .line))))
+
+reply-of-requires : tie.Need-reply-of-requires
+reply-of-requires c κs = search needs
+
+returns : tie.Need-returns
+returns c =
+    let a = c .before .before .before .before .before .before .args in
+    heard-parts (a .self) (readLine (now (a .line))) (a .t) (step-is (c .before .before)) (sym (c .before .ends-well .ensures))
+    (c .reply-of .ensures ∙ ap (λ (r : Reading). cond (c .before .ends-well .result) (r .telegram) blank)
+    (c .before .before .before .before .read-line .ensures))
+
+pub heard-spec : {M : Type 1} → statement M
+heard-spec =
+    tie.close
+    (tie.spec
+    read-line-requires
+    view-of-requires
+    seen-requires
+    ends-well-requires
+    reply-of-requires
+    returns)

@@ -1,0 +1,131 @@
+-- 01, "The exchange": start and the three steps. Each takes the exchange as it stood and gives the exchange as it then stands.
+use Prim.Native.Nat.{ℕ, _+_}
+use mathlib.Core.Bool.{Bool, true, false, cond, not}
+use lib.Dec.{ltb}
+use Rattle.bench_clock.specs.declared.Clock.{Clock}
+use Rattle.bench_clock.specs.Times.{late, earlier}
+use Rattle.mbus_rules.specs.declared.Request.{Request}
+use Rattle.mbus_rules.specs.declared.Telegram.{Telegram}
+use Rattle.mbus_rules.specs.declared.View.{View}
+use Rattle.mbus_rules.specs.declared.View.the-variants as views
+use Rattle.mbus_rules.specs.Answers.{Answer, reads, refusal, refuse}
+use Rattle.mbus_rules.specs.Telegrams.{blank, shown}
+use Rattle.mbus_rules.specs.Views.{viewOf, viewed}
+use Rattle.exchange_steps.specs.declared.Cause.{Cause}
+use Rattle.exchange_steps.specs.declared.Cause.the-variants.{Silent, Damaged, WrongKind}
+use Rattle.exchange_steps.specs.declared.State.{State}
+use Rattle.exchange_steps.specs.declared.State.the-variants.{Waiting, Resend, Well, Failed}
+use Rattle.exchange_steps.specs.declared.Exchange.{Exchange}
+use Rattle.exchange_steps.specs.declared.Stepped.{Stepped}
+use Rattle.exchange_steps.specs.declared.Stepped.the-variants.{To, Refused}
+use Rattle.exchange_steps.specs.declared.Heard.{Heard}
+use Rattle.exchange_replies.specs.Fits.{fits}
+
+-- ---- the state that comes next
+
+-- A failed send, if it was the first or second, asks for a resend; if it was the third, the exchange ends with that cause.
+abbrev pub mostSends : ℕ
+mostSends = 3
+
+abbrev pub failed : ℕ → Cause → State
+failed sends cause = cond (ltb sends mostSends) (Resend cause) (Failed cause)
+
+-- A line that does not fit fails its send as damaged (refused line) or wrong kind.
+abbrev pub causeOf : View → Cause
+causeOf (views.Refused n) = Damaged
+causeOf views.Ack = WrongKind
+causeOf (views.Asks other) = WrongKind
+causeOf (views.Data answers) = WrongKind
+
+-- Line heard: more than 450 after the send counts as silence and the line is ignored; otherwise a fitting line ends the
+-- exchange well, and another fails this send.
+abbrev pub afterLine : Request → ℕ → Bool → View → State
+afterLine request sends silent view = cond silent (failed sends Silent) (cond (fits request view) Well (failed sends (causeOf view)))
+
+-- Tick: more than 450 after the send fails it as silent; 450 or less leaves the state.
+abbrev pub afterTick : ℕ → Bool → State
+afterTick sends silent = cond silent (failed sends Silent) Waiting
+
+-- ---- which step is called for
+
+-- Lines and ticks are called for only while waiting.
+abbrev pub waits : State → Bool
+waits Waiting = true
+waits (Resend cause) = false
+waits Well = false
+waits (Failed cause) = false
+
+-- Sent, only when a resend is asked for; after the third send none is.
+abbrev pub asksResend : State → ℕ → Bool
+asksResend Waiting sends = false
+asksResend (Resend cause) sends = ltb sends mostSends
+asksResend Well sends = false
+asksResend (Failed cause) sends = false
+
+-- ---- the exchange that comes next
+
+-- A send of the request has ended at t, and it was so many sends with this one.
+abbrev pub sending : Request → ℕ → Clock → Exchange
+sending request sends t = record { request = request; state = Waiting; sends = sends; began = t; last = t }
+
+-- A fresh exchange: waiting, with one send.
+abbrev pub begun : Request → Clock → Exchange
+begun request t = sending request 1 t
+
+-- A line or a tick at t: the state and the last time are new, and the rest stays.
+abbrev pub moved : Exchange → State → Clock → Exchange
+moved x state t = record { request = x .request; state = state; sends = x .sends; began = x .began; last = t }
+
+-- t is more than 450 after the send.
+abbrev pub past : Exchange → Clock → Bool
+past x t = late (x .began .0) (t .0)
+
+-- Refusals 40, time earlier than the last step's, and then 41, step not called for in this state.
+abbrev pub step : Exchange → Clock → Bool → Exchange → Answer Exchange
+step x t called next = refuse 40 (earlier (x .last .0) (t .0)) (refuse 41 (not called) (reads next))
+
+abbrev pub heardIn : Exchange → View → Clock → Answer Exchange
+heardIn x view t = step x t (waits (x .state)) (moved x (afterLine (x .request) (x .sends) (past x t) view) t)
+
+abbrev pub tickIn : Exchange → Clock → Answer Exchange
+tickIn x t = step x t (waits (x .state)) (moved x (afterTick (x .sends) (past x t)) t)
+
+-- Sent at t: waiting again, one send more.
+abbrev pub sentIn : Exchange → Clock → Answer Exchange
+sentIn x t = step x t (asksResend (x .state) (x .sends)) (sending (x .request) (x .sends + 1) t)
+
+-- Start: 42 with ack or data.
+abbrev pub startWith : View → Clock → Answer Exchange
+startWith (views.Refused n) t = refusal 42
+startWith views.Ack t = refusal 42
+startWith (views.Asks request) t = reads (begun request t)
+startWith (views.Data answers) t = refusal 42
+
+abbrev pub startOf : Telegram → Clock → Answer Exchange
+startOf telegram t = startWith (viewOf (telegram .kind) (telegram .address) (telegram .method)) t
+
+-- ---- what the program answers
+
+-- The program's case for each answer: the exchange as it then stands, or the number.
+abbrev pub shownStep : Answer Exchange → Stepped
+shownStep (refusal n) = Refused n
+shownStep (reads x) = To x
+
+-- The step ended the exchange well.
+abbrev pub isWell : State → Bool
+isWell Waiting = false
+isWell (Resend cause) = false
+isWell Well = true
+isWell (Failed cause) = false
+
+abbrev pub endsWell : Stepped → Bool
+endsWell (Refused n) = false
+endsWell (To x) = isWell (x .state)
+
+-- The whole answer for a line heard, by what reading the line answers. The reply is the telegram of the line by which the
+-- exchange ended well; where it did not, it is blank.
+abbrev pub heardOf : Exchange → Answer Telegram → Clock → Heard
+heardOf x reading t = record {
+  stepped = shownStep (heardIn x (viewed reading) t);
+  reply = cond (endsWell (shownStep (heardIn x (viewed reading) t))) (shown reading .telegram) blank;
+}

@@ -1,0 +1,204 @@
+// One exchange of document 01: a request, at most three sends of it, and how it ends.
+ghost use mathlib.Core.Bool.{cond};
+ghost use mathlib.Core.Path.{_≡_};
+ghost use Rattle.mbus_rules.specs.Lines.{readLine};
+ghost use Rattle.mbus_rules.specs.Telegrams.{blank};
+ghost use Rattle.exchange_steps.specs.Steps.{endsWell, heardIn, heardOf, moved, sending, sentIn, shownStep, startOf, step, tickIn};
+use bench_clock::Clock;
+use mbus_reading::read_line;
+use mbus_reading::view_of;
+use mbus_rules::Kind;
+use mbus_rules::Outcome;
+use mbus_rules::Reading;
+use mbus_rules::Request;
+use mbus_rules::Telegram;
+use mbus_rules::View;
+use mbus_telegrams::plain;
+use states::after_line;
+use states::after_tick;
+use states::asks_resend;
+use states::waits;
+
+mod states;
+
+// Why a send failed: no line in time, a refused line, or an accepted line that does not fit.
+pub enum Cause {
+    Silent,
+    Damaged,
+    WrongKind,
+}
+
+// What an exchange waits for, or how it ended.
+pub enum State {
+    // for the reply to its last send
+    Waiting,
+    // for a resend, its last send having failed by the cause
+    Resend(Cause),
+    // ended by a line that fits
+    Well,
+    // ended by its third failed send
+    Failed(Cause),
+}
+
+pub struct Exchange {
+    pub request: Request,
+    pub state: State,
+    // the sends made
+    pub sends: u8,
+    // when the wait for a reply began: the end of the last send
+    pub began: Clock,
+    // the time of the last step
+    pub last: Clock,
+}
+
+// The exchange as it then stands, or the number by which the step is refused; the exchange is then as it was.
+pub enum Stepped {
+    To(Exchange),
+    Refused(u16),
+}
+
+// What a line heard answers. The reply is the line's telegram where the line ended the exchange well, and blank in every other case.
+pub struct Heard {
+    pub stepped: Stepped,
+    pub reply: Telegram,
+}
+
+// A send of the request has ended at t, and it was so many sends with this one.
+fn sending(request: Request, sends: u8, t: Clock) -> Exchange
+    ensures { λ r. ⌜ r ≡ sending request sends t ⌝ }
+{
+    Exchange {
+        request,
+        state: State::Waiting,
+        sends,
+        began: t,
+        last: t,
+    }
+}
+
+// Whether the step ended the exchange well.
+fn ends_well(stepped: Stepped) -> bool
+    ensures { λ r. ⌜ r ≡ endsWell stepped ⌝ }
+{
+    let Stepped::To(x) = stepped else {
+        return false;
+    };
+    let state = x.state;
+    match state {
+        State::Waiting => false,
+        State::Resend(_) => false,
+        State::Well => true,
+        State::Failed(_) => false,
+    }
+}
+
+// The reply of a reading: its telegram where it ended the exchange well, and the blank one where it did not.
+fn reply_of(reading: Reading, well: bool) -> Telegram
+    ensures { λ r. ⌜ r ≡ cond well (reading .telegram) blank ⌝ }
+{
+    if well {
+        return reading.telegram;
+    }
+    let none = plain(Kind::Ack, 0, 0);
+    none.telegram
+}
+
+impl Exchange {
+    // A request's send has ended at t. Only the telegram's kind, address and method are looked at: whether it can be written
+    // is the writer's to say.
+    pub fn start(telegram: Telegram, t: Clock) -> Stepped
+        ensures { λ r. ⌜ r ≡ shownStep (startOf telegram t) ⌝ }
+    {
+        let view = view_of(Reading {
+            outcome: Outcome::Accepted,
+            telegram,
+        });
+        match view {
+            View::Refused(_) => Stepped::Refused(42),
+            View::Ack => Stepped::Refused(42),
+            View::Asks(request) => Stepped::To(sending(request, 1, t)),
+            View::Data(_) => Stepped::Refused(42),
+        }
+    }
+
+    // The exchange after a line or a tick at t.
+    fn moved(self, state: State, t: Clock) -> Exchange
+        ensures { λ r. ⌜ r ≡ moved self state t ⌝ }
+    {
+        Exchange {
+            state,
+            last: t,
+            ..self
+        }
+    }
+
+    // The step to the next exchange, if its time and the state allow it.
+    fn step(self, t: Clock, called: bool, next: Exchange) -> Stepped
+        ensures { λ r. ⌜ r ≡ shownStep (step self t called next) ⌝ }
+    {
+        let last = self.last;
+        let back = last.earlier(t);
+        if back {
+            return Stepped::Refused(40);
+        }
+        if called {
+            return Stepped::To(next);
+        }
+        Stepped::Refused(41)
+    }
+
+    // A line of this view heard at t.
+    fn seen(self, view: View, t: Clock) -> Stepped
+        ensures { λ r. ⌜ r ≡ shownStep (heardIn self view t) ⌝ }
+    {
+        let request = self.request;
+        let stood = self.state;
+        let called = waits(stood);
+        let began = self.began;
+        let silent = began.late(t);
+        let state = after_line(request, self.sends, silent, view);
+        let next = self.moved(state, t);
+        self.step(t, called, next)
+    }
+
+    // A line heard at t, the start of its first character. That time becomes the last one, so a host must not tick past the
+    // window while a line that began inside it is still coming in.
+    pub fn heard(self, line: &[u16], t: Clock) -> Heard
+        ensures { λ r. ⌜ r ≡ heardOf self (readLine (now (line .entry))) t ⌝ }
+    {
+        let reading = read_line(line);
+        let view = view_of(reading);
+        let stepped = self.seen(view, t);
+        let well = ends_well(stepped);
+        let reply = reply_of(reading, well);
+        Heard { stepped, reply }
+    }
+
+    // No line has begun up to t.
+    pub fn tick(self, t: Clock) -> Stepped
+        ensures { λ r. ⌜ r ≡ shownStep (tickIn self t) ⌝ }
+    {
+        let stood = self.state;
+        let called = waits(stood);
+        let began = self.began;
+        let silent = began.late(t);
+        let state = after_tick(self.sends, silent);
+        let next = self.moved(state, t);
+        self.step(t, called, next)
+    }
+
+    // A resend of the request has ended at t.
+    pub fn sent(self, t: Clock) -> Stepped
+        ensures { λ r. ⌜ r ≡ shownStep (sentIn self t) ⌝ }
+    {
+        let request = self.request;
+        let stood = self.state;
+        let sends = self.sends;
+        let called = asks_resend(stood, sends);
+        if called {
+            let next = sending(request, sends + 1, t);
+            return self.step(t, true, next);
+        }
+        self.step(t, false, self)
+    }
+}

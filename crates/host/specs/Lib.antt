@@ -1,2 +1,0 @@
--- What the check on bytes holds on to.
-pub mod Bytes

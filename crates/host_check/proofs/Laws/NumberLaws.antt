@@ -1,0 +1,32 @@
+-- The number of an outline is that of the line.
+use Prim.Native.Nat.{ℕ, _%_}
+use mathlib.Core.List.{List}
+use mathlib.Core.Path.{_≡_, refl, sym, ap, _∙_}
+use borrow.Author.Tests.{eq-eqb, ne-eqb}
+use lib.ListN.{length}
+use Rattle.mbus_rules.specs.declared.Kind.{Kind}
+use Rattle.mbus_rules.specs.declared.Kind.the-variants.{Ack, Read, Enter, Leave, Data}
+use Rattle.mbus_rules.specs.declared.Telegram.{Telegram}
+use Rattle.mbus_rules.specs.declared.View.{View}
+use Rattle.mbus_rules.specs.Answers.{Answer, reads, refusal}
+use Rattle.mbus_rules.specs.Host.{chars, kindNumber, lineNumber, hostNumber}
+use Rattle.mbus_rules.specs.Lines.{readLine}
+use Rattle.mbus_rules.specs.Views.{viewOf, viewed}
+use Rattle.host_check.specs.Numbers.{viewNumber}
+
+kind-number : (k : Kind) (a s : ℕ) → viewNumber (viewOf k a s) ≡ kindNumber k
+kind-number Ack a s = refl
+kind-number Read a s = refl
+kind-number Enter a s = refl
+kind-number Leave a s = refl
+kind-number Data a s = refl
+
+view-number : (x : Answer Telegram) → viewNumber (viewed x) ≡ lineNumber x
+view-number (refusal n) = refl
+view-number (reads t) = kind-number (t .kind) (t .address) (t .method)
+
+pub odd-number : (b : List ℕ) → length b % 2 ≡ 1 → 273 ≡ hostNumber b
+odd-number b e = rw (eq-eqb (length b % 2) 1 e)
+
+pub even-number : (b : List ℕ) → (length b % 2 ≡ 1 → ⊥) → {v : View} → v ≡ viewed (readLine (chars b)) → viewNumber v ≡ hostNumber b
+even-number b n e = ap viewNumber e ∙ view-number (readLine (chars b)) ∙ sym (rw (ne-eqb (length b % 2) 1 n))

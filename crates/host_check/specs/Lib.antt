@@ -1,0 +1,2 @@
+-- 01, "The bench host": the number of a line.
+pub mod Numbers

@@ -1,0 +1,42 @@
+-- `host_records::telegrams::entry_at` meets its contract. Assumes nothing.
+use Prim.Native.Nat.{ℕ, _+_, _-_}
+use mathlib.Core.Path.{_≡_, ap, _∙_}
+use native.Mathlib.Omega.{arith}
+use borrow.Author.Needs.{needs}
+use denote.Ref.{now}
+use lib.ListN.{take, drop}
+use Rattle.host_records.specs.Telegrams.{entryIn}
+use Rattle.host_records.proofs.telegrams.entry_at.Statement.{statement}
+use Rattle.host_records.proofs.telegrams.entry_at.Tie as tie
+
+add-entry-in : tie.Need-add-entry-in
+add-entry-in c = search needs
+
+sub-entry-in : tie.Need-sub-entry-in
+sub-entry-in c = search needs
+
+part-entry-in-start : tie.Need-part-entry-in-start
+part-entry-in-start c = search needs
+
+part-entry-in-end : tie.Need-part-entry-in-end
+part-entry-in-end c = search needs
+
+entry-in-requires : tie.Need-entry-in-requires
+entry-in-requires c κs = search needs
+
+returns : tie.Need-returns
+returns c =
+    let a = c .before .before .before .args in
+    let e : a .at + 16 - a .at ≡ 16 = omega arith in
+    c .entry-in .ensures ∙ ap (λ (k : ℕ). entryIn (take k (drop (a .at) (now (a .b))))) e
+
+pub entry-at-spec : {M : Type 1} → statement M
+entry-at-spec =
+    tie.close
+    (tie.spec
+    add-entry-in
+    sub-entry-in
+    part-entry-in-start
+    part-entry-in-end
+    entry-in-requires
+    returns)

@@ -1,0 +1,60 @@
+-- `host_records::telegrams::entry_in` meets its contract. Assumes nothing.
+use Rattle.host_records.specs.Telegrams.{entryIn}
+use borrow.Author.Needs.{needs}
+use Rattle.host_records.proofs.telegrams.entry_in.Statement.{statement}
+use Rattle.host_records.proofs.telegrams.entry_in.Tie as tie
+
+shared-slice-read-structure : tie.Need-shared-slice-read-structure
+shared-slice-read-structure c = search needs
+
+shared-slice-read-unit : tie.Need-shared-slice-read-unit
+shared-slice-read-unit c = search needs
+
+shared-slice-read-time : tie.Need-shared-slice-read-time
+shared-slice-read-time c = search needs
+
+shared-slice-read-t13 : tie.Need-shared-slice-read-t13
+shared-slice-read-t13 c = search needs
+
+shared-slice-read-t15 : tie.Need-shared-slice-read-t15
+shared-slice-read-t15 c = search needs
+
+shared-slice-read-t17 : tie.Need-shared-slice-read-t17
+shared-slice-read-t17 c = search needs
+
+shared-slice-read-t19 : tie.Need-shared-slice-read-t19
+shared-slice-read-t19 c = search needs
+
+shared-slice-read-t21 : tie.Need-shared-slice-read-t21
+shared-slice-read-t21 c = search needs
+
+shared-slice-read-t23 : tie.Need-shared-slice-read-t23
+shared-slice-read-t23 c = search needs
+
+returns : tie.Need-returns
+unfolding entryIn
+returns c = rw (c .before .before .before .before .before .before .if1 .taken)
+
+number-at-requires : tie.Need-number-at-requires
+number-at-requires c κs = search needs
+
+returns-2 : tie.Need-returns-2
+unfolding entryIn
+returns-2 c = rw (c .before .if1 .left, c .number-at .ensures .so)
+
+pub entry-in-spec : {M : Type 1} → statement M
+entry-in-spec =
+    tie.close
+    (tie.spec
+    shared-slice-read-structure
+    shared-slice-read-unit
+    shared-slice-read-time
+    shared-slice-read-t13
+    shared-slice-read-t15
+    shared-slice-read-t17
+    shared-slice-read-t19
+    shared-slice-read-t21
+    shared-slice-read-t23
+    returns
+    number-at-requires
+    returns-2)

@@ -1,0 +1,3 @@
+-- Records: values as bytes of a fixed size.
+pub mod Recorded
+pub mod Telegrams

@@ -1,0 +1,49 @@
+-- `host_words::row_size` meets its contract: the loop stops at the first line feed. Assumes nothing.
+use Prim.Native.Nat.{_-_}
+use native.Mathlib.Omega.{arith}
+use lib.ListN.{length}
+use borrow.Author.Needs.{needs}
+use Rattle.host_words.proofs.Laws.Rows.{Passed, passed-none, passed-end, passed-on, passed-all}
+use Rattle.host_words.proofs.row_size.Statement.{statement}
+use Rattle.host_words.proofs.row_size.Tie as tie
+
+abbrev Inv-loop : tie.InvT-loop
+Inv-loop rest i₀ i = Passed rest i
+
+abbrev μ-loop : tie.MeasureT-loop
+μ-loop rest i₀ i = length rest - i
+
+loop-holds : tie.Need-loop-holds Inv-loop μ-loop
+loop-holds c = passed-none (c .args .rest .now)
+
+shared-slice-read-if1 : tie.Need-shared-slice-read-if1 Inv-loop μ-loop
+shared-slice-read-if1 c = search needs
+
+returns : tie.Need-returns Inv-loop μ-loop
+returns c = passed-end (c .before .before .before .loop .inv) (c .before .before .loop-test .taken) (c .if1 .taken)
+
+add-i : tie.Need-add-i Inv-loop μ-loop
+add-i c = search needs
+
+loop-less : tie.Need-loop-less Inv-loop μ-loop
+loop-less c = search needs
+
+loop-again : tie.Need-loop-again Inv-loop μ-loop
+loop-again c = passed-on (c .before .before .before .loop .inv) (c .before .before .loop-test .taken) (c .if1 .left)
+
+returns-2 : tie.Need-returns-2 Inv-loop μ-loop
+returns-2 c = passed-all (c .before .loop .inv) (omega arith)
+
+pub row-size-spec : {M : Type 1} → statement M
+row-size-spec =
+    tie.close
+    (tie.spec
+    Inv-loop
+    μ-loop
+    loop-holds
+    shared-slice-read-if1
+    returns
+    add-i
+    loop-less
+    loop-again
+    returns-2)

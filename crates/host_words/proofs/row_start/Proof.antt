@@ -1,0 +1,59 @@
+-- `host_words::row_start` meets its contract: the loop skips rows. Assumes nothing.
+use Prim.Native.Nat.{_-_, _<_}
+use mathlib.Core.Logic.{⊎-elim}
+use native.Mathlib.Omega.{arith}
+use lib.ListN.{length}
+use borrow.Author.Needs.{needs}
+use Rattle.host_words.proofs.Laws.Rows.{Skipped, skipped-none, skipped-here, skipped-feed, skipped-on, skipped-all}
+use Rattle.host_words.proofs.row_start.Statement.{statement}
+use Rattle.host_words.proofs.row_start.Tie as tie
+
+abbrev Inv-loop : tie.InvT-loop
+Inv-loop words n left₀ i₀ left i = Skipped words n left i
+
+abbrev μ-loop : tie.MeasureT-loop
+μ-loop words n left₀ i₀ left i = length words - i
+
+loop-holds : tie.Need-loop-holds Inv-loop μ-loop
+loop-holds c = skipped-none (c .args .words .now) (c .args .n)
+
+returns : tie.Need-returns Inv-loop μ-loop
+returns c = skipped-here (c .before .before .loop .inv) (c .if1 .taken)
+
+shared-slice-read-if2 : tie.Need-shared-slice-read-if2 Inv-loop μ-loop
+shared-slice-read-if2 c = search needs
+
+sub-left : tie.Need-sub-left Inv-loop μ-loop
+sub-left c = search needs
+
+add-i : tie.Need-add-i Inv-loop μ-loop
+add-i c = search needs
+
+loop-less : tie.Need-loop-less Inv-loop μ-loop
+loop-less c = search needs
+
+loop-again : tie.Need-loop-again Inv-loop μ-loop
+loop-again c =
+    let inv = c .before .before .before .before .loop .inv in
+    let inside = c .before .before .before .loop-test .taken in
+    let more : 0 < c .before .before .before .before .loop .left = omega arith in
+    ⊎-elim (λ w. rw (w .1) (skipped-feed inv inside more (w .0 .taken))) (λ w. rw (w .1) (skipped-on inv inside more (w .0 .left)))
+    (c .if2 .came)
+
+returns-2 : tie.Need-returns-2 Inv-loop μ-loop
+returns-2 c = skipped-all (c .before .loop .inv) (omega arith)
+
+pub row-start-spec : {M : Type 1} → statement M
+row-start-spec =
+    tie.close
+    (tie.spec
+    Inv-loop
+    μ-loop
+    loop-holds
+    returns
+    shared-slice-read-if2
+    sub-left
+    add-i
+    loop-less
+    loop-again
+    returns-2)

@@ -1,0 +1,68 @@
+-- `host_words::say` meets its contract: the loop copies. Assumes nothing.
+use Prim.Native.Nat.{_-_}
+use native.Mathlib.Omega.{arith}
+use lib.ListN.{length}
+use borrow.Author.Needs.{needs}
+use borrow.Author.Tests.{ltb-false}
+use Rattle.host_words.proofs.Laws.Saying.{Copied, says-not, copied-none, copied-next, copied-all}
+use Rattle.host_words.proofs.say.Statement.{statement}
+use Rattle.host_words.proofs.say.Tie as tie
+
+abbrev Inv-loop : tie.InvT-loop
+Inv-loop out₀ words short i₀ out i = Copied words out₀ i out
+
+abbrev μ-loop : tie.MeasureT-loop
+μ-loop out₀ words short i₀ out i = length words - i
+
+add-result : tie.Need-add-result Inv-loop μ-loop
+add-result c = search needs
+
+returns : tie.Need-returns Inv-loop μ-loop
+returns c = says-not (c .before .args .words .now) (c .before .args .out .now) (c .if1 .taken)
+
+loop-holds : tie.Need-loop-holds Inv-loop μ-loop
+loop-holds c = copied-none (c .before .args .words .now) (c .before .args .out .now) (c .if1 .left)
+
+shared-slice-read-out : tie.Need-shared-slice-read-out Inv-loop μ-loop
+shared-slice-read-out c = search needs
+
+slice-write-out : tie.Need-slice-write-out Inv-loop μ-loop
+slice-write-out c =
+    let a = c .before .before .before .before .args in
+    omega (arith, ltb-false (length (a .out .now)) (length (a .words .now)) (c .before .before .loop .inv .room))
+
+add-i : tie.Need-add-i Inv-loop μ-loop
+add-i c = search needs
+
+loop-less : tie.Need-loop-less Inv-loop μ-loop
+loop-less c = search needs
+
+loop-again : tie.Need-loop-again Inv-loop μ-loop
+loop-again c = copied-next (c .before .before .loop .inv) (omega arith)
+
+cast-result : tie.Need-cast-result Inv-loop μ-loop
+cast-result c = search needs
+
+same-length : tie.Need-same-length Inv-loop μ-loop
+same-length c = search needs
+
+returns-2 : tie.Need-returns-2 Inv-loop μ-loop
+returns-2 c = copied-all (c .before .loop .inv) (omega arith)
+
+pub say-spec : {M : Type 1} → statement M
+say-spec =
+    tie.close
+    (tie.spec
+    Inv-loop
+    μ-loop
+    add-result
+    returns
+    loop-holds
+    shared-slice-read-out
+    slice-write-out
+    add-i
+    loop-less
+    loop-again
+    cast-result
+    same-length
+    returns-2)

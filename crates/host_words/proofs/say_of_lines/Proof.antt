@@ -1,0 +1,25 @@
+-- `host_words::say_of_lines` meets its contract. Assumes nothing.
+use borrow.Author.Needs.{needs}
+use Rattle.host_words.proofs.Laws.Blocks.{block, row-of-lines}
+use Rattle.host_words.specs.Refusals.{textOf, wordsIn}
+use Rattle.host_words.proofs.say_of_lines.Statement.{statement}
+use Rattle.host_words.proofs.say_of_lines.Tie as tie
+
+slice-aggregate-say-row : tie.Need-slice-aggregate-say-row
+slice-aggregate-say-row c = search needs
+
+say-row-requires : tie.Need-say-row-requires
+say-row-requires c κs = search needs
+
+same-length : tie.Need-same-length
+same-length c = search needs
+
+returns : tie.Need-returns
+unfolding block textOf wordsIn
+returns c =
+    let start = c .before .before .before .before .before .before in
+    rw (row-of-lines (start .args .number) (start .pre)) at (c .before .before .say-row .ensures)
+
+pub say-of-lines-spec : {M : Type 1} → statement M
+say-of-lines-spec =
+    tie.close (tie.spec slice-aggregate-say-row say-row-requires same-length returns)

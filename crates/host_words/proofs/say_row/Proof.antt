@@ -1,0 +1,66 @@
+-- `host_words::say_row` meets its contract. Assumes nothing.
+use Prim.Native.Nat.{_≤_}
+use mathlib.Core.Path.{_≡_, sym}
+use native.Mathlib.Omega.{arith}
+use lib.ListN.{length}
+use borrow.Author.Needs.{needs}
+use Rattle.host_words.proofs.Laws.Rows.{Located, size-in, size-small, row-missing, row-said}
+use Rattle.host_words.proofs.say_row.Statement.{statement}
+use Rattle.host_words.proofs.say_row.Tie as tie
+
+row-start-requires : tie.Need-row-start-requires
+row-start-requires c κs = search needs
+
+sub-rest : tie.Need-sub-rest
+sub-rest c = search needs
+
+part-rest-start : tie.Need-part-rest-start
+part-rest-start c = search needs
+
+part-rest-end : tie.Need-part-rest-end
+part-rest-end c = search needs
+
+row-size-requires : tie.Need-row-size-requires
+row-size-requires c κs = search needs
+
+add-result : tie.Need-add-result
+add-result c = search needs
+
+-- the row that the two searches found
+located : (c : tie.After-row-size)
+    → Located (c .before .before .before .before .before .args .words .now) (c .before .before .before .before .before .args .n)
+    (c .before .before .row-start .result) (c .row-size .result)
+located c = record { from = c .before .before .row-start .ensures .1; inside = c .row-size .ensures .0; found = c .row-size .ensures .1 }
+
+returns : tie.Need-returns
+returns c = row-missing (located (c .before)) (c .before .before .before .before .before .before .args .out .now) (c .if1 .taken)
+
+slice-aggregate-say : tie.Need-slice-aggregate-say
+slice-aggregate-say c = sym (size-in (located (c .before .before .before)))
+
+say-requires : tie.Need-say-requires
+say-requires c κs = omega (arith, size-in (located (c .before .before .before)), size-small (located (c .before .before .before)))
+
+same-length : tie.Need-same-length
+same-length c = search needs
+
+returns-2 : tie.Need-returns-2
+returns-2 c =
+    row-said (located (c .before .before .before .before .before .before)) (c .before .before .before .before .before .if1 .left)
+    (c .before .before .say .ensures)
+
+pub say-row-spec : {M : Type 1} → statement M
+say-row-spec =
+    tie.close
+    (tie.spec
+    row-start-requires
+    sub-rest
+    part-rest-start
+    part-rest-end
+    row-size-requires
+    add-result
+    returns
+    slice-aggregate-say
+    say-requires
+    same-length
+    returns-2)

@@ -1,0 +1,24 @@
+-- `listing_column::column_of` meets its contract: a wake-up, or the outline. Assumes nothing.
+use borrow.Author.Needs.{needs}
+use mathlib.Core.Path.{sym, ap, _∙_}
+use Rattle.listing_column.specs.declared.Column.the-variants.{Reads}
+use Rattle.listing_column.specs.Columns.{columnOf}
+use Rattle.listing_column.proofs.column_of.Statement.{statement}
+use Rattle.listing_column.proofs.column_of.Tie as tie
+
+is-wake-requires : tie.Need-is-wake-requires
+is-wake-requires c κs = search needs
+
+returns : tie.Need-returns
+unfolding columnOf
+returns c = rw (sym (c .before .is-wake .ensures) ∙ c .if1 .taken)
+
+outline-of-requires : tie.Need-outline-of-requires
+outline-of-requires c κs = search needs
+
+returns-2 : tie.Need-returns-2
+unfolding columnOf
+returns-2 c = rw (sym (c .before .before .is-wake .ensures) ∙ c .before .if1 .left) (ap Reads (c .outline-of .ensures))
+
+pub column-of-spec : {M : Type 1} → statement M
+column-of-spec = tie.close (tie.spec is-wake-requires returns outline-of-requires returns-2)

@@ -1,0 +1,6 @@
+-- What follows from the definitions, invariants of loops among it.
+pub mod Texts
+pub mod Writing
+pub mod LineLaws
+pub mod Shown
+pub mod Longest

@@ -1,0 +1,73 @@
+-- `listing_text::lines::row_line` meets its contract. Assumes nothing.
+use Rattle.listing_text.specs.Listings.{lineFor}
+use Rattle.mbus_rules.specs.Host.{chars}
+use Prim.Native.Nat.{ℕ}
+use Prim.Native.Nat.{_≤_, _+_, _-_}
+use mathlib.Core.Path.{_≡_, ap, _∙_}
+use native.Mathlib.Omega.{arith}
+use borrow.Author.Needs.{needs}
+use lib.ListN.{length, take, drop}
+use Rattle.listing_text.specs.Listings.{wordOf, rowText}
+use Rattle.listing_text.proofs.lines.row_line.Statement.{statement}
+use Rattle.listing_text.proofs.lines.row_line.Tie as tie
+
+unchecked-row-requires : tie.Need-unchecked-row-requires
+unchecked-row-requires c κs = search needs
+
+cast-at : tie.Need-cast-at
+cast-at c = search needs
+
+cast-end : tie.Need-cast-end
+cast-end c = search needs
+
+add-end : tie.Need-add-end
+add-end c = search needs
+
+sub-word-of : tie.Need-sub-word-of
+sub-word-of c = search needs
+
+part-word-of-start : tie.Need-part-word-of-start
+part-word-of-start c = search needs
+
+part-word-of-end : tie.Need-part-word-of-end
+part-word-of-end c =
+    let r = c .before .before .unchecked-row .result in
+    let h : r .offset + r .length ≤ length (c .before .before .before .before .args .bundle .now) = rw (c .before .before .unchecked-row .ensures)
+    (c .before .before .before .before .pre) in
+    omega arith
+
+word-of-requires : tie.Need-word-of-requires
+word-of-requires c κs = search needs
+
+line-of-requires : tie.Need-line-of-requires
+line-of-requires c κs = search needs
+
+returns : tie.Need-returns
+returns c =
+    let a = c .before .before .before .before .before .before .before .args in
+    let r = c .before .before .before .before .before .unchecked-row .result in
+    let size : r .offset + r .length - r .offset ≡ r .length = omega arith in
+    record {
+      small = c .line-of .ensures .small;
+      whole = c .line-of .ensures .whole;
+      so =
+          c .line-of .ensures .so
+          ∙ ap (rowText (r .position) (r .direction) (r .time))
+          (c .before .word-of .ensures .so ∙ ap (λ (n : ℕ). wordOf (chars (take n (drop (r .offset) (a .bundle .now))))) size)
+          ∙ ap (lineFor (a .bundle .now)) (c .before .before .before .before .before .unchecked-row .ensures);
+    }
+
+pub row-line-spec : {M : Type 1} → statement M
+row-line-spec =
+    tie.close
+    (tie.spec
+    unchecked-row-requires
+    cast-at
+    cast-end
+    add-end
+    sub-word-of
+    part-word-of-start
+    part-word-of-end
+    word-of-requires
+    line-of-requires
+    returns)

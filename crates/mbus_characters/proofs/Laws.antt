@@ -1,0 +1,5 @@
+-- What follows from the definitions, invariants of loops among it.
+pub mod ParityLaws
+pub mod PairLaws
+pub mod SumLaws
+pub mod StoreLaws

@@ -1,0 +1,26 @@
+-- `mbus_characters::line::low_at` meets its contract: a byte of the line is the byte of the character there. Assumes nothing.
+use borrow.Author.Needs.{needs}
+use mathlib.Core.Path.{sym}
+use denote.Ref.{now}
+use Rattle.mbus_rules.proofs.Laws.ListLaws.{at-bytes, at-bytes-end}
+use Rattle.mbus_characters.proofs.line.low_at.Statement.{statement}
+use Rattle.mbus_characters.proofs.line.low_at.Tie as tie
+
+mul-result : tie.Need-mul-result
+mul-result c = search needs
+
+shared-slice-read-result : tie.Need-shared-slice-read-result
+shared-slice-read-result c = search needs
+
+cast-result : tie.Need-cast-result
+cast-result c = search needs
+
+returns : tie.Need-returns
+returns c = let a = c .before .before .args in sym (at-bytes (now (a .line)) (a .i))
+
+returns-2 : tie.Need-returns-2
+returns-2 c = let a = c .before .args in sym (at-bytes-end (now (a .line)) (a .i) (c .if1 .left))
+
+pub low-at-spec : {M : Type 1} → statement M
+low-at-spec =
+    tie.close (tie.spec mul-result shared-slice-read-result cast-result returns returns-2)

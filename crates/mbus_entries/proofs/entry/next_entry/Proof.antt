@@ -1,0 +1,57 @@
+-- `mbus_entries::entry::next_entry` meets its contract: what 11 to 13 said, then the mark and the count. Assumes nothing.
+use borrow.Author.Needs.{needs}
+use native.Mathlib.Omega.{arith}
+use denote.Ref.{now}
+use Rattle.mbus_entries.proofs.Laws.TryLaws.{next-refused, next-few, next-seen, next-eighth, next-passed}
+use Rattle.mbus_entries.proofs.entry.next_entry.Statement.{statement}
+use Rattle.mbus_entries.proofs.entry.next_entry.Tie as tie
+
+try-entry-requires : tie.Need-try-entry-requires
+try-entry-requires c κs = search needs
+
+enum-known-passed : tie.Need-enum-known-passed
+enum-known-passed c = search needs
+
+enum-known-passed-2 : tie.Need-enum-known-passed-2
+enum-known-passed-2 c = search needs
+
+array-read-if1 : tie.Need-array-read-if1
+array-read-if1 c = omega (
+  arith,
+  next-few (now (c .before .before .before .before .before .args .rest)) (c .before .before .before .before .before .args .t2)
+      (c .before .before .before .before .before .args .count) (c .before .before .before .try-entry .ensures) (c .before .passed2 .given .1),
+)
+
+returns : tie.Need-returns
+returns c = next-seen (now (c .before .before .before .before .before .before .args .rest))
+    (c .before .before .before .before .before .before .args .t2) (c .before .before .before .before .before .before .args .count)
+    (c .before .before .before .before .try-entry .ensures) (c .before .before .passed2 .given .1) (c .if1 .taken)
+
+returns-2 : tie.Need-returns-2
+returns-2 c = next-eighth (now (c .before .before .before .before .before .before .before .args .rest))
+    (c .before .before .before .before .before .before .before .args .t2) (c .before .before .before .before .before .before .before .args .count)
+    (c .before .before .before .before .before .try-entry .ensures) (c .before .before .before .passed2 .given .1) (c .before .if1 .left)
+    (c .if2 .taken)
+
+returns-3 : tie.Need-returns-3
+returns-3 c = next-refused (now (c .before .before .before .before .before .args .rest)) (c .before .before .before .before .before .args .t2)
+    (c .before .before .before .before .before .args .count) (c .before .before .before .try-entry .ensures) (c .before .passed .given .1)
+
+returns-4 : tie.Need-returns-4
+returns-4 c = next-passed (now (c .before .before .before .before .before .before .before .args .rest))
+    (c .before .before .before .before .before .before .before .args .t2) (c .before .before .before .before .before .before .before .args .count)
+    (c .before .before .before .before .before .try-entry .ensures) (c .before .before .before .passed2 .given .1) (c .before .if1 .left)
+    (c .if2 .left)
+
+pub next-entry-spec : {M : Type 1} → statement M
+next-entry-spec =
+    tie.close
+    (tie.spec
+    try-entry-requires
+    enum-known-passed
+    enum-known-passed-2
+    array-read-if1
+    returns
+    returns-2
+    returns-3
+    returns-4)

@@ -1,0 +1,56 @@
+-- `mbus_entries::entry::value_of` meets its contract: a point in time, or packed digits. Assumes nothing.
+use borrow.Author.Needs.{needs}
+use mathlib.Core.Path.{ap, _∙_}
+use native.Mathlib.Omega.{arith}
+use borrow.Author.Tests.{eq-eqb}
+use denote.Ref.{now}
+use lib.ListN.{length-take}
+use lib.Seq.{take-all}
+use Rattle.mbus_fields.specs.Fields.{packedOf, timedOf}
+use Rattle.mbus_entries.proofs.Laws.TryLaws.{time-refused, time-holds, number-refused, number-holds}
+use Rattle.mbus_entries.proofs.entry.value_of.Statement.{statement}
+use Rattle.mbus_entries.proofs.entry.value_of.Tie as tie
+
+slice-aggregate-timed-of : tie.Need-slice-aggregate-timed-of
+slice-aggregate-timed-of c = omega
+    (arith, c .before .before .before .pre .time (eq-eqb _ _ (c .before .if1 .taken)), length-take 6 (now (c .before .before .before .args .value)))
+
+timed-of-requires : tie.Need-timed-of-requires
+timed-of-requires c κs = search needs
+
+returns : tie.Need-returns
+returns c = time-refused (now (c .before .before .before .before .before .args .value)) (c .before .before .before .if1 .taken)
+    (c .before .timed-of .ensures ∙ ap timedOf
+    (take-all 6 (now (c .before .before .before .before .before .args .value)) (c .before .before .before .before .before .pre .most)))
+    (c .if2 .taken)
+
+returns-2 : tie.Need-returns-2
+returns-2 c = time-holds (now (c .before .before .before .before .before .before .args .value)) (c .before .before .before .before .if1 .taken)
+    (c .before .before .timed-of .ensures ∙ ap timedOf
+    (take-all 6 (now (c .before .before .before .before .before .before .args .value))
+    (c .before .before .before .before .before .before .pre .most))) (c .before .if2 .left)
+
+packed-of-requires : tie.Need-packed-of-requires
+packed-of-requires c κs = search needs
+
+returns-3 : tie.Need-returns-3
+returns-3 c = number-refused (now (c .before .before .before .before .args .value)) (c .before .before .if1 .left)
+    (c .before .packed-of .ensures ∙ ap packedOf
+    (take-all 8 (now (c .before .before .before .before .args .value)) (omega (arith, c .before .before .before .before .pre .most)))) (c .if3 .taken)
+
+returns-4 : tie.Need-returns-4
+returns-4 c = number-holds (now (c .before .before .before .before .args .value)) (c .before .before .if1 .left)
+    (c .before .packed-of .ensures ∙ ap packedOf
+    (take-all 8 (now (c .before .before .before .before .args .value)) (omega (arith, c .before .before .before .before .pre .most)))) (c .if3 .left)
+
+pub value-of-spec : {M : Type 1} → statement M
+value-of-spec =
+    tie.close
+    (tie.spec
+    slice-aggregate-timed-of
+    timed-of-requires
+    returns
+    returns-2
+    packed-of-requires
+    returns-3
+    returns-4)

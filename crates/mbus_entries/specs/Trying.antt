@@ -1,0 +1,56 @@
+-- What 11 to 15 say of one entry.
+use Prim.Native.Nat.{ℕ, _≤_}
+use mathlib.Core.Bool.{Bool, true, false, not, _&&_}
+use mathlib.Core.List.{List}
+use mathlib.Core.Path.{_≡_}
+use lib.Dec.{eqb}
+use lib.ListN.{length, getD}
+use Rattle.mbus_rules.specs.declared.Value.{Value}
+use Rattle.mbus_rules.specs.declared.Entry.{Entry}
+use Rattle.mbus_rules.specs.Lists.{at, any}
+use Rattle.mbus_rules.specs.Answers.{Answer, reads, refusal, refuse, within, follow}
+use Rattle.mbus_rules.specs.Quantities.{quantityOf, widthOf, isTime}
+use Rattle.mbus_rules.specs.Digits.{overNine}
+use Rattle.mbus_rules.specs.Moments.{wrongMoment}
+use Rattle.mbus_rules.specs.Entries.{valueBytes, valueOf, unfit}
+use Rattle.mbus_entries.specs.declared.entry.Valued.{Valued}
+use Rattle.mbus_entries.specs.declared.entry.Tried.{Tried}
+
+-- what a value needs to be read: six bytes for a point in time, no more for a number
+pub record Long (unit : ℕ) (value : List ℕ) : Type 0 where
+  pub most : length value ≤ 6
+  pub time : isTime unit ≡ true → 6 ≤ length value
+
+-- the value that the bytes hold, or what 12 and 13 say of it
+abbrev pub valued : ℕ → List ℕ → Answer Value
+valued unit b = refuse 12 (not (isTime unit) && any overNine b) (refuse 13 (isTime unit && wrongMoment b) (reads (valueOf unit b)))
+
+abbrev pub valuedShown : Answer Value → Valued
+valuedShown (refusal n) = Valued.Refused n
+valuedShown (reads v) = Valued.Holds v
+
+-- an entry as it is taken off the rest: its quantity, the width of its value, and itself
+pub record Taken : Type 0 where
+  pub quantity : ℕ
+  pub width : ℕ
+  pub entry : Entry
+
+abbrev pub takenOf : List ℕ → Value → Taken
+takenOf s v = record { quantity = quantityOf (at s 1); width = widthOf (at s 0); entry = record { structure = at s 0; unit = at s 1; value = v } }
+
+-- the entry that the list begins with, or what 11, 12 and 13 say of it
+abbrev pub tried : List ℕ → Answer Taken
+tried s = refuse 11 (unfit s) (within (takenOf s) (valued (at s 1) (valueBytes s)))
+
+-- 14 and 15 of an entry that 11 to 13 let pass, where the quantities so far are marked
+abbrev pub unseen : List Bool → ℕ → Taken → Answer Taken
+unseen marks count t = refuse 14 (getD marks (t .quantity) false) (refuse 15 (eqb count 7) (reads t))
+
+-- the next entry, or what 11 to 15 say of it
+abbrev pub nextOf : List ℕ → List Bool → ℕ → Answer Taken
+nextOf s marks count = follow (tried s) (unseen marks count)
+
+-- The program's answer for each answer about one entry.
+abbrev pub triedShown : Answer Taken → Tried
+triedShown (refusal n) = Tried.Refused n
+triedShown (reads t) = Tried.Passed (t .quantity) (t .width) (t .entry)

@@ -1,0 +1,95 @@
+// One entry: what 11 to 15 say of it.
+ghost use mathlib.Core.Path.{_≡_};
+ghost use Rattle.mbus_entries.specs.Trying.{Long, valued, valuedShown, tried, triedShown, nextOf};
+use mbus_fields::digits::packed_of;
+use mbus_fields::moments::timed_of;
+use mbus_fields::quantities::UNIT_OF_TIME;
+use mbus_fields::quantities::goes_with;
+use mbus_fields::quantities::quantity_of;
+use mbus_rules::Decimal;
+use mbus_rules::Entry;
+use mbus_rules::Value;
+
+// The value of an entry, or what it is refused by.
+pub enum Valued {
+    Holds(Value),
+    Refused(u16),
+}
+
+// The quantity of an entry, the width of its value and the entry itself, or what it is refused by.
+pub enum Tried {
+    Passed(usize, usize, Entry),
+    Refused(u16),
+}
+
+// The value that the bytes hold, or what 12 and 13 say of it.
+fn value_of(unit: u8, value: &[u8]) -> Valued
+    requires { ⌜ Long unit (now value) ⌝ }
+    ensures { λ r. ⌜ r ≡ valuedShown (valued unit (now (value .entry))) ⌝ }
+{
+    if unit == UNIT_OF_TIME {
+        let time = timed_of(&value[..6]);
+        if time.wrong {
+            return Valued::Refused(13);
+        }
+        let moment = time.moment;
+        return Valued::Holds(Value::Time(moment));
+    }
+    let number = packed_of(value);
+    if number.wrong {
+        return Valued::Refused(12);
+    }
+    Valued::Holds(Value::Number(Decimal {
+        count: number.count,
+    }))
+}
+
+// The entry that the rest begins with, or what 11, 12 and 13 say of it.
+pub fn try_entry(rest: &[u8]) -> Tried
+    ensures { λ r. ⌜ r ≡ triedShown (tried (now (rest .entry))) ⌝ }
+{
+    if rest.len() < 2 {
+        return Tried::Refused(11);
+    }
+    let structure = rest[0];
+    let unit = rest[1];
+    let quantity = quantity_of(unit);
+    let paired = goes_with(structure, quantity);
+    // the low three bits of every structure that goes with a quantity are its width
+    let width = (structure % 8) as usize;
+    if !paired | (rest.len() < 2 + width) {
+        return Tried::Refused(11);
+    }
+    let value = value_of(unit, &rest[2..2 + width]);
+    match value {
+        Valued::Refused(n) => Tried::Refused(n),
+        Valued::Holds(v) => Tried::Passed(
+            quantity as usize,
+            width,
+            Entry {
+                structure,
+                unit,
+                value: v,
+            },
+        ),
+    }
+}
+
+// The entry that the rest begins with, after count entries whose quantities are marked, or what it is refused by.
+pub fn next_entry(rest: &[u8], marks: [bool; 8], count: usize) -> Tried
+    ensures { λ r. ⌜ r ≡ triedShown (nextOf (now (rest .entry)) marks count) ⌝ }
+{
+    let passed = try_entry(rest);
+    match passed {
+        Tried::Refused(n) => Tried::Refused(n),
+        Tried::Passed(quantity, width, entry) => {
+            if marks[quantity] {
+                return Tried::Refused(14);
+            }
+            if count == 7 {
+                return Tried::Refused(15);
+            }
+            Tried::Passed(quantity, width, entry)
+        }
+    }
+}

@@ -1,0 +1,5 @@
+-- What follows from the definitions, invariants of loops among it.
+pub mod WordLaws
+pub mod GatherLaws
+pub mod JoinLaws
+pub mod TableLaws

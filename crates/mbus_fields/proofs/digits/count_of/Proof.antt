@@ -1,0 +1,48 @@
+-- `mbus_fields::digits::count_of` meets its contract, step by step. Assumes nothing.
+use borrow.Author.Needs.{needs}
+use mathlib.Core.Path.{refl}
+use native.Mathlib.Omega.{arith}
+use Rattle.mbus_fields.proofs.Laws.JoinLaws.{word-joins}
+use Rattle.mbus_fields.proofs.digits.count_of.Statement.{statement}
+use Rattle.mbus_fields.proofs.digits.count_of.Tie as tie
+
+mul-twos : tie.Need-mul-twos
+mul-twos c = let j = word-joins (c .args .word) _ _ _ (omega arith) refl refl refl in omega (arith, j .first)
+
+sub-twos : tie.Need-sub-twos
+sub-twos c = let j = word-joins (c .args .word) _ _ _ (omega arith) refl refl refl in omega (arith, j .first)
+
+mul-fours : tie.Need-mul-fours
+mul-fours c = let j = word-joins (c .args .word) _ _ _ (omega arith) refl refl refl in omega (arith, j .second)
+
+sub-fours : tie.Need-sub-fours
+sub-fours c = let j = word-joins (c .args .word) _ _ _ (omega arith) refl refl refl in omega (arith, j .second)
+
+mul-eights : tie.Need-mul-eights
+mul-eights c = let j = word-joins (c .args .word) _ _ _ (omega arith) refl refl refl in omega (arith, j .third)
+
+sub-eights : tie.Need-sub-eights
+sub-eights c = let j = word-joins (c .args .word) _ _ _ (omega arith) refl refl refl in omega (arith, j .third)
+
+mul-result : tie.Need-mul-result
+mul-result c = search needs
+
+add-result : tie.Need-add-result
+add-result c = search needs
+
+returns : tie.Need-returns
+returns c = (word-joins (c .args .word) _ _ _ (omega arith) refl refl refl) .so
+
+pub count-of-spec : {M : Type 1} → statement M
+count-of-spec =
+    tie.close
+    (tie.spec
+    mul-twos
+    sub-twos
+    mul-fours
+    sub-fours
+    mul-eights
+    sub-eights
+    mul-result
+    add-result
+    returns)

@@ -1,0 +1,25 @@
+-- `mbus_fields::headers::number_of` meets its contract: the word holds what the bytes hold. Assumes nothing.
+use borrow.Author.Needs.{needs}
+use Prim.Native.Nat.{ℕ}
+use mathlib.Core.Path.{ap, _∙_}
+use native.Mathlib.Omega.{arith}
+use denote.Ref.{now}
+use Rattle.bytes_numbers.specs.Numbers.{bytesOf}
+use Rattle.mbus_fields.specs.Fields.{packedOf}
+use Rattle.mbus_fields.proofs.Laws.GatherLaws.{word-packed}
+use Rattle.mbus_fields.proofs.headers.number_of.Statement.{statement}
+use Rattle.mbus_fields.proofs.headers.number_of.Tie as tie
+
+number-at-requires : tie.Need-number-at-requires
+number-at-requires c κs = search needs
+
+packed-in-requires : tie.Need-packed-in-requires
+packed-in-requires c κs = search needs
+
+returns : tie.Need-returns
+returns c =
+    c .packed-in .ensures ∙ ap (λ (n : ℕ). packedOf (bytesOf 8 n)) (c .before .number-at .ensures .so)
+    ∙ word-packed 4 (now (c .before .before .before .args .part)) (λ i. omega (arith, c .before .before .shared-slice-known .given i)) (omega arith)
+
+pub number-of-spec : {M : Type 1} → statement M
+number-of-spec = tie.close (tie.spec number-at-requires packed-in-requires returns)

@@ -1,0 +1,24 @@
+-- `mbus_fields::moments::spare_bits` meets its contract, byte by byte. Assumes nothing.
+use borrow.Author.Needs.{needs}
+use Rattle.mbus_fields.proofs.moments.spare_bits.Statement.{statement}
+use Rattle.mbus_fields.proofs.moments.spare_bits.Tie as tie
+
+byte-at-requires : tie.Need-byte-at-requires
+byte-at-requires c κs = search needs
+
+byte-at-requires-2 : tie.Need-byte-at-requires-2
+byte-at-requires-2 c κs = search needs
+
+byte-at-requires-3 : tie.Need-byte-at-requires-3
+byte-at-requires-3 c κs = search needs
+
+byte-at-requires-4 : tie.Need-byte-at-requires-4
+byte-at-requires-4 c κs = search needs
+
+returns : tie.Need-returns
+returns c = rw (c .before .before .before .byte-at .ensures, c .before .before .byte-at2 .ensures, c .before .byte-at3 .ensures, c .byte-at4 .ensures)
+
+pub spare-bits-spec : {M : Type 1} → statement M
+spare-bits-spec =
+    tie.close
+    (tie.spec byte-at-requires byte-at-requires-2 byte-at-requires-3 byte-at-requires-4 returns)

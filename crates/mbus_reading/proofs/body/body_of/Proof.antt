@@ -1,0 +1,54 @@
+-- `mbus_reading::body::body_of` meets its contract: the header, then the entries. Assumes nothing.
+use borrow.Author.Needs.{needs}
+use denote.Ref.{now}
+use mathlib.Core.Path.{sym, ap, _∙_}
+use lib.Seq.{length-take-le}
+use Rattle.mbus_reading.proofs.Laws.BodyLaws.{rest-is, head-wrong}
+use Rattle.mbus_reading.proofs.body.body_of.Statement.{statement}
+use Rattle.mbus_reading.proofs.body.body_of.Tie as tie
+
+slice-aggregate-wrong-header : tie.Need-slice-aggregate-wrong-header
+slice-aggregate-wrong-header c = sym (length-take-le 12 (now (c .before .before .args .part)) (c .before .before .pre))
+
+wrong-header-requires : tie.Need-wrong-header-requires
+wrong-header-requires c κs = search needs
+
+blank-entry-requires : tie.Need-blank-entry-requires
+blank-entry-requires c κs = search needs
+
+returns : tie.Need-returns
+returns c = rw (
+  sym (head-wrong (now (c .before .before .before .before .before .args .part))) ∙ sym (c .before .before .wrong-header .ensures) ∙ c .before .if1 .taken,
+  c .blank-entry .ensures,
+)
+
+sub-read-entries : tie.Need-sub-read-entries
+sub-read-entries c = search needs
+
+part-read-entries-start : tie.Need-part-read-entries-start
+part-read-entries-start c = search needs
+
+part-read-entries-end : tie.Need-part-read-entries-end
+part-read-entries-end c = search needs
+
+read-entries-requires : tie.Need-read-entries-requires
+read-entries-requires c κs = search needs
+
+returns-2 : tie.Need-returns-2
+returns-2 c =
+    let d = now (c .before .before .before .before .before .before .args .part) in
+    rw (sym (head-wrong d) ∙ sym (c .before .before .before .wrong-header .ensures) ∙ c .before .before .if1 .left, ← rest-is d 12) (c .read-entries .ensures)
+
+pub body-of-spec : {M : Type 1} → statement M
+body-of-spec =
+    tie.close
+    (tie.spec
+    slice-aggregate-wrong-header
+    wrong-header-requires
+    blank-entry-requires
+    returns
+    sub-read-entries
+    part-read-entries-start
+    part-read-entries-end
+    read-entries-requires
+    returns-2)

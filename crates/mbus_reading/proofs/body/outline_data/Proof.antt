@@ -1,0 +1,33 @@
+-- `mbus_reading::body::outline_data` meets its contract. Assumes nothing.
+use borrow.Author.Needs.{needs}
+use denote.Ref.{now}
+use mathlib.Core.Path.{sym, ap, _∙_}
+use Rattle.mbus_rules.specs.Views.{viewed}
+use Rattle.mbus_reading.proofs.Laws.BodyLaws.{data-refused, data-outlined}
+use Rattle.mbus_reading.proofs.body.outline_data.Statement.{statement}
+use Rattle.mbus_reading.proofs.body.outline_data.Tie as tie
+
+body-of-requires : tie.Need-body-of-requires
+body-of-requires c κs = search needs
+
+enum-known-outcome : tie.Need-enum-known-outcome
+enum-known-outcome c = search needs
+
+enum-told : tie.Need-enum-told
+enum-told c = search needs
+
+returns : tie.Need-returns
+returns c =
+    ap viewed
+    (sym
+    (data-refused (c .before .before .before .before .before .args .address) (now (c .before .before .before .before .before .args .part))
+    (c .before .before .before .body-of .result) (c .before .before .before .body-of .ensures) _ (c .before .outcome .given .1)))
+
+returns-2 : tie.Need-returns-2
+returns-2 c =
+    data-outlined (c .before .before .before .before .args .address) (now (c .before .before .before .before .args .part))
+    (c .before .before .body-of .result) (c .before .before .body-of .ensures) (c .enum-told .given .1)
+
+pub outline-data-spec : {M : Type 1} → statement M
+outline-data-spec =
+    tie.close (tie.spec body-of-requires enum-known-outcome enum-told returns returns-2)

@@ -1,0 +1,101 @@
+-- `mbus_reading::body::read_in` meets its contract: the shape, and what it leaves to be read. Assumes nothing.
+use borrow.Author.Needs.{needs}
+use denote.Ref.{now}
+use Prim.Native.Nat.{_-_}
+use native.Mathlib.Omega.{arith}
+use lib.ListN.{length, drop, length-take, length-drop}
+use mathlib.Core.Path.{sym, ap, _∙_}
+use Rattle.mbus_rules.specs.Telegrams.{shown}
+use Rattle.mbus_shape.proofs.Laws.LeftLaws.{left-by}
+use Rattle.mbus_reading.proofs.body.read_in.Statement.{statement}
+use Rattle.mbus_reading.proofs.body.read_in.Tie as tie
+
+shape-of-requires : tie.Need-shape-of-requires
+shape-of-requires c κs = search needs
+
+enum-known-shape : tie.Need-enum-known-shape
+enum-known-shape c = search needs
+
+sub-read-data : tie.Need-sub-read-data
+sub-read-data c = let h = left-by (now (c .before .before .before .before .before .args .bytes)) (c .before .before .before .shape-of .ensures)
+    (c .before .shape .given .1) in omega (arith, h .0)
+
+sub-read-data-2 : tie.Need-sub-read-data-2
+sub-read-data-2 c = let h = left-by (now (c .before .before .before .before .before .args .bytes)) (c .before .before .before .shape-of .ensures)
+    (c .before .shape .given .1) in omega (arith, h .0)
+
+part-read-data-start : tie.Need-part-read-data-start
+part-read-data-start c = let h = left-by (now (c .before .before .before .before .before .args .bytes)) (c .before .before .before .shape-of .ensures)
+    (c .before .shape .given .1) in omega (arith, h .0)
+
+part-read-data-end : tie.Need-part-read-data-end
+part-read-data-end c = search needs
+
+read-data-requires : tie.Need-read-data-requires
+read-data-requires c κs =
+    let b = now (c .before .before .before .before .before .before .args .bytes) in
+    let h = left-by (now (c .before .before .before .before .before .before .args .bytes)) (c .before .before .before .before .shape-of .ensures)
+    (c .before .before .shape .given .1) in
+    omega (arith, h .0, length-take (length b - 2 - 7) (drop 7 b), length-drop 7 b)
+
+enum-known-shape-2 : tie.Need-enum-known-shape-2
+enum-known-shape-2 c = search needs
+
+refused-requires : tie.Need-refused-requires
+refused-requires c κs = search needs
+
+enum-told : tie.Need-enum-told
+enum-told c = search needs
+
+plain-requires : tie.Need-plain-requires
+plain-requires c κs = search needs
+
+enum-known-shape-3 : tie.Need-enum-known-shape-3
+enum-known-shape-3 c = search needs
+
+asked-requires : tie.Need-asked-requires
+asked-requires c κs = search needs
+
+returns : tie.Need-returns
+returns c = let h = left-by (now (c .before .before .before .before .before .before .before .args .bytes))
+    (c .before .before .before .before .before .shape-of .ensures) (c .before .before .before .shape .given .1) in c .read-data .ensures ∙ ap shown
+    (sym (h .1))
+
+returns-2 : tie.Need-returns-2
+returns-2 c = c .refused .ensures ∙ ap shown
+    (sym
+    (left-by (now (c .before .before .before .before .before .before .args .bytes)) (c .before .before .before .before .shape-of .ensures)
+    (c .before .before .shape2 .given .1)))
+
+returns-3 : tie.Need-returns-3
+returns-3 c = c .plain .ensures ∙ ap shown
+    (sym
+    (left-by (now (c .before .before .before .before .before .args .bytes)) (c .before .before .before .shape-of .ensures) (c .before .enum-told .given .1)))
+
+returns-4 : tie.Need-returns-4
+returns-4 c = c .asked .ensures ∙ ap shown
+    (sym
+    (left-by (now (c .before .before .before .before .before .before .args .bytes)) (c .before .before .before .before .shape-of .ensures)
+    (c .before .before .shape3 .given .1)))
+
+pub read-in-spec : {M : Type 1} → statement M
+read-in-spec =
+    tie.close
+    (tie.spec
+    shape-of-requires
+    enum-known-shape
+    sub-read-data
+    sub-read-data-2
+    part-read-data-start
+    part-read-data-end
+    read-data-requires
+    enum-known-shape-2
+    refused-requires
+    enum-told
+    plain-requires
+    enum-known-shape-3
+    asked-requires
+    returns
+    returns-2
+    returns-3
+    returns-4)

@@ -1,0 +1,117 @@
+// What is read of the bytes of a line: its shape, and the header and the entries of a data telegram.
+ghost use mathlib.Core.Path.{_≡_};
+ghost use Prim.Native.Nat.{_≤_};
+ghost use lib.ListN.{length};
+ghost use Rattle.mbus_rules.specs.Answers.{reads};
+ghost use Rattle.mbus_rules.specs.Lines.{readBody, readData, readFrame};
+ghost use Rattle.mbus_rules.specs.Telegrams.{shown};
+ghost use Rattle.mbus_rules.specs.Views.{viewed};
+ghost use Rattle.mbus_entries.specs.Walking.{entriesShown};
+ghost use Rattle.mbus_shape.specs.Shapes.{askedOf};
+ghost use Rattle.mbus_reading.specs.Outlines.{bodyOf};
+use mbus_entries::Entries;
+use mbus_entries::read_entries;
+use mbus_fields::headers::header_of;
+use mbus_fields::headers::wrong_header;
+use mbus_rules::Kind;
+use mbus_rules::Outcome;
+use mbus_rules::Reading;
+use mbus_rules::Request;
+use mbus_rules::Telegram;
+use mbus_rules::View;
+use mbus_shape::shape_of;
+use mbus_telegrams::blank_entry;
+use mbus_telegrams::plain;
+use mbus_telegrams::refused;
+
+// 10 to 16, of what stands behind CI: the entries, or the number of a refusal.
+fn body_of(part: &[u8]) -> Entries
+    requires { ⌜ 12 ≤ length (now part) ⌝ }
+    ensures { λ r. ⌜ r ≡ entriesShown (bodyOf (now (part .entry))) ⌝ }
+{
+    if wrong_header(&part[..12]) {
+        let blank = blank_entry();
+        return Entries {
+            outcome: Outcome::Refused(10),
+            count: 0,
+            entries: [blank; 7],
+        };
+    }
+    read_entries(&part[12..])
+}
+
+// The outline of a data telegram.
+fn outline_data(address: u8, part: &[u8]) -> View
+    requires { ⌜ 12 ≤ length (now part) ⌝ }
+    ensures { λ r. ⌜ r ≡ viewed (readData address (now (part .entry))) ⌝ }
+{
+    let body = body_of(part);
+    let outcome = body.outcome;
+    match outcome {
+        Outcome::Refused(n) => View::Refused(n),
+        Outcome::Accepted => View::Data(address),
+    }
+}
+
+// The rules 4 to 16, without a telegram.
+pub(crate) fn outline_in(bytes: &[u8]) -> View
+    ensures { λ r. ⌜ r ≡ viewed (readFrame readBody (now (bytes .entry))) ⌝ }
+{
+    let shape = shape_of(bytes);
+    match shape {
+        View::Data(address) => outline_data(address, &bytes[7..bytes.len() - 2]),
+        View::Refused(n) => View::Refused(n),
+        View::Ack => View::Ack,
+        View::Asks(request) => View::Asks(request),
+    }
+}
+
+// The telegram of a request.
+fn asked(request: Request) -> Reading
+    ensures { λ r. ⌜ r ≡ shown (reads (askedOf request)) ⌝ }
+{
+    match request {
+        Request::Read(address) => plain(Kind::Read, address, 0),
+        Request::Enter(address, method) => plain(Kind::Enter, address, method),
+        Request::Leave(address) => plain(Kind::Leave, address, 0),
+    }
+}
+
+// The header and the entries of a data telegram.
+fn read_data(address: u8, part: &[u8]) -> Reading
+    requires { ⌜ 12 ≤ length (now part) ⌝ }
+    ensures { λ r. ⌜ r ≡ shown (readData address (now (part .entry))) ⌝ }
+{
+    let body = body_of(part);
+    let outcome = body.outcome;
+    if let Outcome::Refused(n) = outcome {
+        return refused(n);
+    }
+    let header = header_of(&part[..12]);
+    let entries = body.entries;
+    let telegram = Telegram {
+        kind: Kind::Data,
+        address,
+        method: 0,
+        header,
+        count: body.count,
+        entries,
+    };
+    Reading {
+        outcome: Outcome::Accepted,
+        telegram,
+    }
+}
+
+// The rules 4 to 16.
+pub(crate) fn read_in(bytes: &[u8]) -> Reading
+    ensures { λ r. ⌜ r ≡ shown (readFrame readBody (now (bytes .entry))) ⌝ }
+{
+    let shape = shape_of(bytes);
+    match shape {
+        View::Data(address) => read_data(address, &bytes[7..bytes.len() - 2]),
+        View::Refused(n) => refused(n),
+        View::Ack => plain(Kind::Ack, 0, 0),
+        View::Asks(request) => asked(request),
+    }
+}

@@ -1,0 +1,249 @@
+-- One entry both ways, and all entries both ways.
+use Prim.Native.Nat.{ℕ, zero, suc, _+_, _^_, _<_, _≤_}
+use mathlib.Core.Bool.{Bool, true, false, not, _&&_, _||_, false≢true, and-false}
+use mathlib.Core.List.{List, [], _∷_, _++_, append-assoc, append-nil}
+use mathlib.Core.Path.{_≡_, refl, sym, ap, ap₂, _∙_}
+use native.Mathlib.Nat.{not-suc-le-zero}
+use native.Mathlib.Omega.{arith}
+use borrow.Author.Tests.{ltb-true, ltb-false, lt-ltb, le-ltb, lt-leb, eqb-true, eqb-false, ne-eqb, not-false}
+use lib.Dec.{ltb, leb, eqb}
+use lib.ListN.{length, take, drop, length-drop, length-append, take-append-drop}
+use lib.Seq.{length-take-le, take-add, take-at, drop-at, drop-drop}
+use Rattle.mbus_rules.specs.declared.Value.{Value}
+use Rattle.mbus_rules.specs.declared.Value.the-variants.{Number, Time}
+use Rattle.mbus_rules.specs.declared.Entry.{Entry}
+use Rattle.mbus_rules.specs.Lists.{at, any}
+use Rattle.mbus_rules.specs.Answers.{reads}
+use Rattle.mbus_rules.specs.Digits.{overNine, digitsOf}
+use Rattle.mbus_rules.specs.Moments.{dateExists, timeExists, wrongMoment}
+use Rattle.mbus_rules.specs.Quantities.{quantityOf, widthOf, paired, isTime, isPacked, unknown, between}
+use Rattle.mbus_rules.specs.Entries.{valueBytes, entryWidth, valueOf, entryOf, unfit, wrongDigit, wrongTime, seen, missing, readEntries}
+use Rattle.mbus_rules.specs.Writing.{bytesOfValue, bytesOfEntry, bytesOfEntries, wrongValue, wrongEntry, repeats}
+use Rattle.mbus_rules.proofs.Laws.TestLaws.{none, not-refused, all-passed, all-passing}
+use Rattle.mbus_rules.proofs.Laws.Tests.{by-test, passed}
+use Rattle.mbus_rules.proofs.Laws.AnswerLaws.{reads-same}
+use Rattle.mbus_rules.specs.Bytes.{Bytes}
+use Rattle.mbus_rules.proofs.Laws.ByteLaws.{bytes-append, bytes-take, bytes-drop, spell}
+use Rattle.mbus_rules.proofs.Laws.DigitLaws.{packed-digits, digits-below, digits-packed, packed-right, length-packed, bytes-packed}
+use Rattle.mbus_rules.proofs.Laws.MomentLaws.{MomentRead, moment-read, MomentWritten, moment-written}
+
+-- ---- the value
+
+record ValueRead (w u : ℕ) (b : List ℕ) : Type 0 where
+  pub back : bytesOfValue w (valueOf u b) ≡ b
+  pub right : wrongValue w u (valueOf u b) ≡ false
+
+value-read : (w u : ℕ) (b : List ℕ) → length b ≡ w → (isTime u ≡ true → w ≡ 6) → Bytes b → (not (isTime u) && any overNine b) ≡ false
+    → (isTime u && wrongMoment b) ≡ false → ValueRead w u b
+value-read w u b e six bytes digits moment = by-test (isTime u) timed counted
+  where
+    timed : isTime u ≡ true → ValueRead w u b
+    timed q =
+        let m : MomentRead b = moment-read b (e ∙ six q) bytes (rw q at moment) in
+        record {
+          back = rw q (m .back);
+          right = rw (q, q, m .date, m .hour);
+        }
+
+    counted : isTime u ≡ false → ValueRead w u b
+    counted q =
+        let d : any overNine b ≡ false = rw q at digits in
+        record {
+          back = rw (q, ← e) (packed-digits b d);
+          right = rw (q, q, lt-ltb (digitsOf b) (100 ^ w) (rw e at (digits-below b d)));
+        }
+
+record ValueWritten (w u : ℕ) (v : Value) : Type 0 where
+  pub width : length (bytesOfValue w v) ≡ w
+  pub back : valueOf u (bytesOfValue w v) ≡ v
+  pub digits : (not (isTime u) && any overNine (bytesOfValue w v)) ≡ false
+  pub moment : (isTime u && wrongMoment (bytesOfValue w v)) ≡ false
+  pub bytes : Bytes (bytesOfValue w v)
+
+value-written : (w u : ℕ) (v : Value) → (isTime u ≡ true → w ≡ 6) → wrongValue w u v ≡ false → ValueWritten w u v
+value-written w u (Number d) six e =
+    let k = none (isTime u) (not (ltb (d .count) (100 ^ w)) ∷ []) e in
+    let small : d .count < 100 ^ w = ltb-true (d .count) (100 ^ w) (not-false (ltb (d .count) (100 ^ w)) (k .1 .0)) in
+    record {
+      width = length-packed w (d .count);
+      back = rw (k .0, digits-packed w (d .count) small);
+      digits = rw (k .0, packed-right w (d .count));
+      moment = rw (k .0);
+      bytes = bytes-packed w (d .count);
+    }
+value-written w u (Time m) six e =
+    let k = none (not (isTime u)) (not (dateExists m) ∷ not (timeExists m) ∷ []) e in
+    let q : isTime u ≡ true = not-false (isTime u) (k .0) in
+    let s : MomentWritten m = moment-written m (not-false (dateExists m) (k .1 .0)) (not-false (timeExists m) (k .1 .1 .0)) in
+    record {
+      width = sym (six q);
+      back = rw (q, s .back);
+      digits = rw q;
+      moment = rw (q, s .right);
+      bytes = s .bytes;
+    }
+
+-- ---- one entry
+
+-- a point in time is six bytes wide
+pub six-wide : (st u : ℕ) → paired st u ≡ true → isTime u ≡ true → widthOf st ≡ 6
+unfolding paired widthOf
+six-wide st u e q = rw (eqb-true st 0x06 (rw q at e))
+
+-- the structures and units that 01 knows are bytes
+between-past : (low high u : ℕ) → high < u → between low high u ≡ false
+between-past low high u h = rw (lt-leb u high h) (and-false (leb low u))
+
+unit-unknown : (u : ℕ) → 256 ≤ u → quantityOf u ≡ unknown
+unfolding quantityOf
+unit-unknown u h =
+    rw (
+      between-past 0x00 0x07 u (omega arith),
+      between-past 0x10 0x17 u (omega arith),
+      between-past 0x28 0x2F u (omega arith),
+      between-past 0x38 0x3F u (omega arith),
+      between-past 0x58 0x5B u (omega arith),
+      between-past 0x5C 0x5F u (omega arith),
+      ne-eqb u 0x6D (omega arith),
+    )
+
+paired-bytes : (st u : ℕ) → paired st u ≡ true → (st < 256) × (u < 256)
+unfolding paired
+paired-bytes st u e =
+    let nost : 256 ≤ st → ⊥ = λ h.
+    by-test (isTime u) (λ q. false≢true (rw (q, ne-eqb st 0x06 (omega arith)) at e))
+    (λ q. false≢true (rw (q, ne-eqb st 0x0A (omega arith), ne-eqb st 0x0B (omega arith), ne-eqb st 0x0C (omega arith), ne-eqb st 0x0E (omega arith)) at e)) in
+    let nou : 256 ≤ u → ⊥ = λ h. false≢true (rw (ne-eqb u 0x6D (omega arith), unit-unknown u h, and-false (isPacked st)) at e) in
+    omega arith
+
+pub record EntryRead (s : List ℕ) : Type 0 where
+  pub back : bytesOfEntry (entryOf s) ≡ take (entryWidth s) s
+  pub right : wrongEntry (entryOf s) ≡ false
+  pub ends : entryWidth s ≤ length s
+
+pub entry-read : (s : List ℕ) → Bytes s → unfit s ≡ false → wrongDigit s ≡ false → wrongTime s ≡ false → EntryRead s
+entry-read s bytes e digits moment =
+    let k = none (ltb (length s) 2) (not (paired (at s 0) (at s 1)) ∷ ltb (length s) (entryWidth s) ∷ []) e in
+    let pair : paired (at s 0) (at s 1) ≡ true = not-false (paired (at s 0) (at s 1)) (k .1 .0) in
+    let w : length (valueBytes s) ≡ widthOf (at s 0) =
+    length-take-le (widthOf (at s 0)) (drop 2 s) (rw (length-drop 2 s) (omega (arith, ltb-false))) in
+    let v = value-read (widthOf (at s 0)) (at s 1) (valueBytes s) w (six-wide (at s 0) (at s 1) pair)
+    (bytes-take (widthOf (at s 0)) (drop 2 s) (bytes-drop 2 s bytes)) digits moment in
+    record {
+      back = rw (take-add 2 (widthOf (at s 0)) s, spell 2 0 s (omega (arith, ltb-false))) (ap (λ (l : List ℕ). at s 0 ∷ at s 1 ∷ l) (v .back));
+      right = rw pair (v .right);
+      ends = omega (arith, ltb-false);
+    }
+
+pub record EntryWritten (e : Entry) (rest : List ℕ) : Type 0 where
+  pub fit : unfit (bytesOfEntry e ++ rest) ≡ false
+  pub digits : wrongDigit (bytesOfEntry e ++ rest) ≡ false
+  pub moment : wrongTime (bytesOfEntry e ++ rest) ≡ false
+  pub back : entryOf (bytesOfEntry e ++ rest) ≡ e
+  pub after : drop (entryWidth (bytesOfEntry e ++ rest)) (bytesOfEntry e ++ rest) ≡ rest
+  pub width : length (bytesOfEntry e) ≡ 2 + widthOf (e .structure)
+  pub bytes : Bytes (bytesOfEntry e)
+
+pub entry-written : (e : Entry) (rest : List ℕ) → wrongEntry e ≡ false → EntryWritten e rest
+entry-written e rest h =
+    let st : ℕ = e .structure in
+    let u : ℕ = e .unit in
+    let w : ℕ = widthOf (e .structure) in
+    let b : List ℕ = bytesOfValue (widthOf (e .structure)) (e .value) in
+    let k = none (not (paired st u)) (wrongValue w u (e .value) ∷ []) h in
+    let pair : paired st u ≡ true = not-false (paired st u) (k .0) in
+    let known : (st < 256) × (u < 256) = paired-bytes st u pair in
+    let v : ValueWritten w u (e .value) = value-written w u (e .value) (six-wide st u pair) (k .1 .0) in
+    let cut : take w (b ++ rest) ≡ b = take-at b rest w (v .width) in
+    let size : length (b ++ rest) ≡ w + length rest = length-append b rest ∙ ap (λ (n : ℕ). n + length rest) (v .width) in
+    record {
+      fit =
+          rw (le-ltb (suc (suc (length (b ++ rest)))) 2 (omega arith), pair, le-ltb (suc (suc (length (b ++ rest)))) (2 + w) (omega arith));
+      digits = rw cut (v .digits);
+      moment = rw cut (v .moment);
+      back = λ i. record { structure = st; unit = u; value = (ap (valueOf u) cut ∙ v .back) i };
+      after = sym (drop-drop w 2 (st ∷ u ∷ (b ++ rest))) ∙ drop-at b rest w (v .width);
+      width = omega (arith, v .width);
+      bytes = (known .0, (known .1, v .bytes));
+    }
+
+-- ---- all entries
+
+pub record EntriesRead (s : List ℕ) (done es : List Entry) : Type 0 where
+  pub more : List Entry
+  pub joins : es ≡ done ++ more
+  pub back : bytesOfEntries more ≡ s
+  pub right : any wrongEntry more ≡ false
+  pub once : repeats done more ≡ false
+  pub whole : missing es ≡ false
+  pub few : length es ≤ 7
+
+-- an entry that is read, before others
+entry-before : (s : List ℕ) (done es : List Entry) → EntryRead s → seen (quantityOf (at s 1)) done ≡ false
+    → EntriesRead (drop (entryWidth s) s) (done ++ (entryOf s ∷ [])) es → EntriesRead s done es
+unfolding bytesOfEntries any repeats
+entry-before s done es o unseen r =
+    record {
+      more = entryOf s ∷ r .more;
+      joins = r .joins ∙ append-assoc done (entryOf s ∷ []) (r .more);
+      back = ap₂ (λ (a b : List ℕ). a ++ b) (o .back) (r .back) ∙ take-append-drop (entryWidth s) s;
+      right = ap₂ (λ (a b : Bool). a || b) (o .right) (r .right);
+      once = ap₂ (λ (a b : Bool). a || b) unseen (r .once);
+      whole = r .whole;
+      few = r .few;
+    }
+
+pub entries-read : (left : ℕ) (s : List ℕ) (done es : List Entry) → Bytes s → length done ≤ 7 → readEntries left s done ≡ reads es → EntriesRead s done es
+unfolding readEntries bytesOfEntries any repeats
+entries-read zero s done es bytes few e = absurd (not-refused e)
+entries-read (suc left) [] done es bytes few e =
+    let k = passed 16 (missing done) (reads done) es e in
+    let same : done ≡ es = reads-same (k .1) in
+    record {
+      more = [];
+      joins = sym same ∙ sym (append-nil done);
+      back = refl;
+      right = refl;
+      once = refl;
+      whole = rw same at (k .0);
+      few = rw same at few;
+    }
+entries-read (suc left) (b ∷ t) done es bytes few e =
+    let s : List ℕ = b ∷ t in
+    let x : Entry = entryOf s in
+    let k =
+    all-passed ((11, unfit s) ∷ (12, wrongDigit s) ∷ (13, wrongTime s) ∷ (14, seen (quantityOf (at s 1)) done) ∷ (15, eqb (length done) 7) ∷ [])
+    (readEntries left (drop (entryWidth s) s) (done ++ (x ∷ []))) e in
+    let o : EntryRead s = entry-read s bytes (k .0 .0) (k .0 .1 .0) (k .0 .1 .1 .0) in
+    let room : length done ≡ 7 → ⊥ = eqb-false (length done) 7 (k .0 .1 .1 .1 .1 .0) in
+    let r : EntriesRead (drop (entryWidth s) s) (done ++ (x ∷ [])) es =
+    entries-read left (drop (entryWidth s) s) (done ++ (x ∷ [])) es (bytes-drop (entryWidth s) s bytes)
+    (rw (length-append done (x ∷ [])) (omega arith)) (k .1) in
+    entry-before s done es o (k .0 .1 .1 .1 .0) r
+
+pub entries-written : (left : ℕ) (done more : List Entry) → any wrongEntry more ≡ false → repeats done more ≡ false → missing (done ++ more) ≡ false
+    → length done + length more ≤ 7 → length more < left → readEntries left (bytesOfEntries more) done ≡ reads (done ++ more)
+unfolding readEntries bytesOfEntries any repeats
+entries-written zero done more right once whole few fuel = absurd (not-suc-le-zero fuel)
+entries-written (suc left) done [] right once whole few fuel = rw (append-nil, rw append-nil at whole)
+entries-written (suc left) done (e ∷ more) right once whole few fuel =
+    let r = none (wrongEntry e) (any wrongEntry more ∷ []) right in
+    let o = none (seen (quantityOf (e .unit)) done) (repeats (done ++ (e ∷ [])) more ∷ []) once in
+    let rest : List ℕ = bytesOfEntries more in
+    let s : List ℕ = bytesOfEntry e ++ bytesOfEntries more in
+    let w : EntryWritten e rest = entry-written e rest (r .0) in
+    let tail : readEntries left rest (done ++ (e ∷ [])) ≡ reads (done ++ (e ∷ []) ++ more) =
+    entries-written left (done ++ (e ∷ [])) more (r .1 .0) (o .1 .0) (rw append-assoc whole) (rw (length-append done (e ∷ [])) (omega arith)) (omega arith) in
+    all-passing ((11, unfit s) ∷ (12, wrongDigit s) ∷ (13, wrongTime s) ∷ (14, seen (quantityOf (at s 1)) done) ∷ (15, eqb (length done) 7) ∷ [])
+    (readEntries left (drop (entryWidth s) s) (done ++ (entryOf s ∷ [])))
+    (w .fit, (w .digits, (w .moment, (o .0, (ne-eqb (length done) 7 (omega arith), tt)))))
+    ∙ ap₂ (λ (l : List ℕ) (x : Entry). readEntries left l (done ++ (x ∷ []))) (w .after) (w .back)
+    ∙ tail
+    ∙ ap (λ (l : List Entry). reads l) (append-assoc done (e ∷ []) more)
+
+pub entries-bytes : (es : List Entry) → any wrongEntry es ≡ false → Bytes (bytesOfEntries es)
+unfolding any bytesOfEntries
+entries-bytes [] h = tt
+entries-bytes (e ∷ es) h =
+    let k = none (wrongEntry e) (any wrongEntry es ∷ []) h in
+    bytes-append (bytesOfEntry e) (bytesOfEntries es) (entry-written e [] (k .0) .bytes) (entries-bytes es (k .1 .0))

@@ -1,0 +1,94 @@
+-- Laws about `at`, `any` and `total`, as loops over a list use them.
+use Prim.Native.Nat.{ℕ, zero, suc, _+_, _-_, _%_, _≤_, _<_, zero-le}
+use mathlib.Core.Bool.{Bool, false, _||_, or-assoc, or-false}
+use mathlib.Core.List.{List, [], _∷_, _++_, map}
+use mathlib.Core.Path.{_≡_, refl, sym, ap, _∙_}
+use native.Mathlib.Numerals.{add-one}
+use lib.ListN.{length, getD, take, drop, drop-of-length-le, List·getD-map, List·getD-eq-default}
+use lib.Seq.{drop-cons, take-nil}
+use native.Mathlib.Nat.{add-zero, zero-add, sub-zero, suc-sub-suc, zero-sub}
+use native.Mathlib.Omega.{arith}
+use Rattle.mbus_rules.specs.Lists.{at, any, total}
+use Rattle.mbus_rules.specs.Characters.{byteOf}
+
+-- A loop that gathers: what was found so far, or is still to be found, is what there is.
+pub record Gathered {A : Type 0} (test : A → Bool) (s : List A) (i : ℕ) (found : Bool) : Type 0 where
+  pub inside : i ≤ length s
+  pub so : (found || any test (drop i s)) ≡ any test s
+
+pub gathered-none : {A : Type 0} {test : A → Bool} {s : List A} → Gathered test s 0 false
+gathered-none = record { inside = zero-le; so = refl }
+
+pub gathered-next : {A : Type 0} {test : A → Bool} {s : List A} {i : ℕ} {found : Bool} (d : A)
+    → Gathered test s i found → i < length s → Gathered test s (i + 1) (found || test (getD s i d))
+unfolding any
+gathered-next {test = test} {s} {i} {found} d g h = record {
+  inside = omega arith;
+  so =
+      or-assoc found (test (getD s i d)) (any test (drop (i + 1) s))
+      ∙ ap (λ (l : Bool). found || l) (rw add-one (ap (any test) (sym (drop-cons s i d h)))) ∙ g .so;
+}
+
+pub gathered-all : {A : Type 0} {test : A → Bool} {s : List A} {i : ℕ} {found : Bool} → Gathered test s i found → length s ≤ i → found ≡ any test s
+unfolding any
+gathered-all {test = test} {s} {i} {found} g h = sym (or-false found) ∙ ap (λ (l : List _). found || any test l) (sym (drop-of-length-le s h)) ∙ g .so
+
+-- A loop that sums whole characters: what was summed so far and is still to be summed is the sum of the bytes, modulo 256.
+pub record Summed (s : List ℕ) (i sum : ℕ) : Type 0 where
+  pub inside : i ≤ length s
+  pub so : (sum + total (map byteOf (drop i s))) % 256 ≡ total (map byteOf s) % 256
+
+pub summed-none : {s : List ℕ} → Summed s 0 0
+summed-none {s} = record { inside = zero-le; so = rw zero-add }
+
+carried : (c sum rest : ℕ) → ((sum + c) % 65536 + rest) % 256 ≡ (sum + (c % 256 + rest)) % 256
+carried c sum rest = omega arith
+
+pub summed-next : {s : List ℕ} {i sum : ℕ} → Summed s i sum → i < length s → Summed s (i + 1) ((sum + at s i) % 65536)
+unfolding total
+summed-next {s} {i} {sum} g h = record {
+  inside = omega arith;
+  so =
+      rw add-one (carried (at s i) sum (total (map byteOf (drop (suc i) s))))
+      ∙ ap (λ (l : List ℕ). (sum + total (map byteOf l)) % 256) (sym (drop-cons s i 0 h)) ∙ g .so;
+}
+
+pub summed-all : {s : List ℕ} {i sum : ℕ} → Summed s i sum → length s ≤ i → sum % 256 ≡ total (map byteOf s) % 256
+unfolding total
+summed-all {s} {i} {sum} g h =
+    ap (λ (n : ℕ). n % 256) (sym (add-zero sum)) ∙ ap (λ (l : List ℕ). (sum + total (map byteOf l)) % 256) (sym (drop-of-length-le s h)) ∙ g .so
+
+-- the rest of a beginning
+pub drop-take : (a m : ℕ) (s : List ℕ) → drop a (take m s) ≡ take (m - a) (drop a s)
+drop-take zero m s = rw sub-zero
+drop-take (suc a) zero s = rw zero-sub
+drop-take (suc a) (suc m) [] = sym (take-nil (suc m - suc a))
+drop-take (suc a) (suc m) (x ∷ s) = rw suc-sub-suc (drop-take a m s)
+
+-- the byte at a place of a line is the byte of the character there
+pub map-drop : {A B : Type 0} (f : A → B) (i : ℕ) (s : List A) → map f (drop i s) ≡ drop i (map f s)
+map-drop f zero s = refl
+map-drop f (suc i) [] = refl
+map-drop f (suc i) (x ∷ s) = map-drop f i s
+
+pub map-take : {A B : Type 0} (f : A → B) (i : ℕ) (s : List A) → map f (take i s) ≡ take i (map f s)
+map-take f zero s = refl
+map-take f (suc i) [] = refl
+map-take f (suc i) (x ∷ s) = ap (λ (l : List _). f x ∷ l) (map-take f i s)
+
+pub any-map : {A B : Type 0} (test : B → Bool) (f : A → B) (s : List A) → any (λ (x : A). test (f x)) s ≡ any test (map f s)
+unfolding any
+any-map test f [] = refl
+any-map test f (x ∷ s) = ap (λ (found : Bool). test (f x) || found) (any-map test f s)
+
+-- the byte at a place is the byte of the character there
+pub at-bytes : (s : List ℕ) (i : ℕ) → at (map byteOf s) i ≡ byteOf (at s i)
+at-bytes s i = List·getD-map byteOf s i 0
+
+pub at-bytes-end : (s : List ℕ) (i : ℕ) → length s ≤ i → at (map byteOf s) i ≡ 0
+at-bytes-end s i h = at-bytes s i ∙ ap byteOf (List·getD-eq-default s 0 h)
+
+pub any-snoc : {A : Type 0} (test : A → Bool) (s : List A) (x : A) → any test (s ++ (x ∷ [])) ≡ (any test s || test x)
+unfolding any
+any-snoc test [] x = or-false (test x)
+any-snoc test (y ∷ s) x = ap (λ (found : Bool). test y || found) (any-snoc test s x) ∙ sym (or-assoc (test y) (any test s) (test x))

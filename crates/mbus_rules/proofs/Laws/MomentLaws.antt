@@ -1,0 +1,100 @@
+-- A point in time both ways, in six bytes.
+use Prim.Native.Nat.{ℕ, _+_, _*_, _/_, _%_, _<_, _≤_}
+use mathlib.Core.Bool.{true, false, cond, not, _&&_, _||_}
+use mathlib.Core.List.{List, [], _∷_}
+use mathlib.Core.Path.{_≡_, sym, ap, _∙_}
+use native.Mathlib.Omega.{arith}
+use borrow.Author.Tests.{ltb-true, ltb-false, leb-true, le-ltb, not-false}
+use lib.Dec.{ltb, leb, eqb, lit≤}
+use lib.ListN.{length}
+use Rattle.mbus_rules.specs.declared.Moment.{Moment}
+use Rattle.mbus_rules.specs.Lists.{at}
+use Rattle.mbus_rules.specs.Moments.{momentOf, spareBits, daysIn, february, leap, shortMonth, dateExists, timeExists, wrongMoment}
+use Rattle.mbus_rules.specs.Writing.{momentBytes}
+use Rattle.mbus_rules.proofs.Laws.TestLaws.{none, every, picked}
+use Rattle.mbus_rules.specs.Bytes.{Bytes}
+use Rattle.mbus_rules.proofs.Laws.ByteLaws.{byte-at, spell-whole}
+
+-- ---- from bytes to a point in time and back
+
+pub record MomentRead (b : List ℕ) : Type 0 where
+  pub back : momentBytes (momentOf b) ≡ b
+  pub date : dateExists (momentOf b) ≡ true
+  pub hour : timeExists (momentOf b) ≡ true
+
+pub moment-read : (b : List ℕ) → length b ≡ 6 → Bytes b → wrongMoment b ≡ false → MomentRead b
+unfolding wrongMoment
+moment-read b e bytes h =
+    let k = none (ltb 63 (at b 0)) (ltb 63 (at b 1) ∷ ltb 31 (at b 2) ∷ ltb 0 (at b 5) ∷ not (dateExists (momentOf b)) ∷ not (timeExists (momentOf b)) ∷ [])
+    h in
+    let b₃ : at b 3 < 256 = byte-at b bytes 3 in
+    let q₀ : at b 0 % 64 ≡ at b 0 = omega (arith, ltb-false) in
+    let q₁ : at b 1 % 64 ≡ at b 1 = omega (arith, ltb-false) in
+    let q₂ : at b 2 % 32 ≡ at b 2 = omega (arith, ltb-false) in
+    let q₃ : 32 * ((at b 4 / 16 * 8 + at b 3 / 32) % 8) + at b 3 % 32 ≡ at b 3 = omega arith in
+    let q₄ : 16 * ((at b 4 / 16 * 8 + at b 3 / 32) / 8) + at b 4 % 16 ≡ at b 4 = omega arith in
+    let q₅ : 0 ≡ at b 5 = omega (arith, ltb-false) in
+    record {
+      back = sym (spell-whole 6 b e ∙ rw (q₀, q₁, q₂, q₃, q₄, ← q₅));
+      date = not-false (dateExists (momentOf b)) (k .1 .1 .1 .1 .0);
+      hour = not-false (timeExists (momentOf b)) (k .1 .1 .1 .1 .1 .0);
+    }
+
+-- ---- from a point in time to bytes and back
+
+days-below : (y month : ℕ) → daysIn y month ≤ 31
+days-below y month =
+    picked (λ (n : ℕ). n ≤ 31) (eqb month 2) (february y) (cond (shortMonth month) 30 31)
+    (picked (λ (n : ℕ). n ≤ 31) (leap y) 29 28 (lit≤ tt) (lit≤ tt))
+    (picked (λ (n : ℕ). n ≤ 31) (shortMonth month) 30 31 (lit≤ tt) (lit≤ tt))
+
+-- what the rules say of the numbers of a point in time
+pub record Exists (m : Moment) : Type 0 where
+  pub year : m .year < 100
+  pub month : m .month < 13
+  pub day : m .day ≤ 31
+  pub hour : m .hour < 24
+  pub minute : m .minute < 60
+  pub second : m .second < 60
+
+pub moment-exists : (m : Moment) → dateExists m ≡ true → timeExists m ≡ true → Exists m
+moment-exists m d h =
+    let most : daysIn (2000 + m .year) (m .month) ≤ 31 = days-below (2000 + m .year) (m .month) in
+    let k = every (ltb (m .year) 100) ((ltb 0 (m .month) && ltb (m .month) 13) ∷ (ltb 0 (m .day) && leb (m .day) (daysIn (2000 + m .year) (m .month))) ∷ [])
+    d in
+    let month = every (ltb 0 (m .month)) (ltb (m .month) 13 ∷ []) (k .1 .0) in
+    let day = every (ltb 0 (m .day)) (leb (m .day) (daysIn (2000 + m .year) (m .month)) ∷ []) (k .1 .1 .0) in
+    let clock = every (ltb (m .second) 60) (ltb (m .minute) 60 ∷ ltb (m .hour) 24 ∷ []) h in
+    omega (arith, ltb-true, leb-true)
+
+-- the six bytes of a point in time that exists
+pub record MomentWritten (m : Moment) : Type 0 where
+  pub back : momentOf (momentBytes m) ≡ m
+  pub right : wrongMoment (momentBytes m) ≡ false
+  pub bytes : Bytes (momentBytes m)
+
+pub moment-written : (m : Moment) → dateExists m ≡ true → timeExists m ≡ true → MomentWritten m
+unfolding wrongMoment
+moment-written m d h =
+    let x : Exists m = moment-exists m d h in
+    let year : (16 * (m .year / 8) + m .month) / 16 * 8 + (32 * (m .year % 8) + m .day) / 32 ≡ m .year = omega arith in
+    let month : (16 * (m .year / 8) + m .month) % 16 ≡ m .month = omega arith in
+    let day : (32 * (m .year % 8) + m .day) % 32 ≡ m .day = omega arith in
+    let hour : m .hour % 32 ≡ m .hour = omega arith in
+    let minute : m .minute % 64 ≡ m .minute = omega arith in
+    let second : m .second % 64 ≡ m .second = omega arith in
+    let back : momentOf (momentBytes m) ≡ m = λ i. record {
+      year = year i;
+      month = month i;
+      day = day i;
+      hour = hour i;
+      minute = minute i;
+      second = second i;
+    } in
+    let spare : spareBits (momentBytes m) ≡ false =
+    rw (le-ltb 63 (m .second) (omega arith), le-ltb 63 (m .minute) (omega arith), le-ltb 31 (m .hour) (omega arith)) in
+    record {
+      back = back;
+      right = ap (λ (n : Moment). spareBits (momentBytes m) || not (dateExists n) || not (timeExists n)) back ∙ rw (spare, d, h);
+      bytes = omega arith;
+    }

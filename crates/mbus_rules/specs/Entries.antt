@@ -1,0 +1,60 @@
+-- 01, "Entry", and the refusals 11 to 16.
+use Prim.Native.Nat.{ℕ, zero, suc, _+_}
+use mathlib.Core.Bool.{Bool, cond, not, _&&_, _||_}
+use mathlib.Core.List.{List, [], _∷_, _++_}
+use lib.Dec.{ltb, eqb}
+use lib.ListN.{length, take, drop}
+use Rattle.mbus_rules.specs.declared.Value.{Value}
+use Rattle.mbus_rules.specs.declared.Value.the-variants.{Number, Time}
+use Rattle.mbus_rules.specs.declared.Entry.{Entry}
+use Rattle.mbus_rules.specs.Lists.{at, any}
+use Rattle.mbus_rules.specs.Answers.{Answer, reads, refusal, refuse}
+use Rattle.mbus_rules.specs.Digits.{overNine, digitsOf}
+use Rattle.mbus_rules.specs.Moments.{momentOf, wrongMoment}
+use Rattle.mbus_rules.specs.Quantities.{quantityOf, widthOf, paired, isTime, energy, volume, inlet, outlet, time}
+
+-- Structure byte, unit byte, value low byte first: the value's bytes of the entry that the list begins with, and its whole width.
+abbrev pub valueBytes : List ℕ → List ℕ
+valueBytes s = take (widthOf (at s 0)) (drop 2 s)
+
+abbrev pub entryWidth : List ℕ → ℕ
+entryWidth s = 2 + widthOf (at s 0)
+
+-- The value is either a decimal number or a point in time.
+abbrev pub valueOf : ℕ → List ℕ → Value
+valueOf unit b = cond (isTime unit) (Time (momentOf b)) (Number (record { count = digitsOf b }))
+
+abbrev pub entryOf : List ℕ → Entry
+entryOf s = record { structure = at s 0; unit = at s 1; value = valueOf (at s 1) (valueBytes s) }
+
+-- 11: one byte left, unknown structure or unit, wrong pair, or value past the end
+abbrev pub unfit : List ℕ → Bool
+unfit s = ltb (length s) 2 || not (paired (at s 0) (at s 1)) || ltb (length s) (entryWidth s)
+
+-- 12: a BCD digit over 9 in an entry
+abbrev pub wrongDigit : List ℕ → Bool
+wrongDigit s = not (isTime (at s 1)) && any overNine (valueBytes s)
+
+-- 13: time rule broken
+abbrev pub wrongTime : List ℕ → Bool
+wrongTime s = isTime (at s 1) && wrongMoment (valueBytes s)
+
+-- the quantity is among the entries so far
+abbrev pub seen : ℕ → List Entry → Bool
+seen q done = any (λ (e : Entry). eqb (quantityOf (e .unit)) q) done
+
+-- 16: energy, volume, inlet, outlet and time must be there
+abbrev pub missing : List Entry → Bool
+missing done = not (seen energy done) || not (seen volume done) || not (seen inlet done) || not (seen outlet done) || not (seen time done)
+
+-- 11 to 15 are tried entry by entry from the left, 16 at the end. `left` entries may still come, of which the last is the eighth.
+unfoldable pub readEntries : (left : ℕ) → List ℕ → (done : List Entry) → Answer (List Entry)
+readEntries zero s done = refusal 15
+readEntries (suc left) [] done = refuse 16 (missing done) (reads done)
+readEntries (suc left) (b ∷ s) done =
+    refuse 11 (unfit (b ∷ s))
+    (refuse 12 (wrongDigit (b ∷ s))
+    (refuse 13 (wrongTime (b ∷ s))
+    (refuse 14 (seen (quantityOf (at (b ∷ s) 1)) done)
+    (refuse 15 (eqb (length done) 7)
+    (readEntries left (drop (entryWidth (b ∷ s)) (b ∷ s)) (done ++ (entryOf (b ∷ s) ∷ [])))))))

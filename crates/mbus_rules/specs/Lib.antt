@@ -1,0 +1,22 @@
+-- What document 01 says of a line: one module for each paragraph, in 01's order, and the laws about each beside it.
+pub mod Lists
+pub mod Characters
+pub mod Answers
+pub mod Digits
+pub mod Moments
+pub mod Headers
+pub mod Quantities
+pub mod Entries
+pub mod Telegrams
+pub mod Lines
+pub mod Views
+pub mod Writing
+pub mod Host
+-- Demand 3: flipped bits, beginnings and cuts.
+pub mod Flips
+pub mod Each
+pub mod FourFlips
+-- Demand 2: what is read and what is written undo each other.
+pub mod Bytes
+pub mod HeaderSizes
+pub mod TelegramSizes

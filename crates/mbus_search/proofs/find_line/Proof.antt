@@ -1,0 +1,150 @@
+-- `mbus_search::find_line` meets its contract: no line begins at a place before, and at a place only one length can be. Assumes nothing.
+use Prim.Native.Nat.{ℕ, _+_, _-_, _<_, _≤_}
+use mathlib.Core.List.{List}
+use mathlib.Core.Path.{_≡_, refl, sym, ap, _∙_}
+use mathlib.Core.Logic.{⊎-elim}
+use borrow.Author.Needs.{needs}
+use native.Mathlib.Omega.{arith}
+use denote.Ref.{now}
+use lib.ListN
+use lib.ListN.{take, drop}
+use lib.Seq.{length-take-le}
+use Rattle.mbus_rules.specs.Answers.{refusal}
+use Rattle.mbus_search.specs.declared.Found.the-variants.{Refused}
+use Rattle.mbus_search.specs.Searching.{lengthHere}
+use Rattle.mbus_search.proofs.Laws.Walks.{Searched, searched-none, searched-next, searched-all, searched-hit, Walked, walked-none, walked-next}
+use Rattle.mbus_search.proofs.Laws.Walks.{walked-refused, walked-unsound, walked-hit, walked-long}
+use Rattle.mbus_search.proofs.find_line.Statement.{statement}
+use Rattle.mbus_search.proofs.find_line.Tie as tie
+
+abbrev Inv-loop : tie.InvT-loop
+Inv-loop capture found₀ place rest length i₀ found i = Walked rest length i found
+
+abbrev μ-loop : tie.MeasureT-loop
+μ-loop capture found₀ place rest length i₀ found i = length - i
+
+abbrev Inv-places : tie.InvT-places
+Inv-places capture found₀ place₀ found place = Searched capture place found
+
+abbrev μ-places : tie.MeasureT-places
+μ-places capture found₀ place₀ found place = ListN.length capture - place
+
+-- the three ways past a place at which no line begins
+none-yet : (c : tie.Joined1 Inv-loop μ-loop Inv-places μ-places)
+    → (c .if1 .found ≡ Refused 18)
+    × (lengthHere
+    (take (ListN.length (now (c .before .before .before .before .before .before .args .capture)) - c .before .before .before .before .places .place)
+    (drop (c .before .before .before .before .places .place) (now (c .before .before .before .before .before .before .args .capture)))) ≡ refusal 18)
+none-yet c =
+    ⊎-elim (λ w. (w .3 ∙ w .1 .inv .nothing, w .1 .inv .none (w .2 .left)))
+    (λ w. ⊎-elim (λ v. (v .6 ∙ v .1 .inv .nothing, walked-unsound (v .1 .inv) (v .2 .taken) (v .4 .ensures) (v .5 .taken)))
+    (λ v. (
+      v .1 ∙ c .before .before .before .before .places .inv .nothing,
+      walked-long
+          (take (ListN.length (now (c .before .before .before .before .before .before .args .capture)) - c .before .before .before .before .places .place)
+          (drop (c .before .before .before .before .places .place) (now (c .before .before .before .before .before .before .args .capture))))
+          (c .before .allowed-at .ensures) (v .0 .left),
+    )) w)
+    (c .if1 .came)
+
+places-holds : tie.Need-places-holds Inv-loop μ-loop Inv-places μ-places
+places-holds c = searched-none
+
+mul-rest : tie.Need-mul-rest Inv-loop μ-loop Inv-places μ-places
+mul-rest c = search needs
+
+sub-rest : tie.Need-sub-rest Inv-loop μ-loop Inv-places μ-places
+sub-rest c = search needs
+
+part-rest-start : tie.Need-part-rest-start Inv-loop μ-loop Inv-places μ-places
+part-rest-start c = search needs
+
+part-rest-end : tie.Need-part-rest-end Inv-loop μ-loop Inv-places μ-places
+part-rest-end c = search needs
+
+allowed-at-requires : tie.Need-allowed-at-requires Inv-loop μ-loop Inv-places μ-places
+allowed-at-requires c κs = search needs
+
+loop-holds : tie.Need-loop-holds Inv-loop μ-loop Inv-places μ-places
+loop-holds c = walked-none (c .before .allowed-at .ensures) (c .if1 .taken) (c .before .before .before .before .places .inv .nothing)
+
+mul-c : tie.Need-mul-c Inv-loop μ-loop Inv-places μ-places
+mul-c c = search needs
+
+shared-slice-read-c : tie.Need-shared-slice-read-c Inv-loop μ-loop Inv-places μ-places
+shared-slice-read-c c = omega (arith, c .before .before .loop .inv .room)
+
+counts-odd-requires : tie.Need-counts-odd-requires Inv-loop μ-loop Inv-places μ-places
+counts-odd-requires c κs = search needs
+
+add-i : tie.Need-add-i Inv-loop μ-loop Inv-places μ-places
+add-i c = omega (arith, c .before .before .before .before .loop .inv .room)
+
+slice-aggregate-is-accepted :
+    tie.Need-slice-aggregate-is-accepted Inv-loop μ-loop Inv-places μ-places
+slice-aggregate-is-accepted c = sym (length-take-le _ _ (c .before .before .before .before .before .before .loop .inv .room))
+
+is-accepted-requires : tie.Need-is-accepted-requires Inv-loop μ-loop Inv-places μ-places
+is-accepted-requires c κs = search needs
+
+loop-less : tie.Need-loop-less Inv-loop μ-loop Inv-places μ-places
+loop-less c = search needs
+
+loop-again : tie.Need-loop-again Inv-loop μ-loop Inv-places μ-places
+loop-again c = walked-refused (c .before .before .before .before .before .before .before .before .loop .inv)
+    (c .before .before .before .before .before .before .before .loop-test .taken) (c .before .is-accepted .ensures) (c .if4 .left)
+
+loop-less-2 : tie.Need-loop-less-2 Inv-loop μ-loop Inv-places μ-places
+loop-less-2 c = search needs
+
+loop-again-2 : tie.Need-loop-again-2 Inv-loop μ-loop Inv-places μ-places
+loop-again-2 c = walked-next (c .before .before .before .before .before .loop .inv) (c .before .before .before .before .loop-test .taken) (c .if3 .left)
+
+add-place : tie.Need-add-place Inv-loop μ-loop Inv-places μ-places
+add-place c = search needs
+
+places-less : tie.Need-places-less Inv-loop μ-loop Inv-places μ-places
+places-less c = search needs
+
+places-again : tie.Need-places-again Inv-loop μ-loop Inv-places μ-places
+places-again c = searched-next (c .before .before .before .before .places .inv) (none-yet c .0) (c .before .before .before .places-test .taken) (none-yet c .1)
+
+returns : tie.Need-returns Inv-loop μ-loop Inv-places μ-places
+returns c = searched-all (c .before .places .inv) (c .places-test .left)
+
+returns-2 : tie.Need-returns-2 Inv-loop μ-loop Inv-places μ-places
+returns-2 c = searched-hit (c .before .before .before .before .before .before .before .before .before .before .before .before .before .places .inv)
+    (c .before .before .before .before .before .before .before .before .before .before .before .before .places-test .taken) _
+    (walked-hit (c .before .before .before .before .before .before .before .before .loop .inv)
+    (c .before .before .before .before .before .before .before .loop-test .taken) (c .before .is-accepted .ensures) (c .if4 .taken))
+
+pub find-line-spec : {M : Type 1} → statement M
+find-line-spec =
+    tie.close
+    (tie.spec
+    Inv-loop
+    μ-loop
+    Inv-places
+    μ-places
+    places-holds
+    mul-rest
+    sub-rest
+    part-rest-start
+    part-rest-end
+    allowed-at-requires
+    loop-holds
+    mul-c
+    shared-slice-read-c
+    counts-odd-requires
+    add-i
+    slice-aggregate-is-accepted
+    is-accepted-requires
+    loop-less
+    loop-again
+    loop-less-2
+    loop-again-2
+    add-place
+    places-less
+    places-again
+    returns
+    returns-2)

@@ -1,0 +1,51 @@
+-- `mbus_search::is_accepted` meets its contract. Assumes nothing.
+use borrow.Author.Needs.{needs}
+use denote.Ref.{now}
+use Rattle.mbus_rules.specs.Lines.{readLine}
+use Rattle.mbus_search.proofs.Laws.SearchLaws.{outline-accepts}
+use Rattle.mbus_search.proofs.is_accepted.Statement.{statement}
+use Rattle.mbus_search.proofs.is_accepted.Tie as tie
+
+outline-of-requires : tie.Need-outline-of-requires
+outline-of-requires c κs = search needs
+
+enum-told : tie.Need-enum-told
+enum-told c = search needs
+
+enum-told-2 : tie.Need-enum-told-2
+enum-told-2 c = search needs
+
+enum-told-3 : tie.Need-enum-told-3
+enum-told-3 c = search needs
+
+enum-told-4 : tie.Need-enum-told-4
+enum-told-4 c = search needs
+
+returns : tie.Need-returns
+returns c = outline-accepts (readLine (now (c .before .before .before .before .args .line))) (c .before .before .outline-of .ensures) (c .enum-told .given .1)
+
+returns-2 : tie.Need-returns-2
+returns-2 c = outline-accepts (readLine (now (c .before .before .before .before .args .line))) (c .before .before .outline-of .ensures)
+    (c .enum-told2 .given .1)
+
+returns-3 : tie.Need-returns-3
+returns-3 c = outline-accepts (readLine (now (c .before .before .before .before .args .line))) (c .before .before .outline-of .ensures)
+    (c .enum-told3 .given .1)
+
+returns-4 : tie.Need-returns-4
+returns-4 c = outline-accepts (readLine (now (c .before .before .before .before .args .line))) (c .before .before .outline-of .ensures)
+    (c .enum-told4 .given .1)
+
+pub is-accepted-spec : {M : Type 1} → statement M
+is-accepted-spec =
+    tie.close
+    (tie.spec
+    outline-of-requires
+    enum-told
+    enum-told-2
+    enum-told-3
+    enum-told-4
+    returns
+    returns-2
+    returns-3
+    returns-4)

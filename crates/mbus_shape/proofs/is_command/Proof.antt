@@ -1,0 +1,41 @@
+-- `mbus_shape::is_command` meets its contract. Assumes nothing.
+use borrow.Author.Needs.{needs}
+use borrow.Author.Tests.{eq-eqb, ne-eqb}
+use Rattle.mbus_shape.proofs.is_command.Statement.{statement}
+use Rattle.mbus_shape.proofs.is_command.Tie as tie
+
+returns : tie.Need-returns
+returns c = rw (ne-eqb _ _ (c .if1 .taken))
+
+byte-at-requires : tie.Need-byte-at-requires
+byte-at-requires c κs = search needs
+
+byte-at-requires-2 : tie.Need-byte-at-requires-2
+byte-at-requires-2 c κs = search needs
+
+byte-at-requires-3 : tie.Need-byte-at-requires-3
+byte-at-requires-3 c κs = search needs
+
+is-method-requires : tie.Need-is-method-requires
+is-method-requires c κs = search needs
+
+returns-2 : tie.Need-returns-2
+returns-2 c =
+    rw (
+      eq-eqb _ _ (c .before .before .before .before .if1 .left),
+      c .is-method .ensures,
+      c .before .before .before .byte-at .ensures,
+      c .before .before .byte-at2 .ensures,
+      c .before .byte-at3 .ensures,
+    )
+
+pub is-command-spec : {M : Type 1} → statement M
+is-command-spec =
+    tie.close
+    (tie.spec
+    returns
+    byte-at-requires
+    byte-at-requires-2
+    byte-at-requires-3
+    is-method-requires
+    returns-2)

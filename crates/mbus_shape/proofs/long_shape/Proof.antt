@@ -1,0 +1,60 @@
+-- `mbus_shape::long_shape` meets its contract: a command, data, or 9. Assumes nothing.
+use borrow.Author.Needs.{needs}
+use borrow.Author.Tests.{eq-eqb, ne-eqb}
+use Rattle.mbus_shape.proofs.long_shape.Statement.{statement}
+use Rattle.mbus_shape.proofs.long_shape.Tie as tie
+
+byte-at-requires : tie.Need-byte-at-requires
+byte-at-requires c κs = search needs
+
+is-command-requires : tie.Need-is-command-requires
+is-command-requires c κs = search needs
+
+byte-at-requires-2 : tie.Need-byte-at-requires-2
+byte-at-requires-2 c κs = search needs
+
+returns : tie.Need-returns
+returns c = rw (
+  ← c .before .before .before .is-command .ensures,
+  c .before .before .if1 .taken,
+  ← c .before .byte-at2 .ensures,
+  eq-eqb _ _ (c .if2 .taken),
+  ← c .before .before .before .before .byte-at .ensures,
+)
+
+returns-2 : tie.Need-returns-2
+returns-2 c = rw (
+  ← c .before .before .before .is-command .ensures,
+  c .before .before .if1 .taken,
+  ← c .before .byte-at2 .ensures,
+  ne-eqb _ _ (c .if2 .left),
+  ← c .before .before .before .before .byte-at .ensures,
+)
+
+is-data-requires : tie.Need-is-data-requires
+is-data-requires c κs = search needs
+
+returns-3 : tie.Need-returns-3
+returns-3 c = rw (
+  ← c .before .before .before .is-command .ensures,
+  c .before .before .if1 .left,
+  ← c .before .is-data .ensures,
+  c .if3 .taken,
+  ← c .before .before .before .before .byte-at .ensures,
+)
+
+returns-4 : tie.Need-returns-4
+returns-4 c = rw (← c .before .before .before .is-command .ensures, c .before .before .if1 .left, ← c .before .is-data .ensures, c .if3 .left)
+
+pub long-shape-spec : {M : Type 1} → statement M
+long-shape-spec =
+    tie.close
+    (tie.spec
+    byte-at-requires
+    is-command-requires
+    byte-at-requires-2
+    returns
+    returns-2
+    is-data-requires
+    returns-3
+    returns-4)

@@ -1,0 +1,2 @@
+-- The host's number of a kind, read back.
+pub mod Kinds

@@ -1,0 +1,2 @@
+-- What the walks over a telegram's entries hold on to.
+pub mod Together

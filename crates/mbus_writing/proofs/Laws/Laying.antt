@@ -1,0 +1,322 @@
+-- Laws of `specs/Laying`.
+use Prim.Native.Nat.{ℕ, zero, suc, _+_, _*_, _-_, _/_, _%_, _≤_, _<_, zero-le}
+use mathlib.Core.Bool.{Bool, true, false, not}
+use mathlib.Core.List.{List, [], _∷_, _++_, map, append-assoc, append-nil}
+use mathlib.Core.Path.{_≡_, refl, sym, ap, ap₂, subst, _∙_}
+use native.Mathlib.Nat.{zero-add, not-suc-le-zero}
+use native.Mathlib.Numerals.{add-one}
+use native.Mathlib.Omega.{arith}
+use borrow.Author.Tests.{eqb-true, not-false}
+use lib.Count.{onesIn}
+use lib.Dec.{eqb, ltb, lit<}
+use lib.ListN.{length, getD, take, drop, set, length-append, length-take, drop-of-length-le, length-map, List·getD-map}
+use lib.Seq.{drop-cons, take-add, take-suc, take-take, getD-take, take-at, drop-at, take-append-seam, length-take-le}
+use Rattle.bytes_lent.specs.Copying.{laid, copied}
+use Rattle.bytes_lent.proofs.Laws.Copying.{laid-none, laid-front, laid-on, laid-length}
+use Rattle.bytes_lent.proofs.Laws.Copying.{copied-fits, Copied, copied-none, copied-next, copied-length, copied-all}
+use Rattle.mbus_rules.specs.declared.Value.{Value}
+use Rattle.mbus_rules.specs.declared.Value.the-variants.{Number, Time}
+use Rattle.mbus_rules.specs.declared.Kind.{Kind}
+use Rattle.mbus_rules.specs.declared.Kind.the-variants.{Data}
+use Rattle.mbus_rules.specs.declared.Entry.{Entry}
+use Rattle.mbus_rules.specs.declared.Telegram.{Telegram}
+use Rattle.mbus_rules.specs.Lists.{any, total}
+use Rattle.mbus_rules.proofs.Laws.Tests.{below, none-at}
+use Rattle.mbus_rules.specs.Characters.{carrier}
+use Rattle.mbus_rules.proofs.Laws.Folding.{fold}
+use Rattle.mbus_rules.specs.Digits.{packed}
+use Rattle.mbus_rules.specs.Moments.{dateExists, timeExists}
+use Rattle.mbus_rules.specs.Quantities.{widthOf, paired, isTime}
+use Rattle.mbus_rules.proofs.Laws.TestLaws.{none}
+use Rattle.mbus_rules.proofs.Laws.HeaderLaws.{header-length}
+use Rattle.mbus_rules.proofs.Laws.EntryLaws.{six-wide, entry-written}
+use Rattle.mbus_rules.proofs.Laws.LengthLaws.{width-most, entries-least, entries-most}
+use Rattle.mbus_rules.proofs.Laws.LineLaws.{GoodData, good-data}
+use Rattle.mbus_rules.specs.Writing.{bytesOfValue, bytesOfEntry, bytesOfEntries, bytesOfKind, wrongValue, wrongEntry, wrongData, entriesOf, bytesOfHeader}
+use Rattle.mbus_rules.specs.Writing.{closed, unwritable}
+use Rattle.mbus_writing.specs.Laying.{sixBytes, exists, EntryFits, EntryLaid, EntriesFit, EntriesLaid, FrameClosed, BytesLaid, DataFits}
+
+-- ---- a loop that copies with parity, and one that sums
+
+-- the characters that carry bytes, from the first place on
+pub record Carried (s d : List ℕ) (i : ℕ) (now : List ℕ) : Type 0 where
+  pub copied : Copied d 0 (map carrier s) i now
+
+pub carried-none : {s d : List ℕ} → length s ≤ length d → Carried s d 0 d
+carried-none {s} {d} h =
+    let n : length (map carrier s) ≡ length s = length-map s carrier in
+    record { copied = copied-none (omega arith) }
+
+module _ {s d : List ℕ} {i : ℕ} {now : List ℕ} (g : Carried s d i now) where
+  pub carried-next : {x : ℕ} → i < length s → x ≡ carrier (getD s i 0) → Carried s d (i + 1) (set now i x)
+  carried-next {x} h e =
+      let n : length (map carrier s) ≡ length s = length-map s carrier in
+      let next : Copied d 0 (map carrier s) (i + 1) (set now (0 + i) x) = copied-next (g .copied) (carrier 0) (omega arith)
+      (e ∙ sym (List·getD-map carrier s i 0)) in
+      record { copied = rw (zero-add i) at next }
+
+  pub carried-length : length now ≡ length d
+  carried-length = copied-length (g .copied)
+
+  pub carried-all : length s ≤ i → now ≡ laid d 0 (map carrier s)
+  carried-all h =
+      let n : length (map carrier s) ≡ length s = length-map s carrier in
+      copied-all (g .copied) (omega arith)
+
+-- the parity of a byte, folded onto its lowest bit
+pub carrier-folded : (b : ℕ) → b < 256 → 256 * (fold 2 (fold 4 (fold 16 b)) % 2) + b ≡ carrier b
+unfolding onesIn carrier
+carrier-folded b h = eqb-true _ _ (below 256 (λ (n : ℕ). eqb (256 * (fold 2 (fold 4 (fold 16 n)) % 2) + n) (carrier n)) refl b h)
+
+pub record Added (s : List ℕ) (i sum : ℕ) : Type 0 where
+  pub inside : i ≤ length s
+  pub small : sum < 256
+  pub so : (sum + total (drop i s)) % 256 ≡ total s % 256
+
+pub added-none : {s : List ℕ} → Added s 0 0
+added-none {s} = record { inside = zero-le; small = lit< tt; so = rw zero-add }
+
+added : (x sum rest : ℕ) → ((sum + x) % 256 + rest) % 256 ≡ (sum + (x + rest)) % 256
+added x sum rest = omega arith
+
+pub added-next : {s : List ℕ} {i sum new : ℕ} → Added s i sum → i < length s → new ≡ (sum + getD s i 0) % 256 → Added s (i + 1) new
+unfolding total
+added-next {s} {i} {sum} {new} g h e = record {
+  inside = omega arith;
+  small = omega arith;
+  so = rw (e, add-one) (added (getD s i 0) sum (total (drop (suc i) s))) ∙ ap (λ (l : List ℕ). (sum + total l) % 256) (sym (drop-cons s i 0 h)) ∙ g .so;
+}
+
+pub added-all : {s : List ℕ} {i sum : ℕ} → Added s i sum → length s ≤ i → sum ≡ total s % 256
+unfolding total
+added-all {s} {i} {sum} g h =
+    let small : sum < 256 = g .small in
+    let end : (sum + total (drop i s)) % 256 ≡ total s % 256 = g .so in
+    let none : total (drop i s) ≡ 0 = ap total (drop-of-length-le s h) in
+    omega arith
+
+-- ---- entries one after the other
+
+-- a value of a right entry, cut to its width
+packed-cut : (k w n : ℕ) → w ≤ k → take w (packed k n) ≡ packed w n
+unfolding packed
+packed-cut k zero n h = refl
+packed-cut zero (suc w) n h = absurd (not-suc-le-zero h)
+packed-cut (suc k) (suc w) n h = ap (λ (l : List ℕ). (16 * (n / 10 % 10) + n % 10) ∷ l) (packed-cut k w (n / 100) (omega arith))
+
+value-cut : (w u : ℕ) (v : Value) → w ≤ 6 → (isTime u ≡ true → w ≡ 6) → wrongValue w u v ≡ false → (take w (sixBytes v) ≡ bytesOfValue w v) × (exists v ≡ true)
+value-cut w u (Number d) h six e = (packed-cut 6 w (d .count) h, refl)
+value-cut w u (Time m) h six e =
+    let k = none (not (isTime u)) (not (dateExists m) ∷ not (timeExists m) ∷ []) e in
+    let n : w ≡ 6 = six (not-false (isTime u) (k .0)) in
+    (rw n, rw (not-false (dateExists m) (k .1 .0), not-false (timeExists m) (k .1 .1 .0)))
+
+pub record EntryCut (e : Entry) : Type 0 where
+  pub cut : take (2 + widthOf (e .structure)) (e .structure ∷ e .unit ∷ sixBytes (e .value)) ≡ bytesOfEntry e
+  pub there : exists (e .value) ≡ true
+  pub width : length (bytesOfEntry e) ≡ 2 + widthOf (e .structure)
+  pub most : widthOf (e .structure) ≤ 6
+
+pub entry-cut : (e : Entry) → wrongEntry e ≡ false → EntryCut e
+entry-cut e h =
+    let st : ℕ = e .structure in
+    let w : ℕ = widthOf (e .structure) in
+    let k = none (not (paired st (e .unit))) (wrongValue w (e .unit) (e .value) ∷ []) h in
+    let most : widthOf (e .structure) ≤ 6 = width-most st in
+    let v = value-cut w (e .unit) (e .value) most (six-wide st (e .unit) (not-false (paired st (e .unit)) (k .0))) (k .1 .0) in
+    record {
+      cut = take-add 2 w (st ∷ e .unit ∷ sixBytes (e .value)) ∙ ap (λ (l : List ℕ). st ∷ e .unit ∷ l) (v .0);
+      there = v .1;
+      width = entry-written e [] h .width;
+      most = most;
+    }
+
+pub entry-laid : {e : Entry} {before after : List ℕ} {at width : ℕ} → EntryFits e before at → width ≡ 2 + widthOf (e .structure)
+    → after ≡ copied before at (take width (e .structure ∷ e .unit ∷ sixBytes (e .value))) → EntryLaid e before after at (at + width)
+entry-laid {e} {before} {after} {at} {width} f w l =
+    let c : EntryCut e = entry-cut e (f .right) in
+    let same : take width (e .structure ∷ e .unit ∷ sixBytes (e .value)) ≡ bytesOfEntry e =
+    ap (λ (k : ℕ). take k (e .structure ∷ e .unit ∷ sixBytes (e .value))) w ∙ c .cut in
+    let room : at + length (bytesOfEntry e) ≤ length before = omega (arith, f .room, f .size) in
+    record { bytes = l ∙ ap (copied before at) same ∙ copied-fits before at (bytesOfEntry e) room; so = ap (λ (k : ℕ). at + k) (w ∙ sym (c .width)) }
+
+any-front : {A : Type 0} (test : A → Bool) (j : ℕ) (s : List A) → any test s ≡ false → any test (take j s) ≡ false
+unfolding any
+any-front test zero s h = refl
+any-front test (suc j) [] h = refl
+any-front test (suc j) (x ∷ s) h =
+    let k = none (test x) (any test s ∷ []) h in
+    rw (k .0) (any-front test j s (k .1 .0))
+
+entries-append : (a b : List Entry) → bytesOfEntries (a ++ b) ≡ bytesOfEntries a ++ bytesOfEntries b
+unfolding bytesOfEntries
+entries-append [] b = refl
+entries-append (e ∷ a) b = ap (λ (l : List ℕ). bytesOfEntry e ++ l) (entries-append a b) ∙ sym (append-assoc (bytesOfEntry e) (bytesOfEntries a)
+    (bytesOfEntries b))
+
+entries-more : (entries : List Entry) (i : ℕ) (d : Entry) → i < length entries → bytesOfEntries (take (suc i) entries)
+    ≡ bytesOfEntries (take i entries) ++ bytesOfEntry (getD entries i d)
+unfolding bytesOfEntries
+entries-more entries i d h =
+    ap bytesOfEntries (take-suc entries i d h) ∙ entries-append (take i entries) (getD entries i d ∷ [])
+    ∙ ap (λ (l : List ℕ). bytesOfEntries (take i entries) ++ l) (append-nil (bytesOfEntry (getD entries i d)))
+
+-- the entries so far
+pub record Laying (entries : List Entry) (count : ℕ) (before : List ℕ) (i at : ℕ) (now : List ℕ) : Type 0 where
+  pub fit : EntriesFit entries count before
+  pub places : length entries ≡ 7
+  pub inside : i ≤ count
+  pub bytes : now ≡ laid before 19 (bytesOfEntries (take i entries))
+  pub so : at ≡ 19 + length (bytesOfEntries (take i entries))
+  pub same : length now ≡ 77
+
+pub laying-none : {entries : List Entry} {count : ℕ} {before : List ℕ} → length entries ≡ 7 → EntriesFit entries count before
+    → Laying entries count before 0 19 before
+unfolding bytesOfEntries
+laying-none {entries} {count} {before} n f = record {
+  fit = f;
+  places = n;
+  inside = zero-le;
+  bytes = sym (laid-none before 19);
+  so = refl;
+  same = f .room;
+}
+
+module _ {entries : List Entry} {count : ℕ} {before : List ℕ} {i at : ℕ} {now : List ℕ} (g : Laying entries count before i at now) (h : i < count)
+    (d : Entry) where
+  pub laying-fits : EntryFits (getD entries i d) now at
+  laying-fits =
+      let e : Entry = getD entries i d in
+      let f : EntriesFit entries count before = g .fit in
+      let seven : length entries ≡ 7 = g .places in
+      let size : length (take count entries) ≡ count = length-take-le count entries (omega arith) in
+      let right : wrongEntry e ≡ false = rw (getD-take count entries i d h) at (none-at wrongEntry (take count entries) d i (f .right) (omega arith)) in
+      let all : any wrongEntry (take (suc i) entries) ≡ false = rw (take-take (suc i) count entries h) at
+      (any-front wrongEntry (suc i) (take count entries) (f .right)) in
+      let few : length (take (suc i) entries) ≤ 7 = rw (length-take (suc i) entries) (omega arith) in
+      let most : length (bytesOfEntries (take (suc i) entries)) ≤ 56 = entries-most (take (suc i) entries) all few in
+      let more : length (bytesOfEntries (take (suc i) entries)) ≡ length (bytesOfEntries (take i entries)) + length (bytesOfEntry e) =
+      ap length (entries-more entries i d (omega arith)) ∙ length-append (bytesOfEntries (take i entries)) (bytesOfEntry e) in
+      let place : at ≡ 19 + length (bytesOfEntries (take i entries)) = g .so in
+      record { right = right; room = omega arith; size = g .same }
+
+  pub laying-next : {next : List ℕ} {to : ℕ} → EntryLaid (getD entries i d) now next at to → Laying entries count before (i + 1) to next
+  laying-next {next} {to} l =
+      let x : Entry = getD entries i d in
+      let done : List ℕ = bytesOfEntries (take i entries) in
+      let seven : length entries ≡ 7 = g .places in
+      let few : count ≤ 7 = g .fit .few in
+      let size : length before ≡ 77 = g .fit .room in
+      let same : length now ≡ 77 = g .same in
+      let f : EntryFits (getD entries i d) now at = laying-fits in
+      let more : bytesOfEntries (take (suc i) entries) ≡ done ++ bytesOfEntry x = entries-more entries i d (omega arith) in
+      let long : length (bytesOfEntries (take (suc i) entries)) ≡ length done + length (bytesOfEntry x) = ap length more
+      ∙ length-append done (bytesOfEntry x) in
+      let on : laid (laid before 19 done) (19 + length done) (bytesOfEntry x) ≡ laid before 19 (done ++ bytesOfEntry x) = laid-on before 19 done
+      (bytesOfEntry x) (omega arith) in
+      record {
+        fit = g .fit;
+        places = seven;
+        inside = omega arith;
+        bytes = l .bytes ∙ ap₂ (λ (b : List ℕ) (k : ℕ). laid b k (bytesOfEntry x)) (g .bytes) (g .so) ∙ on ∙ rw (add-one, more);
+        so = rw add-one (omega (arith, g .so, l .so));
+        same = ap length (l .bytes) ∙ laid-length now (bytesOfEntry x) at (omega arith) ∙ same;
+      }
+
+pub laying-all : {entries : List Entry} {count : ℕ} {before : List ℕ} {i at : ℕ} {now : List ℕ} → Laying entries count before i at now → count ≤ i
+    → EntriesLaid (take count entries) before now at
+laying-all {entries} {count} {before} {i} {at} {now} g h =
+    let inside : i ≤ count = g .inside in
+    let e : i ≡ count = omega arith in
+    record {
+      bytes = g .bytes ∙ ap (λ (k : ℕ). laid before 19 (bytesOfEntries (take k entries))) e;
+      so = g .so ∙ ap (λ (k : ℕ). 19 + length (bytesOfEntries (take k entries))) e;
+    }
+
+part-cut : (b : List ℕ) (from end : ℕ) → from ≤ end → end ≤ length b → take (end - from) (drop from b) ≡ drop from (take end b)
+part-cut b from end h k =
+    let e : end ≡ from + (end - from) = omega arith in
+    let n : length (take from b) ≡ from = length-take-le from b (omega arith) in
+    sym (ap (λ (j : ℕ). drop from (take j b)) e ∙ ap (drop from) (take-add from (end - from) b)
+    ∙ drop-at (take from b) (take (end - from) (drop from b)) from n)
+
+pub frame-closed : {before after : List ℕ} {from end sum : ℕ} → (from ≤ end) × (end ≤ 75) × (length before ≡ 77) → sum
+    ≡ total (take (end - from) (drop from before)) % 256
+    → after ≡ copied before end (sum ∷ 0x16 ∷ []) → FrameClosed before after from end (end + 2)
+frame-closed {before} {after} {from} {end} {sum} h e l =
+    let part : take (end - from) (drop from before) ≡ drop from (take end before) = part-cut before from end (h .0) (omega arith) in
+    let fits : copied before end (sum ∷ 0x16 ∷ []) ≡ laid before end (sum ∷ 0x16 ∷ []) = copied-fits before end (sum ∷ 0x16 ∷ []) (omega arith) in
+    record {
+      bytes =
+          ap (take (end + 2)) (l ∙ fits) ∙ laid-front before (sum ∷ 0x16 ∷ []) end (omega arith)
+          ∙ ap (λ (x : ℕ). take end before ++ (x ∷ 0x16 ∷ [])) (e ∙ ap (λ (q : List ℕ). total q % 256) part);
+      so = refl;
+    }
+
+-- a frame that was begun with s is s, closed
+pub frame-laid : {before after : List ℕ} {from end next : ℕ} (s : List ℕ) → FrameClosed before after from end next → take end before ≡ s → length s ≡ end
+    → BytesLaid (s ++ (total (drop from s) % 256 ∷ 0x16 ∷ [])) after next
+frame-laid {before} {after} {from} {end} {next} s c e n =
+    record {
+      bytes = c .bytes ∙ ap (λ (q : List ℕ). q ++ (total (drop from q) % 256 ∷ 0x16 ∷ [])) e;
+      so = c .so ∙ ap (λ (k : ℕ). k + 2) (sym n) ∙ sym (length-append s (total (drop from s) % 256 ∷ 0x16 ∷ []));
+    }
+
+-- what is copied to the first place stands there
+pub front-laid : (d : List ℕ) {after : List ℕ} (s : List ℕ) → length s ≤ length d → after ≡ copied d 0 s → take (length s) after ≡ s
+front-laid d {after} s h e = ap (take (length s)) (e ∙ copied-fits d 0 s (omega arith)) ∙ take-append-seam s (drop (length s) d)
+
+module _ {t : Telegram} {before : List ℕ} (f : DataFits t before) where
+  pub entries-fit : EntriesFit (t .entries) (t .count) before
+  entries-fit =
+      let g : GoodData t = good-data t (f .right) in
+      record { few = g .count; right = g .good .right; room = f .room }
+
+  -- the place after the entries
+  pub entries-end : {after : List ℕ} {end : ℕ} → EntriesLaid (entriesOf t) before after end → (43 ≤ end) × (end ≤ 75)
+  entries-end {after} {end} l =
+      let g : GoodData t = good-data t (f .right) in
+      let least : 24 ≤ length (bytesOfEntries (entriesOf t)) = entries-least (entriesOf t) (g .good .right) (g .good .whole) in
+      let most : length (bytesOfEntries (entriesOf t)) ≤ 56 = entries-most (entriesOf t) (g .good .right) (g .good .few) in
+      let so : end ≡ 19 + length (bytesOfEntries (entriesOf t)) = l .so in
+      omega arith
+
+  -- the entries, then the start before them, then the end
+  pub data-laid : {first second last : List ℕ} {end next : ℕ} {head : List ℕ} → EntriesLaid (entriesOf t) before first end
+      → head ≡ 0x68 ∷ (end - 4) ∷ (end - 4) ∷ 0x68 ∷ 0x08 ∷ t .address ∷ 0x72 ∷ bytesOfHeader (t .header) → second ≡ copied first 0 head
+      → FrameClosed second last 4 end next → BytesLaid (bytesOfKind Data t) last next
+  data-laid {first} {second} {last} {end} {next} {head} l e m c =
+      let h : List ℕ = bytesOfHeader (t .header) in
+      let es : List ℕ = bytesOfEntries (entriesOf t) in
+      let body : List ℕ = 0x08 ∷ t .address ∷ 0x72 ∷ (h ++ es) in
+      let start : List ℕ = 0x68 ∷ (end - 4) ∷ (end - 4) ∷ 0x68 ∷ 0x08 ∷ t .address ∷ 0x72 ∷ h in
+      let rest : List ℕ = drop (length es) (drop 19 before) in
+      let twelve : length h ≡ 12 = header-length (t .header) in
+      let size : length (h ++ es) ≡ length h + length es = length-append h es in
+      let so : end ≡ 19 + length es = l .so in
+      let room : length before ≡ 77 = f .room in
+      let begins : length start ≡ 19 = omega arith in
+      let past : drop 19 first ≡ es ++ rest =
+      ap (drop 19) (l .bytes) ∙ drop-at (take 19 before) (es ++ rest) 19 (length-take-le 19 before (omega arith)) in
+      let same : length first ≡ length before = ap length (l .bytes) ∙ laid-length before es 19 (omega (arith, entries-end l)) in
+      let whole : second ≡ start ++ es ++ rest =
+      m ∙ ap (copied first 0) e ∙ copied-fits first 0 start (omega arith) ∙ ap (λ (k : ℕ). start ++ drop k first) begins ∙ ap
+      (λ (q : List ℕ). start ++ q) past ∙ sym (append-assoc start es rest) in
+      let count : length (start ++ es) ≡ end = length-append start es ∙ omega arith in
+      let front : take end second ≡ start ++ es = ap (take end) whole ∙ take-at (start ++ es) rest end count in
+      let b : BytesLaid (start ++ es ++ (total body % 256 ∷ 0x16 ∷ [])) last next = frame-laid (start ++ es) c front count in
+      let long : end - 4 ≡ length body = omega arith in
+      subst (λ (k : ℕ). BytesLaid (0x68 ∷ k ∷ k ∷ 0x68 ∷ closed body) last next) long b
+
+-- ---- each kind
+
+pub kind-laid : (t : Telegram) {k : Kind} {after : List ℕ} {n : ℕ} → t .kind ≡ k → BytesLaid (bytesOfKind k t) after n
+    → BytesLaid (bytesOfKind (t .kind) t) after n
+kind-laid t {k} {after} {n} e b = subst (λ (x : Kind). BytesLaid (bytesOfKind x t) after n) (sym e) b
+
+pub ack-laid : (d : List ℕ) {after : List ℕ} → length d ≡ 77 → after ≡ copied d 0 (0xE5 ∷ []) → BytesLaid (0xE5 ∷ []) after 1
+ack-laid d n e = record { bytes = front-laid d (0xE5 ∷ []) (omega arith) e; so = refl }
+
+pub data-fits : (t : Telegram) {before : List ℕ} → t .kind ≡ Data → unwritable t ≡ false → length before ≡ 77 → DataFits t before
+unfolding unwritable
+data-fits t e w n = record { right = none (ltb 0 (t .method)) (wrongData t ∷ []) (rw e at w) .1 .0; room = n }

@@ -1,0 +1,61 @@
+-- `mbus_writing::bytes::carry` meets its contract: so many bytes are carried. Assumes nothing.
+use Prim.Native.Nat.{_-_}
+use native.Mathlib.Omega.{arith}
+use borrow.Author.Needs.{needs}
+use lib.ListN.{length}
+use Rattle.mbus_writing.proofs.Laws.Laying.{Carried, carried-none, carried-next, carried-length, carried-all}
+use Rattle.mbus_writing.proofs.bytes.carry.Statement.{statement}
+use Rattle.mbus_writing.proofs.bytes.carry.Tie as tie
+
+abbrev Inv-loop : tie.InvT-loop
+Inv-loop bytes out₀ place₀ out place = Carried bytes out₀ place out
+
+abbrev μ-loop : tie.MeasureT-loop
+μ-loop bytes out₀ place₀ out place = length bytes - place
+
+loop-holds : tie.Need-loop-holds Inv-loop μ-loop
+loop-holds c = carried-none (c .before .before .pre)
+
+shared-slice-read-carrier-of : tie.Need-shared-slice-read-carrier-of Inv-loop μ-loop
+shared-slice-read-carrier-of c = search needs
+
+carrier-of-requires : tie.Need-carrier-of-requires Inv-loop μ-loop
+carrier-of-requires c κs = search needs
+
+mul-out : tie.Need-mul-out Inv-loop μ-loop
+mul-out c = omega (arith, c .before .before .before .before .before .before .good)
+
+slice-write-out : tie.Need-slice-write-out Inv-loop μ-loop
+slice-write-out c = let n = carried-length (c .before .before .before .loop .inv) in omega (arith, c .before .before .before .before .before .before .pre)
+
+add-place : tie.Need-add-place Inv-loop μ-loop
+add-place c = search needs
+
+loop-less : tie.Need-loop-less Inv-loop μ-loop
+loop-less c = search needs
+
+loop-again : tie.Need-loop-again Inv-loop μ-loop
+loop-again c = carried-next (c .before .before .before .loop .inv) (c .before .before .loop-test .taken) (c .carrier-of .ensures)
+
+same-length : tie.Need-same-length Inv-loop μ-loop
+same-length c = carried-length (c .before .loop .inv)
+
+returns : tie.Need-returns Inv-loop μ-loop
+returns c = carried-all (c .before .loop .inv) (c .loop-test .left)
+
+pub carry-spec : {M : Type 1} → statement M
+carry-spec =
+    tie.close
+    (tie.spec
+    Inv-loop
+    μ-loop
+    loop-holds
+    shared-slice-read-carrier-of
+    carrier-of-requires
+    mul-out
+    slice-write-out
+    add-place
+    loop-less
+    loop-again
+    same-length
+    returns)

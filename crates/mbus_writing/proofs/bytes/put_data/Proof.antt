@@ -1,0 +1,54 @@
+-- `mbus_writing::bytes::put_data` meets its contract: the entries, the start before them, then the end. Assumes nothing.
+use borrow.Author.Needs.{needs}
+use native.Mathlib.Omega.{arith}
+use Rattle.mbus_writing.proofs.Laws.Laying.{entries-fit, entries-end, data-laid}
+use Rattle.mbus_writing.proofs.bytes.put_data.Statement.{statement}
+use Rattle.mbus_writing.proofs.bytes.put_data.Tie as tie
+
+put-entries-requires : tie.Need-put-entries-requires
+put-entries-requires c κs = entries-fit (c .before .before .before .before .pre)
+
+sub-head-bytes : tie.Need-sub-head-bytes
+sub-head-bytes c = search needs
+
+cast-head-bytes : tie.Need-cast-head-bytes
+cast-head-bytes c = let e = entries-end (c .before .before .before .before .before .before .before .pre) (c .before .before .put-entries .ensures)
+    in omega arith
+
+head-bytes-requires : tie.Need-head-bytes-requires
+head-bytes-requires c κs = search needs
+
+slice-aggregate-lay : tie.Need-slice-aggregate-lay
+slice-aggregate-lay c = search needs
+
+lay-requires : tie.Need-lay-requires
+lay-requires c κs = search needs
+
+close-requires : tie.Need-close-requires
+close-requires c κs = let e = entries-end (c .before .before .before .before .before .before .before .before .before .before .before .before .before .before
+    .pre) (c .before .before .before .before .before .before .before .before .before .put-entries .ensures) in (omega arith, omega arith, search needs)
+
+same-length : tie.Need-same-length
+same-length c = search needs
+
+returns : tie.Need-returns
+returns c =
+    data-laid (c .before .before .before .before .before .before .before .before .before .before .before .before .before .before .before .before .before
+    .pre) (c .before .before .before .before .before .before .before .before .before .before .before .before .put-entries .ensures)
+    (c .before .before .before .before .before .before .before .before .before .head-bytes .ensures)
+    (c .before .before .before .before .before .before .lay .ensures)
+    (c .before .before .close .ensures)
+
+pub put-data-spec : {M : Type 1} → statement M
+put-data-spec =
+    tie.close
+    (tie.spec
+    put-entries-requires
+    sub-head-bytes
+    cast-head-bytes
+    head-bytes-requires
+    slice-aggregate-lay
+    lay-requires
+    close-requires
+    same-length
+    returns)

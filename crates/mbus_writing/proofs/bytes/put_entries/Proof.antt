@@ -1,0 +1,58 @@
+-- `mbus_writing::bytes::put_entries` meets its contract: the entries so far lie one after the other. Assumes nothing.
+use Prim.Native.Nat.{_-_}
+use native.Mathlib.Omega.{arith}
+use borrow.Author.Needs.{needs}
+use Rattle.mbus_writing.proofs.Laws.Laying.{Laying, laying-none, laying-fits, laying-next, laying-all}
+use Rattle.mbus_writing.proofs.bytes.put_entries.Statement.{statement}
+use Rattle.mbus_writing.proofs.bytes.put_entries.Tie as tie
+
+abbrev Inv-loop : tie.InvT-loop
+Inv-loop count bytes₀ entries at₀ i₀ bytes at i = Laying entries count bytes₀ i at bytes
+
+abbrev μ-loop : tie.MeasureT-loop
+μ-loop count bytes₀ entries at₀ i₀ bytes at i = count - i
+
+loop-holds : tie.Need-loop-holds Inv-loop μ-loop
+loop-holds c = laying-none (search needs) (c .before .pre)
+
+mul-e : tie.Need-mul-e Inv-loop μ-loop
+mul-e c = search needs
+
+array-copy-out-e : tie.Need-array-copy-out-e Inv-loop μ-loop
+array-copy-out-e c = search needs
+
+put-entry-requires : tie.Need-put-entry-requires Inv-loop μ-loop
+put-entry-requires c κs = laying-fits (c .before .before .before .loop .inv) (c .before .before .loop-test .taken) _
+
+add-i : tie.Need-add-i Inv-loop μ-loop
+add-i c = search needs
+
+loop-less : tie.Need-loop-less Inv-loop μ-loop
+loop-less c = search needs
+
+loop-again : tie.Need-loop-again Inv-loop μ-loop
+loop-again c =
+    laying-next (c .before .before .before .before .before .before .loop .inv) (c .before .before .before .before .before .loop-test .taken) _
+    (c .before .before .put-entry .ensures)
+
+same-length : tie.Need-same-length Inv-loop μ-loop
+same-length c = omega (arith, c .before .loop .inv .same, c .before .loop .inv .fit .room)
+
+returns : tie.Need-returns Inv-loop μ-loop
+returns c = laying-all (c .before .loop .inv) (c .loop-test .left)
+
+pub put-entries-spec : {M : Type 1} → statement M
+put-entries-spec =
+    tie.close
+    (tie.spec
+    Inv-loop
+    μ-loop
+    loop-holds
+    mul-e
+    array-copy-out-e
+    put-entry-requires
+    add-i
+    loop-less
+    loop-again
+    same-length
+    returns)

@@ -1,0 +1,35 @@
+-- `mbus_writing::bytes::put_read` meets its contract: a frame that was begun is closed. Assumes nothing.
+use borrow.Author.Needs.{needs}
+use Prim.Native.Nat.{ℕ}
+use mathlib.Core.List.{List, [], _∷_}
+use mathlib.Core.Path.{refl}
+use native.Mathlib.Omega.{arith}
+use Rattle.mbus_writing.proofs.Laws.Laying.{frame-laid, front-laid}
+use Rattle.mbus_writing.proofs.bytes.put_read.Statement.{statement}
+use Rattle.mbus_writing.proofs.bytes.put_read.Tie as tie
+
+slice-aggregate-lay : tie.Need-slice-aggregate-lay
+slice-aggregate-lay c = search needs
+
+lay-requires : tie.Need-lay-requires
+lay-requires c κs = search needs
+
+close-requires : tie.Need-close-requires
+close-requires c κs = search needs
+
+same-length : tie.Need-same-length
+same-length c = search needs
+
+returns : tie.Need-returns
+returns c =
+    let a = c .before .before .before .before .before .before .before .before .before .before .args in
+    let s : List ℕ = 0x10 ∷ 0x5B ∷ a .address ∷ [] in
+    frame-laid s (c .before .before .close .ensures) (front-laid (a .bytes .now) s (omega (
+      arith,
+      c .before .before .before .before .before .before .before
+          .before .before .before .pre,
+    )) (c .before .before .before .before .before .before .lay .ensures)) refl
+
+pub put-read-spec : {M : Type 1} → statement M
+put-read-spec =
+    tie.close (tie.spec slice-aggregate-lay lay-requires close-requires same-length returns)

@@ -1,0 +1,61 @@
+-- Bytes laid one part after the other.
+use Prim.Native.Nat.{ℕ, _+_, _%_, _≤_}
+use mathlib.Core.Bool.{Bool, true, false, _&&_}
+use mathlib.Core.List.{List, [], _∷_, _++_}
+use mathlib.Core.Path.{_≡_}
+use lib.ListN.{length, take, drop}
+use Rattle.bytes_lent.specs.Copying.{laid}
+use Rattle.mbus_rules.specs.declared.Value.{Value}
+use Rattle.mbus_rules.specs.declared.Value.the-variants.{Number, Time}
+use Rattle.mbus_rules.specs.declared.Entry.{Entry}
+use Rattle.mbus_rules.specs.declared.Telegram.{Telegram}
+use Rattle.mbus_rules.specs.Lists.{any, total}
+use Rattle.mbus_rules.specs.Digits.{packed}
+use Rattle.mbus_rules.specs.Moments.{dateExists, timeExists}
+use Rattle.mbus_rules.specs.Writing.{momentBytes, bytesOfEntry, bytesOfEntries, wrongEntry, wrongData}
+
+-- a value in six bytes, and what it takes to write it so
+abbrev pub sixBytes : Value → List ℕ
+sixBytes (Number d) = packed 6 (d .count)
+sixBytes (Time m) = momentBytes m
+
+abbrev pub exists : Value → Bool
+exists (Number d) = true
+exists (Time m) = dateExists m && timeExists m
+
+-- what laying one entry asks, and what it gives
+pub record EntryFits (e : Entry) (before : List ℕ) (at : ℕ) : Type 0 where
+  pub right : wrongEntry e ≡ false
+  pub room : at + length (bytesOfEntry e) ≤ 75
+  pub size : length before ≡ 77
+
+pub record EntryLaid (e : Entry) (before after : List ℕ) (at next : ℕ) : Type 0 where
+  pub bytes : after ≡ laid before at (bytesOfEntry e)
+  pub so : next ≡ at + length (bytesOfEntry e)
+
+-- the same for all entries
+pub record EntriesFit (entries : List Entry) (count : ℕ) (before : List ℕ) : Type 0 where
+  pub few : count ≤ 7
+  pub right : any wrongEntry (take count entries) ≡ false
+  pub room : length before ≡ 77
+
+pub record EntriesLaid (es : List Entry) (before after : List ℕ) (end : ℕ) : Type 0 where
+  pub bytes : after ≡ laid before 19 (bytesOfEntries es)
+  pub so : end ≡ 19 + length (bytesOfEntries es)
+
+-- ---- frames
+
+-- a frame that was closed: up to the end, then the sum from a place on, and 16
+pub record FrameClosed (before after : List ℕ) (from end next : ℕ) : Type 0 where
+  pub bytes : take next after ≡ take end before ++ (total (drop from (take end before)) % 256 ∷ 0x16 ∷ [])
+  pub so : next ≡ end + 2
+
+-- bytes in the first places
+pub record BytesLaid (s after : List ℕ) (count : ℕ) : Type 0 where
+  pub bytes : take count after ≡ s
+  pub so : count ≡ length s
+
+-- what a data telegram's bytes ask
+pub record DataFits (t : Telegram) (before : List ℕ) : Type 0 where
+  pub right : wrongData t ≡ false
+  pub room : length before ≡ 77

@@ -1,0 +1,32 @@
+// Line writing.
+mod bytes;
+
+ghost use Rattle.mbus_writing.specs.Answering.{WritesLine};
+use bytes::carry;
+use bytes::put_bytes;
+use mbus_rules::Telegram;
+use mbus_writable::is_unwritable;
+
+// The characters written, or the number of a refusal.
+pub enum Written {
+    Length(usize),
+    Refused(u16),
+}
+
+// Writes the line of a telegram into the first places and nothing beyond. Where no accepted line reads as the telegram
+// that is 20, where there are fewer places than characters 21, and all places stay as they were.
+pub fn write_line(telegram: Telegram, out: &mut [u16]) -> Written
+    ensures { λ r. ⌜ WritesLine telegram (now (out .entry)) (now (out .exit)) r ⌝ }
+{
+    let unwritable = is_unwritable(telegram);
+    if unwritable {
+        return Written::Refused(20);
+    }
+    let mut bytes = [0u8; 77];
+    let count = put_bytes(telegram, &mut bytes);
+    if out.len() < count {
+        return Written::Refused(21);
+    }
+    carry(&bytes[..count], out);
+    Written::Length(count)
+}

@@ -1,6 +1,0 @@
--- 01, "The simulated meter": its rules, and what they make of whole histories.
-pub mod Meters
-pub mod Shown
-pub mod Histories
-pub mod HistoryLaws
-pub mod Written

@@ -1,2 +1,0 @@
--- What the loops of this crate hold on to.
-pub mod Counting

@@ -1,2 +1,0 @@
--- What the functions of this crate answer in between.
-pub mod DataTelegrams

@@ -1,2 +1,0 @@
--- What is known of the field of a long form.
-pub mod Fields

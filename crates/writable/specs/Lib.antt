@@ -1,2 +1,0 @@
--- What the walks over a telegram's entries hold on to.
-pub mod Walks
