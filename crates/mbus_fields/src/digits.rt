@@ -3,7 +3,7 @@ ghost use mathlib.Core.Path.{_≡_};
 ghost use lib.ListN.{take};
 ghost use Rattle.mbus_rules.specs.Lists.{any};
 ghost use Rattle.mbus_rules.specs.Digits.{overNine, digitsOf};
-ghost use Rattle.bytes_numbers.specs.Numbers.{bytesOf};
+ghost use Rattle.bytes_numbers.specs.Numbers.{number, bytesOf};
 ghost use Rattle.mbus_fields.specs.Fields.{packedOf};
 use bytes_numbers::number_at;
 
@@ -32,6 +32,26 @@ fn over_nine(word: u64) -> bool
     0 < word & ((word & SIXES) + SIXES) & EIGHTS
 }
 
+// The first eight bytes as a word, no value has more. A width that the code names is read without a loop.
+fn word_of(value: &[u8]) -> u64
+    ensures { λ r. ⌜ r ≡ number (take 8 (now (value .entry))) ⌝ }
+{
+    let width = value.len();
+    if width == 4 {
+        return number_at(value, 0, 4);
+    }
+    if width == 2 {
+        return number_at(value, 0, 2);
+    }
+    if width == 3 {
+        return number_at(value, 0, 3);
+    }
+    if width == 6 {
+        return number_at(value, 0, 6);
+    }
+    number_at(value, 0, 8)
+}
+
 // The number whose digits the eight bytes are. Digits are joined by twos, fours and eights in the whole word at once: of each 16 in the
 // high half 6 is taken off, which leaves 10, of each 256 156, of each 65536 55536.
 fn count_of(word: u64) -> u64
@@ -56,5 +76,5 @@ pub fn packed_in(word: u64) -> Packed
 pub fn packed_of(value: &[u8]) -> Packed
     ensures { λ r. ⌜ r ≡ packedOf (take 8 (now (value .entry))) ⌝ }
 {
-    packed_in(number_at(value, 0, 8))
+    packed_in(word_of(value))
 }

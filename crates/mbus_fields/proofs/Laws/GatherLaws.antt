@@ -2,11 +2,12 @@
 use Prim.Native.Nat.{ℕ, zero, suc, _+_, _*_, _/_, _%_, _^_, _≤_, _<_}
 use mathlib.Core.Bool.{false}
 use mathlib.Core.List.{List, [], _∷_}
-use mathlib.Core.Path.{_≡_, refl}
+use mathlib.Core.Path.{_≡_, refl, sym, ap, _∙_}
 use native.Mathlib.Nat.{pow-suc, le-trans, pow-le-pow-right, mul-le-mul-left}
 use native.Mathlib.Omega.{arith}
 use lib.Dec.{lit<}
 use lib.ListN.{length, take, length-take}
+use lib.Seq.{take-all}
 use Rattle.mbus_rules.specs.Lists.{at, any}
 use Rattle.mbus_rules.specs.Bytes.{Bytes}
 use Rattle.mbus_rules.proofs.Laws.ByteLaws.{bytes-take}
@@ -19,6 +20,10 @@ bytes-known [] h = tt
 bytes-known (b ∷ s) h = (h 0, bytes-known s (λ i. h (suc i)))
 
 -- ---- the word
+
+-- the first bytes of a list that has no more
+pub whole-word : (k : ℕ) (s : List ℕ) → length s ≤ k → length s ≤ 8 → number (take k s) ≡ number (take 8 s)
+whole-word k s h e = ap number (take-all k s h ∙ sym (take-all 8 s e))
 
 no-digits : (k : ℕ) → any overNine (bytesOf k 0) ≡ false
 unfolding any bytesOf
