@@ -12,24 +12,19 @@ use Rattle.mbus_rules.specs.Answers.{reads, refusal}
 use Rattle.mbus_rules.specs.Lines.{readLine}
 use Rattle.mbus_rules.specs.TelegramSizes.{Sized}
 use Rattle.mbus_rules.specs.Writing.{lineOf, unwritable, writeLine}
-use Rattle.mbus_rules.proofs.Laws.RoundTrip.{read-then-write, write-then-read, refusal-20}
-
--- what a telegram that can be written is answered, by the places
-enough : (t : Telegram) (places : ℕ) → unwritable t ≡ false → length (lineOf t) ≤ places → writeLine t places ≡ reads (lineOf t)
-enough t places u h = rw (u, le-ltb places (length (lineOf t)) h)
+use Rattle.mbus_rules.proofs.Laws.RoundTrip.{write-then-read, enough-places, written-again, refusal-20}
 
 -- An accepted line, read and written into enough places, gives the same characters in the first of them, and nothing beyond changes.
 pub read-and-write : (s : List ℕ) (t : Telegram) (out : List ℕ) → readLine s ≡ reads t → length s ≤ length out
     → (writeLine t (length out) ≡ reads s) × (stored (λ (line : List ℕ). line) out (writeLine t (length out)) ≡ s ++ drop (length s) out)
 read-and-write s t out r h =
-    let again = read-then-write s t r in
-    let written : writeLine t (length out) ≡ reads s = enough t (length out) (again .writable) (rw (← again .same) h) ∙ ap reads (sym (again .same)) in
+    let written : writeLine t (length out) ≡ reads s = written-again s t (length out) r h in
     (written, ap (stored (λ (line : List ℕ). line) out) written)
 
 -- A telegram that can be written, written into enough places and read, gives itself.
 pub write-and-read : (t : Telegram) (out : List ℕ) → Sized t → unwritable t ≡ false → length (lineOf t) ≤ length out
     → (s : List ℕ) × (writeLine t (length out) ≡ reads s) × (readLine s ≡ reads t)
-write-and-read t out z u h = (lineOf t, enough t (length out) u h, write-then-read t z u)
+write-and-read t out z u h = (lineOf t, enough-places t (length out) u h, write-then-read t z u)
 
 -- Too few places is 21, and 21 is nothing else.
 pub too-few-places : (t : Telegram) (places : ℕ) → unwritable t ≡ false → places < length (lineOf t) → writeLine t places ≡ refusal 21

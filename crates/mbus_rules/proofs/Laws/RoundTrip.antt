@@ -5,7 +5,7 @@ use mathlib.Core.List.{List, [], _∷_, map}
 use mathlib.Core.Logic.{_↔_}
 use mathlib.Core.Path.{_≡_, refl, sym, ap, _∙_}
 use native.Mathlib.Omega.{arith}
-use borrow.Author.Tests.{ne-eqb}
+use borrow.Author.Tests.{ne-eqb, le-ltb}
 use lib.Dec.{ltb, eqb}
 use lib.ListN.{length, length-map}
 use Rattle.mbus_rules.specs.declared.Kind.the-variants.{Data}
@@ -64,6 +64,15 @@ accepted-lines s = (
   λ a. let r : Rewritten s (a .0) = read-then-write s (a .0) (a .1) in (a .0, r .sized, r .writable, r .same),
   λ w. (w .0, ap readLine (w .3) ∙ write-then-read (w .0) (w .1) (w .2)),
 )
+
+-- A telegram that can be written is written, where the places are enough; so an accepted line, read and written, gives the same characters.
+pub enough-places : (t : Telegram) (places : ℕ) → unwritable t ≡ false → length (lineOf t) ≤ places → writeLine t places ≡ reads (lineOf t)
+enough-places t places u h = rw (u, le-ltb places (length (lineOf t)) h)
+
+pub written-again : (s : List ℕ) (t : Telegram) (places : ℕ) → readLine s ≡ reads t → length s ≤ places → writeLine t places ≡ reads s
+written-again s t places r h =
+    let again = read-then-write s t r in
+    enough-places t places (again .writable) (rw (← again .same) h) ∙ ap reads (sym (again .same))
 
 -- Within 20 and 21 the lower goes first.
 pub lower-first : (t : Telegram) (places : ℕ) → unwritable t ≡ true → writeLine t places ≡ refusal 20
