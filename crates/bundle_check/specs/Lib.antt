@@ -1,4 +1,4 @@
--- What document 01 says of the run bundle: one module for each thing, in 01's order, and the laws about each beside it.
+-- What document 01 says of the run bundle: one module for each thing, in 01's order.
 pub mod Walks
 pub mod RowRules
 pub mod Walking

@@ -1,4 +1,4 @@
--- Laws on lists that the bundle's laws ask for.
+-- What the statements about a bundle ask of lists.
 use mathlib.Core.List.{List, [], _∷_}
 
 -- each element has the property

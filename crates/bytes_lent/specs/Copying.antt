@@ -1,4 +1,4 @@
--- Copying bytes to a place: what is then there, and the laws by which a loop does it.
+-- Copying to a place: what is then there.
 use Prim.Native.Nat.{ℕ, _+_}
 use mathlib.Core.Bool.{cond}
 use mathlib.Core.List.{List, _++_}

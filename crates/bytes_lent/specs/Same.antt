@@ -1,4 +1,4 @@
--- Two lists of bytes are the same: the test, and the laws by which a loop computes it.
+-- Two lists of bytes are the same: the test.
 use Prim.Native.Nat.{ℕ}
 use mathlib.Core.Bool.{Bool, true, false, _&&_}
 use mathlib.Core.List.{List, [], _∷_}

@@ -1,4 +1,4 @@
--- The laws by which the code answers, and the law of the record: what a call leaves is read back as the same meter.
+-- What a step of the meter answers to C and leaves in its record, by the program's own types.
 use Prim.Native.Nat.{ℕ, _+_}
 use mathlib.Core.List.{List}
 use mathlib.Core.Path.{_≡_}

@@ -1,4 +1,4 @@
--- A walk over few characters that leaves at the first which is not sound.
+-- 01, "Refusal numbers", 2 and 3, of few characters: a walk that leaves at the first which is not sound.
 use Prim.Native.Nat.{ℕ}
 use mathlib.Core.Bool.{Bool, true, false}
 use mathlib.Core.List.{List, map}

@@ -1,4 +1,4 @@
--- Lists of bytes, and a list spelled out place by place.
+-- Lists of bytes, as lent memory holds them.
 use Prim.Native.Nat.{ℕ, _<_}
 use mathlib.Core.List.{List, [], _∷_}
 

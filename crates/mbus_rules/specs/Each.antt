@@ -1,4 +1,4 @@
--- Demand 3 in layers: what is asked of an acceptance of lines, and what then holds of it. The rules of a body have no part in this.
+-- Demand 3: lines joined end to end.
 use Prim.Native.Nat.{ℕ}
 use mathlib.Core.List.{List, List·Memᴰ}
 

@@ -1,4 +1,4 @@
--- The header both ways, in twelve bytes.
+-- 01, "Header, 12 bytes": version, access and status are any byte.
 use Prim.Native.Nat.{_<_}
 use Rattle.mbus_rules.specs.declared.Header.{Header}
 

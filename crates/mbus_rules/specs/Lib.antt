@@ -1,4 +1,4 @@
--- What document 01 says of a line: one module for each paragraph, in 01's order, and the laws about each beside it.
+-- What document 01 says of a line: one module for each paragraph, in 01's order.
 pub mod Lists
 pub mod Characters
 pub mod Answers
@@ -16,7 +16,7 @@ pub mod Host
 pub mod Flips
 pub mod Each
 pub mod FourFlips
--- Demand 2: what is read and what is written undo each other.
+-- What the types of fields see to.
 pub mod Bytes
 pub mod HeaderSizes
 pub mod TelegramSizes

@@ -1,4 +1,4 @@
--- A telegram that can be written is one that a line reads as: what its kind does not use is blank.
+-- 01, "Telegrams": A is any byte, and seven entries are in an array.
 use Prim.Native.Nat.{_<_}
 use mathlib.Core.Path.{_≡_}
 use lib.ListN.{length}

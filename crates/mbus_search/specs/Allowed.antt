@@ -1,4 +1,4 @@
--- Laws about the search: the length is the only one possible, and the first bytes say which.
+-- 01, "Refusal numbers", 5 to 7, where a line begins: the one length that its first bytes and its end allow.
 use Prim.Native.Nat.{ℕ, _+_, _-_}
 use mathlib.Core.Bool.{cond, _&&_}
 use mathlib.Core.List.{List, map}

@@ -1,4 +1,4 @@
--- The rules 4 to 9, form by form, and what a shape leaves to be read.
+-- 01, "Refusal numbers", 4 and 5: the forms that they leave.
 use Prim.Native.Nat.{ℕ, _+_, _≤_}
 use mathlib.Core.List.{List}
 use mathlib.Core.Path.{_≡_}

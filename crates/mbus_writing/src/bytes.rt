@@ -4,7 +4,6 @@ ghost use mathlib.Core.Bool.{true, false};
 ghost use mathlib.Core.List.{[], _∷_, _++_, map};
 ghost use Prim.Native.Nat.{_+_, _*_, _/_, _%_, _≤_};
 ghost use lib.ListN.{length, take, drop};
-ghost use Rattle.mbus_rules.specs.Lists.{total};
 ghost use Rattle.mbus_rules.specs.Characters.{carrier};
 ghost use Rattle.mbus_rules.specs.Digits.{packed};
 ghost use Rattle.mbus_rules.specs.Moments.{dateExists, timeExists};
@@ -12,6 +11,7 @@ ghost use Rattle.mbus_rules.specs.Writing.{momentBytes, bytesOfHeader, shortFra
 ghost use Rattle.bytes_lent.specs.Copying.{laid};
 ghost use Rattle.mbus_writing.specs.Laying.{sixBytes, exists, EntryFits, EntryLaid, EntriesFit, EntriesLaid, FrameClosed, BytesLaid, DataFits};
 use bytes_lent::lay;
+use mbus_characters::sum_of;
 use mbus_fields::quantities::width_of;
 use mbus_rules::Entry;
 use mbus_rules::Header;
@@ -101,19 +101,6 @@ fn head_bytes(l: u8, address: u8, h: Header) -> [u8; 19]
         0,
         0,
     ]
-}
-
-// The sum of the bytes, modulo 256.
-fn sum_of(bytes: &[u8]) -> u8
-    ensures { λ r. ⌜ r ≡ total (now (bytes .entry)) % 256 ⌝ }
-{
-    let mut sum: u8 = 0;
-    let mut i = 0;
-    while i < bytes.len() {
-        sum = std::num::wrapping_add_u8(sum, bytes[i]);
-        i += 1;
-    }
-    sum
 }
 
 // Puts an entry from a place on, and answers the place after it.

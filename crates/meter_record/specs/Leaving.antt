@@ -1,9 +1,7 @@
--- Set-up and every step give a meter that has a record, so what they write is read back as the same meter.
+-- The meter that a step leaves, as a record keeps it.
 use Rattle.bench_clock.specs.declared.Clock.{Clock}
 use Rattle.meter_steps.specs.declared.Meter.{Meter}
 use Rattle.meter_steps.specs.Meters.{Deed}
-
--- ---- set-up and every step give a good meter
 
 -- the meter that a step leaves
 abbrev pub leaves : Clock → Deed → Meter

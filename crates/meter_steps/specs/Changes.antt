@@ -1,4 +1,4 @@
--- What the rules make of whole histories.
+-- 01, "The simulated meter": what a read changes, and totals that never fall.
 use Prim.Native.Nat.{_≤_}
 use Rattle.bench_clock.specs.declared.Clock.{Clock}
 use Rattle.meter_template.specs.declared.Pair.{Pair}

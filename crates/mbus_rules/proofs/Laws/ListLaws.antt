@@ -33,31 +33,6 @@ pub gathered-all : {A : Type 0} {test : A → Bool} {s : List A} {i : ℕ} {foun
 unfolding any
 gathered-all {test = test} {s} {i} {found} g h = sym (or-false found) ∙ ap (λ (l : List _). found || any test l) (sym (drop-of-length-le s h)) ∙ g .so
 
--- A loop that sums whole characters: what was summed so far and is still to be summed is the sum of the bytes, modulo 256.
-pub record Summed (s : List ℕ) (i sum : ℕ) : Type 0 where
-  pub inside : i ≤ length s
-  pub so : (sum + total (map byteOf (drop i s))) % 256 ≡ total (map byteOf s) % 256
-
-pub summed-none : {s : List ℕ} → Summed s 0 0
-summed-none {s} = record { inside = zero-le; so = rw zero-add }
-
-carried : (c sum rest : ℕ) → ((sum + c) % 65536 + rest) % 256 ≡ (sum + (c % 256 + rest)) % 256
-carried c sum rest = omega arith
-
-pub summed-next : {s : List ℕ} {i sum : ℕ} → Summed s i sum → i < length s → Summed s (i + 1) ((sum + at s i) % 65536)
-unfolding total
-summed-next {s} {i} {sum} g h = record {
-  inside = omega arith;
-  so =
-      rw add-one (carried (at s i) sum (total (map byteOf (drop (suc i) s))))
-      ∙ ap (λ (l : List ℕ). (sum + total (map byteOf l)) % 256) (sym (drop-cons s i 0 h)) ∙ g .so;
-}
-
-pub summed-all : {s : List ℕ} {i sum : ℕ} → Summed s i sum → length s ≤ i → sum % 256 ≡ total (map byteOf s) % 256
-unfolding total
-summed-all {s} {i} {sum} g h =
-    ap (λ (n : ℕ). n % 256) (sym (add-zero sum)) ∙ ap (λ (l : List ℕ). (sum + total (map byteOf l)) % 256) (sym (drop-of-length-le s h)) ∙ g .so
-
 -- the rest of a beginning
 pub drop-take : (a m : ℕ) (s : List ℕ) → drop a (take m s) ≡ take (m - a) (drop a s)
 drop-take zero m s = rw sub-zero
