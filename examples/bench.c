@@ -1,5 +1,6 @@
 /*
- * One position of a bench, from the wake-up to the error on the certificate, with a simulated meter in place of a real one.
+ * One position of a bench, from the wake-up to the error on the certificate, with a simulated meter in place of a real one,
+ * and what the resistance box is set to in place of its probes.
  *
  * The line loses the first answer, so the enter is sent twice. An answer that was left in the driver's buffer turns up at the
  * second read; it began before that read had ended, and does not count. What is sent and heard goes into a run bundle.
@@ -96,6 +97,15 @@ static void wake_up(void)
     expect("gap", skarrowith_gap(end, now));
 }
 
+/* What the resistance box is set to in place of a probe, at a temperature in hundredths of a degree. */
+static void set_box(const char *probe, uint32_t hundredths)
+{
+    uint32_t milliohm;
+    expect("box", skarrowith_resistance(hundredths, &milliohm));
+    printf("%s at %lu.%02lu degrees: %lu.%03lu ohm\n", probe, (unsigned long)hundredths / 100, (unsigned long)hundredths % 100,
+           (unsigned long)milliohm / 1000, (unsigned long)milliohm % 1000);
+}
+
 /* The volume that an answer gives, a count of its last digit. */
 static uint64_t volume_in(const struct skarrowith_telegram *answer)
 {
@@ -124,6 +134,8 @@ int main(void)
     int64_t tenths;
 
     expect("set-up", skarrowith_meter_set_up(&meter, sizeof meter, OWN_ADDRESS, &template, sizeof template));
+    set_box("inlet", 7812);
+    set_box("outlet", 6534);
     wake_up();
     ask(SKARROWITH_ENTER, START_STOP, 1, NULL, 0, &ack);
     ask(SKARROWITH_READ, 0, 0, NULL, 0, &first);

@@ -26,6 +26,8 @@ static const struct {
     [WRITE_WAKE] = {"skarrowith_write_wake", "0", "21 52"},
     [GAP] = {"skarrowith_gap", "0", "50 51"},
     [INDICATION] = {"skarrowith_error", "0", "21 60 61 62"},
+    [RESISTANCE] = {"skarrowith_resistance", "0", "90"},
+    [TEMPERATURE] = {"skarrowith_temperature", "0", "91"},
     [EXCHANGE_START] = {"skarrowith_exchange_start", "1", "21 42"},
     [EXCHANGE_HEARD] = {"skarrowith_exchange_heard", "2 3 4", "21 40 41 101"},
     [EXCHANGE_TICK] = {"skarrowith_exchange_tick", "1 2 4", "40 41 101"},

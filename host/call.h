@@ -15,6 +15,8 @@ enum function {
     WRITE_WAKE,
     GAP,
     INDICATION,
+    RESISTANCE,
+    TEMPERATURE,
     EXCHANGE_START,
     EXCHANGE_HEARD,
     EXCHANGE_TICK,

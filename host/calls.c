@@ -12,6 +12,7 @@
 #include "../second/example.h"
 #include "../second/line.h"
 #include "../second/number.h"
+#include "../second/resistance.h"
 
 #include <stdio.h>
 #include <stdlib.h>
@@ -23,6 +24,7 @@ enum { MOST = SECOND_BUNDLE, ROWS = SECOND_ROWS };
 static uint8_t bytes[2 * MOST], text[MOST];
 static uint16_t characters[MOST];
 static size_t count, places = 4096, told;
+static uint32_t number;
 static struct skarrowith_found found;
 static struct skarrowith_telegram telegram;
 static struct skarrowith_exchange waiting, exchange;
@@ -57,6 +59,8 @@ static uint32_t meter_measure(void)
     return skarrowith_meter_measure(&meter, sizeof meter, 1, 1, 1100);
 }
 
+static uint32_t resistance(void) { return skarrowith_resistance(5019, &number); }
+static uint32_t temperature(void) { return skarrowith_temperature(1200000, &number); }
 static uint32_t check_bundle(void) { return skarrowith_bundle_check(bytes, count, &told); }
 static uint32_t list_bundle(void) { return skarrowith_bundle_list(bytes, count, text, sizeof text, &told); }
 static uint32_t none(void) { return (uint32_t)count; }
@@ -67,6 +71,9 @@ static uint32_t read_by_second(void)
     int refusal = second_read(characters, count, &t);
     return refusal == 0 ? (uint32_t)t.kind + 1 : 256 + (uint32_t)refusal;
 }
+
+/* By the formula, without a table. */
+static uint32_t resistance_by_second(void) { return (uint32_t)second_resistance(5019, &number); }
 
 /* ---- on what */
 
@@ -186,6 +193,8 @@ static const struct {
     {"search-data", put_data, find, NULL},
     {"find-noise", put_noise, find, NULL},
     {"find-starts", put_starts, find, NULL},
+    {"resistance", put_ack, resistance, resistance_by_second},
+    {"temperature", put_ack, temperature, NULL},
     {"check-bundle", put_bundle, check_bundle, NULL},
     {"list-bundle", put_bundle, list_bundle, NULL},
 };

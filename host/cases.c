@@ -9,6 +9,7 @@
 #include "../second/indication.h"
 #include "../second/line.h"
 #include "../second/meter.h"
+#include "../second/resistance.h"
 #include "../second/wake.h"
 
 #include <string.h>
@@ -129,6 +130,16 @@ int second_gap(uint64_t wake_end, uint64_t command_begin)
 int second_error(uint64_t m1, uint64_t m2, uint64_t s1, uint64_t s2, int64_t *tenths)
 {
     return refusal_in(skarrowith_error(m1, m2, s1, s2, tenths, 1));
+}
+
+int second_resistance(uint32_t hundredths, uint32_t *milliohm)
+{
+    return refusal_in(skarrowith_resistance(hundredths, milliohm));
+}
+
+int second_temperature(uint32_t milliohm, uint32_t *hundredths)
+{
+    return refusal_in(skarrowith_temperature(milliohm, hundredths));
 }
 
 /* ---- the exchange: the record is kept here from step to step, as a bench keeps it, and only the library writes it */

@@ -1,6 +1,6 @@
 /*
  * The archive against the second program, in one process: every function of the header on seeded calls, histories of
- * exchanges and meters with their records, and records that no step gives.
+ * exchanges and meters with their records, and records that no step gives; first the resistance box on every hundredth.
  *   compare [SEED [COUNT]]
  * Makes COUNT calls, or a few more. Prints the first on which they differ in full, and fails; fails too where an answer
  * that a function can give was not seen, where no line had one, two or three flips, or where one that had is accepted.
@@ -10,6 +10,7 @@
 #include "compare_exchange.h"
 #include "compare_line.h"
 #include "compare_meter.h"
+#include "compare_resistance.h"
 
 #include "../second/chance.h"
 
@@ -35,6 +36,7 @@ static const struct {
     {compare_check_line, 240}, {compare_read, 50},      {compare_write, 50},  {compare_request, 10},
     {compare_find, 5},         {compare_words, 10},     {compare_wake, 10},   {compare_gap, 10},
     {compare_error, 20},       {compare_exchange, 20},  {compare_meter, 12},  {compare_bundle, 15},
+    {compare_resistance, 10},  {compare_temperature, 10},
 };
 
 static void compare_some(void)
@@ -58,6 +60,7 @@ int main(int argc, char **argv)
     uint64_t seed = argc > 1 ? strtoull(argv[1], NULL, 10) : 1;
     int all;
     seed_calls(seed);
+    compare_all_resistances();
     while (calls_made() < count)
         compare_some();
     all = all_seen();

@@ -1,5 +1,5 @@
 /*
- * Skarrowith: lines, exchanges, simulated meters and run bundles of a heat-meter verification bench.
+ * Skarrowith: lines, exchanges, simulated meters, run bundles and the resistance box of a heat-meter verification bench.
  *
  * The functions are proved to keep the written rules (docs/RULES.md of the source) for every input, of any length: they
  * read and write only the memory that they are lent, keep no state, call nothing but memcpy and memset, and always return.
@@ -16,8 +16,8 @@
  *
  * Lent memory is a pointer and the number of its places; with 0 of them the pointer may be null. Output that is too short
  * for what is to be written is refused by 21; a longer one is changed in its first places alone. A count that is answered
- * beside (rows, filled, written) is written through a pointer to it, which may not be null. Memory for uint16_t, int64_t and
- * size_t is aligned as C aligns these types; bytes and records may stand at any address.
+ * beside (rows, filled, written, milliohm, hundredths) is written through a pointer to it, which may not be null. Memory for
+ * uint16_t, uint32_t, int64_t and size_t is aligned as C aligns these types; bytes and records may stand at any address.
  *
  * Stack, as measured. skarrowith_bundle_list takes 28,000 bytes, the simulated meter up to 4,300, every other function fewer
  * than 1,500.
@@ -77,7 +77,7 @@ uint32_t skarrowith_check_line(const uint8_t *bytes, size_t len);
 /*
  * Writes the words for a refusal, for an operator to read.
  *
- * number: a refusal number, 1 to 72, 100 or 101, or SKARROWITH_REFUSED plus one, as it was answered.
+ * number: a refusal number, 1 to 91, 100 or 101, or SKARROWITH_REFUSED plus one, as it was answered.
  * out:    len places. The words are ASCII, in one piece, without a zero behind them, and shorter than 256 bytes.
  *
  * Answers how many bytes were written, or SKARROWITH_REFUSED plus 21 (len is too small) or SKARROWITH_NO_SUCH_NUMBER.
@@ -168,6 +168,25 @@ uint32_t skarrowith_gap(uint64_t ended, uint64_t begins);
  * Answers 0, or refuses by 21, 60, 61 or 62.
  */
 uint32_t skarrowith_error(uint64_t m1, uint64_t m2, uint64_t s1, uint64_t s2, int64_t *tenths, size_t places);
+
+/*
+ * The resistance box
+ *
+ * The Pt1000 resistance that stands for a probe at a temperature of 0 to 200 degrees Celsius, by IEC 60751: rounded to
+ * milliohm at whole degrees, and between them on the straight line. milliohm and hundredths are not null.
+ */
+
+/* The highest temperature, in hundredths of a degree Celsius. */
+#define SKARROWITH_HUNDREDTHS_MOST 20000u
+
+/* The resistance in milliohm for a temperature in hundredths of a degree. Answers 0, or refuses by 90 (over 20,000). */
+uint32_t skarrowith_resistance(uint32_t hundredths, uint32_t *milliohm);
+
+/*
+ * The other way round: the highest temperature, in hundredths of a degree, whose resistance is not above this one. Answers
+ * 0, or refuses by 91 (under 1,000,000 milliohm, that of 0 degrees, or over 1,758,560, that of 200).
+ */
+uint32_t skarrowith_temperature(uint32_t milliohm, uint32_t *hundredths);
 
 /*
  * The exchange

@@ -117,6 +117,25 @@ static uint64_t some_time(uint64_t last, uint64_t from, const unsigned *edges, u
     }
 }
 
+uint32_t some_hundredths(void)
+{
+    return once_in(6) ? (uint32_t)of_any_width() : once_in(6) ? between(19998, 20003) : below(20001);
+}
+
+uint32_t some_milliohm(void)
+{
+    switch (below(8)) {
+    case 0:
+        return (uint32_t)of_any_width();
+    case 1:
+        return between(999998, 1000050);
+    case 2:
+        return between(1758520, 1758562);
+    default:
+        return between(1000000, 1758560);
+    }
+}
+
 uint64_t first_time(void)
 {
     return once_in(3) ? UINT64_MAX - below(3000) : once_in(3) ? below(500) : of_any_width();

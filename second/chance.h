@@ -20,6 +20,8 @@ uint64_t some_wake(void);
 uint64_t some_wake_places(uint64_t count);
 void some_gap(uint64_t *wake_end, uint64_t *begin);
 void some_counts(uint64_t c[4]);
+uint32_t some_hundredths(void);
+uint32_t some_milliohm(void);
 uint64_t first_time(void);
 uint64_t exchange_time(const struct second_exchange *x);
 uint64_t meter_time(const struct second_meter *m);

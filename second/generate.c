@@ -93,6 +93,16 @@ static void generate_error(void)
     printf("error +%" PRIu64 " +%" PRIu64 " +%" PRIu64 " +%" PRIu64, c[0], c[1], c[2], c[3]);
 }
 
+static void generate_resistance(void)
+{
+    printf("resistance +%" PRIu32, some_hundredths());
+}
+
+static void generate_temperature(void)
+{
+    printf("temperature +%" PRIu32, some_milliohm());
+}
+
 /* ---- histories, each step chosen by how the exchange or the meter stands */
 
 static void exchange_step(struct second_exchange *x)
@@ -288,7 +298,7 @@ int main(int argc, char **argv)
         {"read", generate_read},   {"write", generate_write}, {"find", generate_find},         {"wake", generate_wake},
         {"gap", generate_gap},     {"error", generate_error}, {"exchange", generate_exchange}, {"meter", generate_meter},
         {"check", generate_check}, {"row", generate_row},     {"body", generate_body},         {"add", generate_add},
-        {"list", generate_list},
+        {"list", generate_list},   {"resistance", generate_resistance}, {"temperature", generate_temperature},
     };
     if (argc != 4)
         return fprintf(stderr, "usage: generate NAME SEED COUNT\n"), 2;

@@ -1,5 +1,5 @@
 /*
- * The words of document 01's refusal table, in ASCII. A row for several numbers is taken apart at its semicolons;
+ * The words of document 01's refusal table, and 02's, in ASCII. A row for several numbers is taken apart at its semicolons;
  * those of the bundle say so first, as the other rows say whose they are. 21 is said of every output, a record's too.
  * 100 and 101 are the library's own (include/skarrowith.h).
  */
@@ -52,6 +52,8 @@ const char *second_words(unsigned long number)
         [70] = "meter: time goes back",
         [71] = "meter: a total would pass 99,999,999",
         [72] = "meter: set up with data the writer refuses, or energy or volume not in structure 0C",
+        [90] = "temperature over 20,000 hundredths",
+        [91] = "resistance below the first or above the last",
         [100] = "no words for this number",
         [101] = "no record: another size, kind or sort, a byte that must be 0, or a state to which no steps lead",
     };

@@ -1,4 +1,4 @@
-/* The words for refusals, document 01's and the library's own, for the second program. */
+/* The words for refusals, those of documents 01 and 02 and the library's own, for the second program. */
 #ifndef SECOND_WORDS_H
 #define SECOND_WORDS_H
 

@@ -1,7 +1,17 @@
 -- 01, "Error of indication": rounded to nearest, halves away from zero.
 -- The core rounds naturals, halves up (02's 2026-13); the sign is put back afterwards (02's 2026-04 rounds the same way).
-use Prim.Native.Nat.{ℕ, suc, _+_, _*_, _/_}
+use Prim.Native.Nat.{ℕ, suc, _+_, _*_, _-_, _/_, _≤_}
+use mathlib.Core.Path.{_≡_}
 use lib.IntN.{ℤ, pos, negsuc, negℤ}
+
+-- how far apart two naturals are
+abbrev pub apart : ℕ → ℕ → ℕ
+apart x y = (x - y) + (y - x)
+
+-- How far q is from a / d, counted in dths, is apart a (q * d). No whole number is nearer than q, and an equally near one is not above it.
+pub record NearestUp (a d q : ℕ) : Type 0 where
+  pub near : (k : ℕ) → apart a (q * d) ≤ apart a (k * d)
+  pub up : (k : ℕ) → apart a (q * d) ≡ apart a (k * d) → k ≤ q
 
 -- the whole number nearest to a / d, halves up
 abbrev pub nearest : ℕ → ℕ → ℕ

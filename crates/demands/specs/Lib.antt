@@ -12,4 +12,5 @@ pub mod Unchanged
 pub mod Settled
 pub mod OneToOne
 pub mod Empty
+pub mod Resistance
 pub mod Values

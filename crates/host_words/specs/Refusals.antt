@@ -1,4 +1,4 @@
--- 01, "Refusal numbers" and "The run bundle": the words for each number, and for the two of the library's own.
+-- 01, "Refusal numbers" and "The run bundle", and 02: the words for each number, and for the two of the library's own.
 use Prim.Native.Nat.{ℕ, _-_}
 use Prim.Native.String.{String}
 use mathlib.Core.Bool.{cond}
@@ -15,7 +15,7 @@ pub record Row : Type 0 where
 abbrev row : ℕ → String → Row
 row n s = record { number = n; words = s }
 
--- 01's words in 01's order, and the library's own numbers. Where 01 joins numbers in one row, the words that they share are said again;
+-- 01's words in 01's order, 02's behind them, and the library's own numbers. Where 01 joins numbers in one row, the words that they share are said again;
 -- ≥ and – are written in ASCII; those of the run bundle are told by its name; 21 is said of every output, a record's too.
 abbrev pub refusalTexts : List Row
 refusalTexts =
@@ -61,6 +61,8 @@ refusalTexts =
     ∷ row 70 "meter: time goes back"
     ∷ row 71 "meter: a total would pass 99,999,999"
     ∷ row 72 "meter: set up with data the writer refuses, or energy or volume not in structure 0C"
+    ∷ row 90 "temperature over 20,000 hundredths"
+    ∷ row 91 "resistance below the first or above the last"
     ∷ row 100 "no words for this number"
     ∷ row 101 "no record: another size, kind or sort, a byte that must be 0, or a state to which no steps lead"
     ∷ []

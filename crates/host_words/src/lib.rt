@@ -1,4 +1,4 @@
-// The words for a refusal number, document 01's and the library's own, for the bench host: include/skarrowith.h says how.
+// The words for a refusal number, those of documents 01 and 02 and the library's own, for the bench host: include/skarrowith.h says how.
 ghost use mathlib.Core.Path.{_≡_};
 ghost use Prim.Native.Nat.{_<_, _≤_};
 ghost use lib.ListN.{length, take, drop};
@@ -146,7 +146,10 @@ fn say_of_steps(out: &mut [u8], number: u32) -> u32
         meter: time goes back\n\
         meter: a total would pass 99,999,999\n\
         meter: set up with data the writer refuses, or energy or volume not in structure 0C\n\
-        \n\n\n\n\n\n\n\n\n\n\n\n\n\n\n\n\n\n\n\n\n\n\n\n\n\n\n\
+        \n\n\n\n\n\n\n\n\n\n\n\n\n\n\n\n\n\
+        temperature over 20,000 hundredths\n\
+        resistance below the first or above the last\n\
+        \n\n\n\n\n\n\n\n\
         no words for this number\n\
         no record: another size, kind or sort, a byte that must be 0, or a state to which no steps lead\n",
         number - 50,

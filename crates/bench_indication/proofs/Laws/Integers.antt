@@ -7,6 +7,7 @@ use native.Mathlib.Omega.{arith}
 use lib.Dec.{ltb}
 use lib.IntN.{ℤ, pos, negsuc, negℤ, natAbs, _+ℤ_, _-ℤ_, _*ℤ_, negℤ-negℤ, negℤ-+ℤ, +ℤ-comm, *ℤ-comm}
 use borrow.Author.Tests.{ltb-true, ltb-false, le-ltb}
+use Rattle.bench_indication.specs.Rounding.{apart}
 
 pub natAbs-neg : (k : ℤ) → natAbs (negℤ k) ≡ natAbs k
 natAbs-neg (pos zero) = refl
@@ -30,10 +31,6 @@ neg-minus m k = negℤ-+ℤ m (negℤ k) ∙ ap (λ z. negℤ m +ℤ z) (negℤ-
 
 pub difference-neg : (x y : ℕ) → x ≤ y → pos x -ℤ pos y ≡ negℤ (pos (y - x))
 difference-neg x y h = sym (neg-minus (pos y) (pos x)) ∙ ap negℤ (difference y x h)
-
--- how far apart two naturals are
-abbrev pub apart : ℕ → ℕ → ℕ
-apart x y = (x - y) + (y - x)
 
 pub natAbs-difference : (x y : ℕ) → natAbs (pos x -ℤ pos y) ≡ apart x y
 natAbs-difference x y = go (ltb x y) refl

@@ -6,13 +6,8 @@ use native.Mathlib.Nat.{lt-div-mul-add}
 use native.Mathlib.Decide.{decLt}
 use native.Mathlib.Omega.{arith}
 use lib.IntN.{ℤ, pos, negsuc, negℤ, natAbs, _+ℤ_, _-ℤ_, _*ℤ_, negℤ-negℤ, negℤ-+ℤ}
-use Rattle.bench_indication.proofs.Laws.Integers.{apart, natAbs-neg, natAbs-difference, neg-times}
-use Rattle.bench_indication.specs.Rounding.{nearest, rounded}
-
--- How far q is from a / d, counted in dths, is apart a (q * d). No whole number is nearer than q, and an equally near one is not above it.
-pub record NearestUp (a d q : ℕ) : Type 0 where
-  pub near : (k : ℕ) → apart a (q * d) ≤ apart a (k * d)
-  pub up : (k : ℕ) → apart a (q * d) ≡ apart a (k * d) → k ≤ q
+use Rattle.bench_indication.proofs.Laws.Integers.{natAbs-neg, natAbs-difference, neg-times}
+use Rattle.bench_indication.specs.Rounding.{apart, NearestUp, nearest, rounded}
 
 -- how far q is from n / d, counted in dths
 abbrev pub off : ℤ → ℕ → ℤ → ℕ

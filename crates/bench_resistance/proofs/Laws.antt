@@ -1,0 +1,4 @@
+pub mod Card
+pub mod Lines
+pub mod Highest
+pub mod Answers
