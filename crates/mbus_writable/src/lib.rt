@@ -10,6 +10,12 @@ use mbus_fields::headers::heat_meter;
 use mbus_fields::headers::maker_named;
 use mbus_fields::moments::date_exists;
 use mbus_fields::moments::time_exists;
+use mbus_fields::quantities::EIGHT_DIGITS;
+use mbus_fields::quantities::FOUR_DIGITS;
+use mbus_fields::quantities::POINT_IN_TIME;
+use mbus_fields::quantities::SIX_DIGITS;
+use mbus_fields::quantities::TWELVE_DIGITS;
+use mbus_fields::quantities::UNIT_OF_TIME;
 use mbus_fields::quantities::is_paired;
 use mbus_fields::quantities::quantity_of;
 use mbus_fields::quantities::width_of;
@@ -79,19 +85,23 @@ fn used_body(t: Telegram) -> bool
 fn limit_of(structure: u8) -> u64
     ensures { λ r. ⌜ r ≡ 100 ^ widthOf structure ⌝ }
 {
-    if structure == 0x0A {
+    if structure == FOUR_DIGITS {
         return 10000;
     }
-    if structure == 0x0B {
+    if structure == SIX_DIGITS {
         return 1000000;
     }
-    if structure == 0x0C {
+    if structure == EIGHT_DIGITS {
         return 100000000;
     }
-    if structure == 0x0E {
+    if structure == TWELVE_DIGITS {
         return 1000000000000;
     }
-    if structure == 0x06 { 1000000000000 } else { 1 }
+    if structure == POINT_IN_TIME {
+        1000000000000
+    } else {
+        1
+    }
 }
 
 // A value of the wrong kind for its unit, too long for its structure, or a point in time that does not exist.
@@ -101,12 +111,12 @@ fn wrong_value(structure: u8, unit: u8, value: Value) -> bool
     match value {
         Value::Number(d) => {
             let limit = limit_of(structure);
-            (unit == 0x6D) | !(d.count < limit)
+            (unit == UNIT_OF_TIME) | !(d.count < limit)
         }
         Value::Time(m) => {
             let date = date_exists(m);
             let time = time_exists(m);
-            !(unit == 0x6D) | !date | !time
+            !(unit == UNIT_OF_TIME) | !date | !time
         }
     }
 }

@@ -3,6 +3,9 @@ ghost use mathlib.Core.Path.{_≡_};
 ghost use Rattle.mbus_rules.specs.Lists.{any};
 ghost use Rattle.meter_template.specs.Templates.{isDataKind, holds, unfitTemplate, valueCount, totalIn, pairIn, counted, filledEntry, filled};
 ghost use Rattle.meter_template.specs.Templates.{nextAccess, raised, dataWith, passes, sumOf, shownSum};
+use mbus_fields::quantities::EIGHT_DIGITS;
+use mbus_fields::quantities::ENERGY;
+use mbus_fields::quantities::VOLUME;
 use mbus_fields::quantities::quantity_of;
 use mbus_rules::Decimal;
 use mbus_rules::Entry;
@@ -25,14 +28,6 @@ pub enum Sum {
 
 // No total passes this.
 pub const TOTAL_MOST: u64 = 99_999_999;
-
-// The rows of the table of quantities that have totals.
-const ENERGY: u8 = 0;
-
-const VOLUME: u8 = 1;
-
-// The structure of a total: eight digits.
-const EIGHT_DIGITS: u8 = 0x0C;
 
 // Whether the entry has the quantity in eight digits.
 fn holds(e: Entry, quantity: u8) -> bool
