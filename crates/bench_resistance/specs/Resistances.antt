@@ -24,13 +24,13 @@ abbrev pub exact : ℕ → ℕ
 exact h = 10 ^ 14 + 39083 * 10 ^ 5 * h - 5775 * (h * h)
 
 -- what the card stores for a whole degree: in milliohm, rounded to nearest, halves up
-unfoldable pub stored : ℕ → ℕ
-stored degree = nearest (exact (100 * degree)) partsOfOne
+unfoldable pub storedFor : ℕ → ℕ
+storedFor degree = nearest (exact (100 * degree)) partsOfOne
 
 -- so many of these, from a degree on
 unfoldable pub storedFrom : ℕ → ℕ → List ℕ
 storedFrom degree zero = []
-storedFrom degree (suc count) = stored degree ∷ storedFrom (suc degree) count
+storedFrom degree (suc count) = storedFor degree ∷ storedFrom (suc degree) count
 
 -- 201 resistances, one for each whole degree
 abbrev pub card : List ℕ
@@ -42,7 +42,7 @@ line low high rest = nearest (low * (100 - rest) + high * rest) 100
 
 -- the answer for a temperature: between degrees, on the straight line between what is stored
 unfoldable pub resistance : ℕ → ℕ
-resistance h = line (stored (h / 100)) (stored (h / 100 + 1)) (h % 100)
+resistance h = line (storedFor (h / 100)) (storedFor (h / 100 + 1)) (h % 100)
 
 -- 90: temperature over 20,000 hundredths
 abbrev pub resistanceOf : ℕ → Answer ℕ
@@ -54,12 +54,12 @@ highest milliohm zero = 0
 highest milliohm (suc most) = cond (leb (resistance (suc most)) milliohm) (suc most) (highest milliohm most)
 
 -- below the first or above the last
-abbrev pub outside : ℕ → Bool
-outside milliohm = ltb milliohm (stored 0) || ltb (stored 200) milliohm
+abbrev pub offCard : ℕ → Bool
+offCard milliohm = ltb milliohm (storedFor 0) || ltb (storedFor 200) milliohm
 
 -- 91: resistance below the first or above the last
 abbrev pub temperatureOf : ℕ → Answer ℕ
-temperatureOf milliohm = refuse 91 (outside milliohm) (reads (highest milliohm hundredthsMost))
+temperatureOf milliohm = refuse 91 (offCard milliohm) (reads (highest milliohm hundredthsMost))
 
 -- the cases of the code's answers for each
 abbrev pub shownResistance : Answer ℕ → Resistance

@@ -1,7 +1,7 @@
 // Setting the resistance box: a Pt1000 resistance for a temperature in hundredths of a degree, 0 to 200 °C, and the other way round.
 ghost use mathlib.Core.Path.{_≡_};
 ghost use Prim.Native.Nat.{_+_, _≤_, _<_};
-ghost use Rattle.bench_resistance.specs.Resistances.{stored, card, line, resistanceOf, temperatureOf, shownResistance, shownTemperature};
+ghost use Rattle.bench_resistance.specs.Resistances.{storedFor, card, line, resistanceOf, temperatureOf, shownResistance, shownTemperature};
 use crate::table::CARD;
 
 mod table;
@@ -56,8 +56,8 @@ pub fn resistance_of(hundredths: u32) -> Resistance
 
 // The highest whole degree whose resistance is not above this one.
 fn degree_of(degrees: &[u32; 201], milliohm: u32) -> usize
-    requires { ⌜ (now degrees ≡ card) × (stored 0 ≤ milliohm) ⌝ }
-    ensures { λ r. ⌜ (r < 201) × (stored r ≤ milliohm) × (r < 200 → milliohm < stored (r + 1)) ⌝ }
+    requires { ⌜ (now degrees ≡ card) × (storedFor 0 ≤ milliohm) ⌝ }
+    ensures { λ r. ⌜ (r < 201) × (storedFor r ≤ milliohm) × (r < 200 → milliohm < storedFor (r + 1)) ⌝ }
 {
     let mut low: usize = 0;
     let mut high: usize = 201;

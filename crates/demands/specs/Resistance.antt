@@ -5,7 +5,7 @@ use lib.ListN.{length, getD}
 use Rattle.mbus_rules.specs.Answers.{reads, refusal}
 use Rattle.bench_indication.specs.Rounding.{apart}
 use Rattle.bench_indication.specs.Rounding.{NearestUp}
-use Rattle.bench_resistance.specs.Resistances.{exact, partsOfOne, stored, storedFrom, card, resistance, resistanceOf, hundredthsMost, temperatureOf}
+use Rattle.bench_resistance.specs.Resistances.{exact, partsOfOne, storedFor, storedFrom, card, resistance, resistanceOf, hundredthsMost, temperatureOf}
 use Rattle.bench_resistance.proofs.Laws.Card.{exact-whole, card-at, stored-nearest}
 use Rattle.bench_resistance.proofs.Laws.Lines.{resistance-near, resistance-rises}
 use Rattle.bench_resistance.proofs.Laws.Answers.{temperature-back, temperature-highest}
@@ -49,5 +49,5 @@ pub resistance-values :
     × (resistanceOf 20001 ≡ refusal 90)
     × (temperatureOf 999999 ≡ refusal 91)
     × (temperatureOf 1758561 ≡ refusal 91)
-unfolding stored resistance
+unfolding storedFor resistance
 resistance-values = (refl, refl, refl, refl, refl, refl, refl, refl)

@@ -10,7 +10,7 @@ use lib.Dec.{ltb}
 use lib.ListN.{getD}
 use Rattle.mbus_rules.proofs.Laws.Tests.{neither, passed}
 use Rattle.mbus_rules.specs.Answers.{Answer, reads, refusal}
-use Rattle.bench_resistance.specs.Resistances.{stored, card, line, resistance, highest, outside, hundredthsMost, temperatureOf}
+use Rattle.bench_resistance.specs.Resistances.{storedFor, card, line, resistance, highest, offCard, hundredthsMost, temperatureOf}
 use Rattle.bench_resistance.specs.Resistances.{shownResistance, shownTemperature}
 use Rattle.bench_resistance.proofs.Laws.Card.{card-read}
 use Rattle.bench_resistance.proofs.Laws.Lines.{resistance-line, resistance-next, resistance-climbs}
@@ -29,12 +29,12 @@ shownTemperature-same (refusal m) (reads y) e = cc
 shownTemperature-same (refusal m) (refusal n) e = cc
 
 -- the first answer and the last are stored
-pub first-stored : resistance 0 ≡ stored 0
-unfolding resistance stored
+pub first-stored : resistance 0 ≡ storedFor 0
+unfolding resistance storedFor
 first-stored = refl
 
-pub last-stored : resistance hundredthsMost ≡ stored 200
-unfolding resistance stored
+pub last-stored : resistance hundredthsMost ≡ storedFor 200
+unfolding resistance storedFor
 last-stored = refl
 
 module _ {degrees : List ℕ} (e : degrees ≡ card) where
@@ -50,29 +50,29 @@ module _ {degrees : List ℕ} (e : degrees ≡ card) where
   answer-between h d = rw (card-read e (h / 100) (omega arith), card-read e (h / 100 + 1) (omega arith))
 
   -- the temperature for a resistance
-  pub outside-read : (milliohm : ℕ) → ltb milliohm (getD degrees 0 0) || ltb (getD degrees 200 0) milliohm ≡ outside milliohm
+  pub outside-read : (milliohm : ℕ) → ltb milliohm (getD degrees 0 0) || ltb (getD degrees 200 0) milliohm ≡ offCard milliohm
   outside-read milliohm = rw (card-read e 0 (omega arith), card-read e 200 (omega arith))
 
-module _ (milliohm : ℕ) (inside : outside milliohm ≡ false) where
-  both : (ltb milliohm (stored 0) ≡ false) × (ltb (stored 200) milliohm ≡ false)
-  both = neither (ltb milliohm (stored 0)) (ltb (stored 200) milliohm) inside
+module _ (milliohm : ℕ) (inside : offCard milliohm ≡ false) where
+  both : (ltb milliohm (storedFor 0) ≡ false) × (ltb (storedFor 200) milliohm ≡ false)
+  both = neither (ltb milliohm (storedFor 0)) (ltb (storedFor 200) milliohm) inside
 
-  pub from-first : stored 0 ≤ milliohm
-  from-first = ltb-false milliohm (stored 0) (both .0)
+  pub from-first : storedFor 0 ≤ milliohm
+  from-first = ltb-false milliohm (storedFor 0) (both .0)
 
   pub temperature-at : (h : ℕ) → h ≤ hundredthsMost → resistance h ≤ milliohm → (h < hundredthsMost → milliohm < resistance (suc h))
       → highest milliohm hundredthsMost ≡ h
   temperature-at h l n above = highest-only (rw first-stored from-first) (highest-next milliohm h l n above)
 
-  pub temperature-last : stored 200 ≤ milliohm → temperatureOf milliohm ≡ reads hundredthsMost
+  pub temperature-last : storedFor 200 ≤ milliohm → temperatureOf milliohm ≡ reads hundredthsMost
   temperature-last n =
       rw inside (ap reads (temperature-at hundredthsMost (le-refl hundredthsMost) (rw last-stored n) (λ l. absurd (omega arith))))
 
   pub temperature-between : (degree rest : ℕ) → degree < 200 → rest < 100
-      → line (stored degree) (stored (degree + 1)) rest ≤ milliohm → milliohm < line (stored degree) (stored (degree + 1)) (rest + 1)
+      → line (storedFor degree) (storedFor (degree + 1)) rest ≤ milliohm → milliohm < line (storedFor degree) (storedFor (degree + 1)) (rest + 1)
       → temperatureOf milliohm ≡ reads (100 * degree + rest)
   temperature-between degree rest d r n above =
-      let here : resistance (100 * degree + rest) ≡ line (stored degree) (stored (degree + 1)) rest = resistance-line degree rest (omega arith) in
+      let here : resistance (100 * degree + rest) ≡ line (storedFor degree) (storedFor (degree + 1)) rest = resistance-line degree rest (omega arith) in
       let next = resistance-line degree (rest + 1) (omega arith) in
       let on : suc (100 * degree + rest) ≡ 100 * degree + (rest + 1) = omega arith in
       rw inside (ap reads (temperature-at (100 * degree + rest) (omega arith) (rw here n) (λ l. rw (on, next) above)))
@@ -82,22 +82,22 @@ module _ (milliohm : ℕ) (inside : outside milliohm ≡ false) where
       → milliohm < line (getD degrees degree 0) (getD degrees (degree + 1) 0) (rest + 1)
       → temperatureOf milliohm ≡ reads (100 * degree + rest)
   temperature-read {degrees} e degree rest d r n above =
-      let low : getD degrees degree 0 ≡ stored degree = card-read e degree (omega arith) in
-      let high : getD degrees (degree + 1) 0 ≡ stored (degree + 1) = card-read e (degree + 1) (omega arith) in
+      let low : getD degrees degree 0 ≡ storedFor degree = card-read e degree (omega arith) in
+      let high : getD degrees (degree + 1) 0 ≡ storedFor (degree + 1) = card-read e (degree + 1) (omega arith) in
       temperature-between degree rest d r (rw (low, high) at n) (rw (low, high) at above)
 
 -- a temperature's resistance gives it back
 pub temperature-back : (h : ℕ) → h ≤ hundredthsMost → temperatureOf (resistance h) ≡ reads h
 temperature-back h l =
-    let first : stored 0 ≤ resistance h = rw (← first-stored) (resistance-climbs 0 h zero-le l) in
-    let last : resistance h ≤ stored 200 = rw (← last-stored) (resistance-climbs h hundredthsMost l (le-refl hundredthsMost)) in
-    let inside : outside (resistance h) ≡ false = rw (le-ltb (resistance h) (stored 0) first, le-ltb (stored 200) (resistance h) last) in
+    let first : storedFor 0 ≤ resistance h = rw (← first-stored) (resistance-climbs 0 h zero-le l) in
+    let last : resistance h ≤ storedFor 200 = rw (← last-stored) (resistance-climbs h hundredthsMost l (le-refl hundredthsMost)) in
+    let inside : offCard (resistance h) ≡ false = rw (le-ltb (resistance h) (storedFor 0) first, le-ltb (storedFor 200) (resistance h) last) in
     let next : h < hundredthsMost → resistance h < resistance (suc h) = λ m. resistance-next h m in
     rw inside (ap reads (temperature-at (resistance h) inside h l (le-refl (resistance h)) next))
 
 -- what is answered is the highest hundredth whose answer is not above
 pub temperature-highest : (milliohm h : ℕ) → temperatureOf milliohm ≡ reads h → Highest milliohm hundredthsMost h
 temperature-highest milliohm h e =
-    let both = passed 91 (outside milliohm) (reads (highest milliohm hundredthsMost)) h e in
+    let both = passed 91 (offCard milliohm) (reads (highest milliohm hundredthsMost)) h e in
     let same : highest milliohm hundredthsMost ≡ h = let r = both .1 in cc in
     rw same at (highest-is milliohm hundredthsMost (rw first-stored (from-first milliohm (both .0))))

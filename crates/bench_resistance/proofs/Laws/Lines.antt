@@ -11,7 +11,7 @@ use borrow.Author.Tests.{ltb-true}
 use lib.Dec.{ltb}
 use Rattle.mbus_rules.proofs.Laws.Tests.{below}
 use Rattle.bench_indication.specs.Rounding.{apart}
-use Rattle.bench_resistance.specs.Resistances.{exact, partsOfOne, stored, line, resistance, hundredthsMost}
+use Rattle.bench_resistance.specs.Resistances.{exact, partsOfOne, storedFor, line, resistance, hundredthsMost}
 
 -- what is rounded on a line is no more than a hundred times two million, twice
 pub line-fits : (low high rest : ℕ) → low < 2000000 → high < 2000000 → rest ≤ 100
@@ -28,11 +28,11 @@ line-fits low high rest l h r = (
     most x h = omega arith
 
 -- so many hundredths on from a whole degree, the next whole degree included
-pub resistance-line : (degree rest : ℕ) → rest ≤ 100 → resistance (100 * degree + rest) ≡ line (stored degree) (stored (degree + 1)) rest
+pub resistance-line : (degree rest : ℕ) → rest ≤ 100 → resistance (100 * degree + rest) ≡ line (storedFor degree) (storedFor (degree + 1)) rest
 unfolding resistance
 resistance-line degree rest h = go (decLt rest 100)
   where
-    go : Dec (rest < 100) → resistance (100 * degree + rest) ≡ line (stored degree) (stored (degree + 1)) rest
+    go : Dec (rest < 100) → resistance (100 * degree + rest) ≡ line (storedFor degree) (storedFor (degree + 1)) rest
     go (yes l) =
         let d : (100 * degree + rest) / 100 ≡ degree = omega arith in
         let r : (100 * degree + rest) % 100 ≡ rest = omega arith in
@@ -77,7 +77,7 @@ abbrev near : ℕ → Bool
 near h = ltb (apart (exact h) (resistance h * partsOfOne)) (2 * partsOfOne)
 
 pub resistance-near : (h : ℕ) → h ≤ hundredthsMost → apart (exact h) (resistance h * partsOfOne) < 2 * partsOfOne
-unfolding stored resistance
+unfolding storedFor resistance
 resistance-near h l = ltb-true (apart (exact h) (resistance h * partsOfOne)) (2 * partsOfOne) (below 20001 near refl h (omega arith))
 
 -- the answers rise strictly
@@ -85,7 +85,7 @@ abbrev rise : ℕ → Bool
 rise h = ltb (resistance h) (resistance (suc h))
 
 pub resistance-next : (h : ℕ) → h < hundredthsMost → resistance h < resistance (suc h)
-unfolding stored resistance
+unfolding storedFor resistance
 resistance-next h l = ltb-true (resistance h) (resistance (suc h)) (below hundredthsMost rise refl h l)
 
 pub resistance-rises : (h k : ℕ) → h < k → k ≤ hundredthsMost → resistance h < resistance k

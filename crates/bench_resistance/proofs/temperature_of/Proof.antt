@@ -4,7 +4,7 @@ use mathlib.Core.Path.{_≡_, sym, ap, _∙_}
 use mathlib.Core.Bool.{false}
 use native.Mathlib.Omega.{arith}
 use borrow.Author.Needs.{needs}
-use Rattle.bench_resistance.specs.Resistances.{outside, shownTemperature}
+use Rattle.bench_resistance.specs.Resistances.{offCard, shownTemperature}
 use Rattle.bench_resistance.proofs.Laws.Card.{degree-found}
 use Rattle.bench_resistance.proofs.Laws.Answers.{outside-read, from-first, temperature-last, temperature-read}
 use Rattle.bench_resistance.proofs.temperature_of.Statement.{statement}
@@ -25,7 +25,7 @@ returns c =
     rw (sym (outside-read (c .before .card .ensures) m) ∙ c .if1 .taken)
 
 -- past the test, the resistance is one of the card's range
-inside : (c : tie.Else1) → outside (c .before .before .args .milliohm) ≡ false
+inside : (c : tie.Else1) → offCard (c .before .before .args .milliohm) ≡ false
 inside c = sym (outside-read (c .before .card .ensures) (c .before .before .args .milliohm)) ∙ c .if1 .left
 
 degree-of-requires : tie.Need-degree-of-requires
