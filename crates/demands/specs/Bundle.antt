@@ -37,7 +37,8 @@ module _ (buffer : List ℕ) (filled : ℕ) (k : Recorded) (n : ℕ) (added : ad
   new = take n (bufferAfter (reads n) buffer filled k)
 
   times : All (λ (q : Recorded). q .time < 256 ^ 4) (recordsOf old)
-  times = AddingLaws.bytes-timely buffer filled (AddingLaws.taken buffer filled k n added .rows) (byte-at buffer bytes) (AddingLaws.taken buffer filled k n added .old)
+  times = AddingLaws.bytes-timely buffer filled (AddingLaws.taken buffer filled k n added .rows) (byte-at buffer bytes)
+      (AddingLaws.taken buffer filled k n added .old)
 
   -- what they then hold is accepted, with a row more,
   pub added-accepted : checkOf new ≡ reads (countOf old + 1)

@@ -50,7 +50,8 @@ by-answer leaves before u a n after e l = l ∙ ap leaves e ∙ u n
 module _ (n : ℕ) where
   pub writing-unchanged : (t : Telegram) (before after : List ℕ) (r : Written) → writeLine t (length before) ≡ refusal n
       → WritesLine t before after r → after ≡ before
-  writing-unchanged t before after r e p = by-answer (stored (λ (line : List ℕ). line) before) before (λ m. refl) (writeLine t (length before)) n after e (p .places)
+  writing-unchanged t before after r e p = by-answer (stored (λ (line : List ℕ). line) before) before (λ m. refl) (writeLine t (length before)) n after e
+      (p .places)
 
   pub wake-unchanged : (count : ℕ) (before after : List ℕ) → wakeOf count before ≡ refusal n → after ≡ stored wakeLine before (wakeOf count before)
       → after ≡ before
