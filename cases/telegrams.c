@@ -21,7 +21,7 @@ static int take_entry(struct second_entry *e)
     e->is_time = take_name("time");
     if (!e->is_time)
         return 0;
-    for (int i = 0; i < 6; i++) {
+    for (int i = 0; i < SECOND_PARTS; i++) {
         if (!take(&part, 0xFF))
             return 0;
         e->moment[i] = (unsigned)part;
@@ -79,7 +79,7 @@ static void say_entry(const struct second_entry *e)
         return;
     }
     printf(" time");
-    for (int i = 0; i < 6; i++)
+    for (int i = 0; i < SECOND_PARTS; i++)
         printf(" +%u", e->moment[i]);
 }
 

@@ -40,6 +40,7 @@ static struct skarrowith_entry entry_record(const struct second_entry *e)
     r.value.time.hour = (uint8_t)m[3];
     r.value.time.minute = (uint8_t)m[4];
     r.value.time.second = (uint8_t)m[5];
+    r.value.time.weekday = (uint8_t)m[6];
     return r;
 }
 
@@ -68,7 +69,7 @@ static struct second_entry entry_of(const struct skarrowith_entry *r)
     if (r->sort != SKARROWITH_TIME)
         return (struct second_entry){r->structure, r->unit, 0, r->value.count, {0}};
     return (struct second_entry){
-        r->structure, r->unit, 1, 0, {m->year, m->month, m->day, m->hour, m->minute, m->second}};
+        r->structure, r->unit, 1, 0, {m->year, m->month, m->day, m->hour, m->minute, m->second, m->weekday}};
 }
 
 static struct second_telegram telegram_of(const struct skarrowith_telegram *r)

@@ -93,7 +93,8 @@ static void set_ups(void)
         {"energy as a time's structure", offsetof(struct skarrowith_telegram, entries[0].structure), 1, 0x06, 72},
         {"a sort of 2", offsetof(struct skarrowith_telegram, entries[6].sort), 1, 2, 101},
         {"month 13", offsetof(struct skarrowith_telegram, entries[6].value.time.month), 1, 13, 72},
-        {"a time's last byte", offsetof(struct skarrowith_telegram, entries[6].value.time.zero[1]), 1, 1, 101},
+        {"weekday 8", offsetof(struct skarrowith_telegram, entries[6].value.time.weekday), 1, 8, 72},
+        {"a time's last byte", offsetof(struct skarrowith_telegram, entries[6].value.time.zero), 1, 1, 101},
     };
     uint16_t line[SKARROWITH_LINE_MOST];
     struct skarrowith_telegram other;
@@ -121,6 +122,26 @@ static void set_ups(void)
     expect("with the template's volume", meter.used.volume, 12345678);
     expect("and energy", meter.used.energy, 96712345);
     expect("and nothing verified", meter.verified.volume + meter.verified.energy, 0);
+}
+
+/* 02, 2026-03: a weekday that contradicts the date, which was a Monday, is written, read and kept by the meter. */
+static void weekdays(void)
+{
+    uint16_t line[SKARROWITH_LINE_MOST];
+    struct skarrowith_telegram other = data, back;
+    struct skarrowith_moment *time = &other.entries[6].value.time;
+    expect("a point in time keeps its size", sizeof *time, 8);
+    for (unsigned day = 0; day <= 7; day++) {
+        uint32_t length;
+        time->weekday = (uint8_t)day;
+        length = skarrowith_write_line(&other, sizeof other, line, SKARROWITH_LINE_MOST);
+        expect("a line with a weekday", length, SECOND_EXAMPLE);
+        expect("the third byte of the time", line[57] & 0xFF, 32 * day + 15);
+        expect("reads", skarrowith_read_line(line, length, &back, sizeof back), SKARROWITH_DATA);
+        expect("with its weekday", back.entries[6].value.time.weekday, day);
+        expect("a template with it", skarrowith_meter_set_up(&meter, sizeof meter, OWN, &other, sizeof other), 0);
+        expect("is kept", meter.data.entries[6].value.time.weekday, day);
+    }
 }
 
 static void verification(void)
@@ -232,6 +253,7 @@ int main(void)
     expect("a telegram has 136 bytes", sizeof data, 136);
     expect("a meter has 192 bytes", sizeof meter, 192);
     expect("000's data line", skarrowith_read_line(line, SECOND_EXAMPLE, &data, sizeof data), SKARROWITH_DATA);
+    weekdays();
     set_ups();
     verification();
     refusals();

@@ -15,7 +15,7 @@ static int is_entry(const struct skarrowith_entry *e, const struct second_entry 
     if (!s->is_time)
         return e->value.count == s->count;
     return m->year == parts[0] && m->month == parts[1] && m->day == parts[2] && m->hour == parts[3] &&
-           m->minute == parts[4] && m->second == parts[5];
+           m->minute == parts[4] && m->second == parts[5] && m->weekday == parts[6];
 }
 
 static int is_telegram(const struct skarrowith_telegram *t, const struct second_telegram *s)

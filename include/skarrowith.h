@@ -91,10 +91,13 @@ uint32_t skarrowith_refusal_text(uint32_t number, char *out, size_t len);
 /* The most characters of a line that is written. */
 #define SKARROWITH_LINE_MOST 77u
 
-/* A point in time. Year 0 to 99 means 2000 to 2099. */
+/*
+ * A point in time. Year 0 to 99 means 2000 to 2099. weekday is the one the meter sends: 1 for Monday to 7 for Sunday, 0 for
+ * not said. It is not compared with the date; over 7 it is refused by 20 when it is written.
+ */
 struct skarrowith_moment {
-    uint8_t year, month, day, hour, minute, second;
-    uint8_t zero[2];
+    uint8_t year, month, day, hour, minute, second, weekday;
+    uint8_t zero;
 };
 
 /* What an entry's value is. */

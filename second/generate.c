@@ -41,8 +41,8 @@ static void print_entry(const struct second_entry *e)
     if (!e->is_time)
         printf(" number +%" PRIu64, e->count);
     else
-        printf(" time +%u +%u +%u +%u +%u +%u", e->moment[0], e->moment[1], e->moment[2], e->moment[3], e->moment[4],
-               e->moment[5]);
+        printf(" time +%u +%u +%u +%u +%u +%u +%u", e->moment[0], e->moment[1], e->moment[2], e->moment[3], e->moment[4],
+               e->moment[5], e->moment[6]);
 }
 
 /* The whole telegram, with its first entries as many as told. */

@@ -92,15 +92,15 @@ static unsigned days_in(unsigned year, unsigned month)
     return month == 2 && leap ? 29 : days[month - 1];
 }
 
-/* Takes the six bytes of a point in time apart; says whether it keeps 01's rule. */
-static int moment_from(const unsigned char *b, unsigned moment[6])
+/* Takes the six bytes of a point in time apart; says whether it keeps 01's rule. Any weekday does (2026-03). */
+static int moment_from(const unsigned char *b, unsigned moment[SECOND_PARTS])
 {
-    unsigned year = (unsigned)(b[3] >> 5 | (b[4] >> 4) << 3), month = b[4] & 15, day = b[3] & 31;
-    if (b[0] > 59 || b[1] > 59 || b[2] > 23 || b[5] != 0)
+    unsigned year = (unsigned)(b[3] >> 5 | (b[4] >> 4) << 3), month = b[4] & 15, day = b[3] & 31, hour = b[2] & 31;
+    if (b[0] > 59 || b[1] > 59 || hour > 23 || b[5] != 0)
         return 0;
     if (year > 99 || month < 1 || month > 12 || day < 1 || day > days_in(2000 + year, month))
         return 0;
-    const unsigned parts[6] = {year, month, day, b[2], b[1], b[0]};
+    const unsigned parts[SECOND_PARTS] = {year, month, day, hour, b[1], b[0], b[2] >> 5};
     memcpy(moment, parts, sizeof parts);
     return 1;
 }
@@ -270,7 +270,7 @@ static size_t put_entry(unsigned char *b, const struct second_entry *e)
         return 2 + put_digits(b + 2, width, e->count);
     b[2] = (unsigned char)m[5];
     b[3] = (unsigned char)m[4];
-    b[4] = (unsigned char)m[3];
+    b[4] = (unsigned char)((m[3] & 31) | m[6] << 5);
     b[5] = (unsigned char)((m[2] & 31) | m[0] << 5);
     b[6] = (unsigned char)((m[1] & 15) | m[0] >> 3 << 4);
     b[7] = 0;

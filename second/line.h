@@ -7,13 +7,13 @@
 
 enum second_kind { SECOND_ACK, SECOND_READ, SECOND_ENTER, SECOND_LEAVE, SECOND_DATA };
 
-enum { SECOND_ENTRIES = 7, SECOND_LONGEST = 77 };
+enum { SECOND_ENTRIES = 7, SECOND_PARTS = 7, SECOND_LONGEST = 77 };
 
 struct second_entry {
     unsigned structure, unit;
     int is_time;
-    uint64_t count;     /* where it is no time */
-    unsigned moment[6]; /* year, month, day, hour, minute, second, where it is one */
+    uint64_t count;                /* where it is no time */
+    unsigned moment[SECOND_PARTS]; /* year, month, day, hour, minute, second, weekday, where it is one */
 };
 
 struct second_telegram {

@@ -117,8 +117,6 @@ static size_t entry_place(const struct bytes *body, int is_time)
 
 static void miss_moment(unsigned char *v)
 {
-    static const unsigned char bit[] = {0x40, 0x80, 0x20, 0x80};
-    static const unsigned char byte_of_bit[] = {0, 1, 2, 2};
     unsigned which = below(4), day = once_in(4) ? 0 : between(27, 31), month = once_in(3) ? 2 : below(16);
     unsigned year = below(104);
     switch (below(6)) {
@@ -126,7 +124,7 @@ static void miss_moment(unsigned char *v)
         v[which / 2] = (unsigned char)between(58, 64);
         break;
     case 1:
-        v[2] = (unsigned char)between(22, 33);
+        v[2] = (unsigned char)((v[2] & 0xE0) | between(22, 31));
         break;
     case 2: /* near a month's end, or near the century's */
         v[3] = (unsigned char)((year & 7) << 5 | day);
@@ -138,7 +136,7 @@ static void miss_moment(unsigned char *v)
         v[4] = (unsigned char)(year >> 3 << 4 | (v[4] & 15));
         break;
     case 4:
-        v[byte_of_bit[which]] |= bit[which];
+        v[which / 2] |= which % 2 == 0 ? 0x40 : 0x80;
         break;
     default:
         v[5] = (unsigned char)one_bit(0, 7);

@@ -31,7 +31,7 @@ static uint64_t count_for(unsigned structure)
     }
 }
 
-static void good_moment(unsigned m[6])
+static void good_moment(unsigned m[SECOND_PARTS])
 {
     static const unsigned char days[] = {31, 28, 31, 30, 31, 30, 31, 31, 30, 31, 30, 31};
     m[0] = below(100);
@@ -42,6 +42,7 @@ static void good_moment(unsigned m[6])
     m[3] = once_in(4) ? 23 : below(24);
     m[4] = once_in(4) ? 59 : below(60);
     m[5] = once_in(4) ? 59 : below(60);
+    m[6] = once_in(2) ? 0 : below(8); /* as often as not one that contradicts the date */
 }
 
 /* An entry of a quantity, 0 to 6 in 01's order. */
@@ -116,8 +117,8 @@ enum second_kind some_kind(void)
 
 static void break_entry(struct second_entry *e)
 {
-    unsigned part = below(6);
-    switch (below(7)) {
+    unsigned part = below(SECOND_PARTS);
+    switch (below(8)) {
     case 0:
         e->structure = below(16);
         break;
@@ -135,6 +136,9 @@ static void break_entry(struct second_entry *e)
         break;
     case 5:
         e->moment[part] = once_in(4) ? below(256) : between(23, 32);
+        break;
+    case 6:
+        e->moment[6] = once_in(2) ? between(7, 9) : below(256);
         break;
     default:
         e->moment[part] = once_in(2) ? 0 : between(59, 100);

@@ -27,7 +27,7 @@ static void put_entry(uint8_t *to, const struct second_entry *e)
     to[2] = e->is_time != 0;
     if (!e->is_time)
         second_put_number(to + VALUE, 8, e->count);
-    for (size_t i = 0; e->is_time && i < 6; i++)
+    for (size_t i = 0; e->is_time && i < SECOND_PARTS; i++)
         to[VALUE + i] = (uint8_t)e->moment[i];
 }
 
@@ -49,14 +49,14 @@ void second_put_telegram(uint8_t *to, const struct second_telegram *t)
 
 static int take_entry(const uint8_t *b, struct second_entry *e)
 {
-    if (b[2] > 1 || !is_zero(b + 3, 5) || (b[2] == 1 && !is_zero(b + VALUE + 6, 2)))
+    if (b[2] > 1 || !is_zero(b + 3, 5) || (b[2] == 1 && b[VALUE + SECOND_PARTS] != 0))
         return SECOND_NO_RECORD;
     e->structure = b[0];
     e->unit = b[1];
     e->is_time = b[2];
     if (!e->is_time)
         e->count = second_number(b + VALUE, 8);
-    for (size_t i = 0; e->is_time && i < 6; i++)
+    for (size_t i = 0; e->is_time && i < SECOND_PARTS; i++)
         e->moment[i] = b[VALUE + i];
     return 0;
 }

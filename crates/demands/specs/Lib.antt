@@ -14,3 +14,4 @@ pub mod OneToOne
 pub mod Empty
 pub mod Resistance
 pub mod Values
+pub mod Weekdays

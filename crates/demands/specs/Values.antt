@@ -42,14 +42,18 @@ abbrev pub exampleHeader : ℕ → ℕ → Header
 exampleHeader access status =
     record { number = 12345678; maker = 1024 * 19 + (32 * 20 + 9); version = 1; «meter_type» = 4; access = access; status = status }
 
-abbrev pub exampleTime : Entry
-exampleTime =
-    record { structure = 0x06; unit = 0x6D; value = Time (record { year = 18; month = 7; day = 23; hour = 15; minute = 51; second = 28 }) }
+-- 2018-07-23 15:51:28, with the weekday, which 000 does not say
+abbrev pub exampleTime : ℕ → Entry
+exampleTime weekday = record {
+  structure = 0x06;
+  unit = 0x6D;
+  value = Time (record { year = 18; month = 7; day = 23; hour = 15; minute = 51; second = 28; weekday = weekday });
+}
 
-abbrev pub exampleEntries : List Entry
-exampleEntries =
+abbrev pub exampleEntries : ℕ → List Entry
+exampleEntries weekday =
     packedEntry 0x0C 0x03 96712345 ∷ packedEntry 0x0C 0x11 12345678 ∷ packedEntry 0x0B 0x59 7812 ∷ packedEntry 0x0B 0x5D 6534 ∷ packedEntry 0x0C 0x2D 12345678
-    ∷ packedEntry 0x0C 0x3B 12345678 ∷ exampleTime ∷ []
+    ∷ packedEntry 0x0C 0x3B 12345678 ∷ exampleTime weekday ∷ []
 
 abbrev pub thirteen : List (Type 0)
 thirteen =
@@ -66,10 +70,10 @@ thirteen =
     ∷ (map byteOf (lineOf (enterOf 0xFE 0x92)) ≡ 0x68 ∷ 0x04 ∷ 0x04 ∷ 0x68 ∷ 0x53 ∷ 0xFE ∷ 0x50 ∷ 0x92 ∷ 0x33 ∷ 0x16 ∷ [])
     ∷ (map byteOf (lineOf (leaveOf 0xFE)) ≡ 0x68 ∷ 0x04 ∷ 0x04 ∷ 0x68 ∷ 0x53 ∷ 0xFE ∷ 0x50 ∷ 0x00 ∷ 0xA1 ∷ 0x16 ∷ [])
     -- 10: 000's data example; energy counts Wh, volume 10^−5 m³, inlet and outlet 10^−2 °C
-    ∷ ((readLine dataLine ≡ reads (dataOf 0 (exampleHeader 3 0) exampleEntries))
+    ∷ ((readLine dataLine ≡ reads (dataOf 0 (exampleHeader 3 0) (exampleEntries 0)))
     × (powerOf 0x03 ≡ pos 0) × (powerOf 0x11 ≡ negℤ (pos 5)) × (powerOf 0x59 ≡ negℤ (pos 2)) × (powerOf 0x5D ≡ negℤ (pos 2)))
     -- 11: four flips, accepted: the same with access 00 and status 03
-    ∷ (readLine (flips four dataLine) ≡ reads (dataOf 0 (exampleHeader 0 3) exampleEntries))
+    ∷ (readLine (flips four dataLine) ≡ reads (dataOf 0 (exampleHeader 0 3) (exampleEntries 0)))
     -- 12: rises 10005, 9995, 10004 and 0 against 10000
     ∷ ((indicationOf 0 10005 0 10000 ≡ reads (pos 1)) × (indicationOf 0 9995 0 10000 ≡ reads (negℤ (pos 1)))
     × (indicationOf 0 10004 0 10000 ≡ reads (pos 0)) × (indicationOf 0 0 0 10000 ≡ reads (negℤ (pos 1000))))
@@ -90,13 +94,13 @@ thirteen-hold = (refl, (refl, (refl, (refl, (refl, from-six)))))
 -- the five required quantities, four digits each; and all seven, twelve digits each
 abbrev pub fewest : Telegram
 fewest = dataOf 0 (exampleHeader 3 0) (packedEntry 0x0A 0x03 9999 ∷ packedEntry 0x0A 0x11 9999 ∷ packedEntry 0x0A 0x59 7812 ∷ packedEntry 0x0A 0x5D 6534
-    ∷ exampleTime ∷ [])
+    ∷ exampleTime 0 ∷ [])
 
 abbrev pub most : Telegram
 most =
     dataOf 0 (exampleHeader 3 0) (
     packedEntry 0x0E 0x03 999999999999 ∷ packedEntry 0x0E 0x11 999999999999 ∷ packedEntry 0x0E 0x59 7812 ∷ packedEntry 0x0E 0x5D 6534
-    ∷ packedEntry 0x0E 0x2D 999999999999 ∷ packedEntry 0x0E 0x3B 999999999999 ∷ exampleTime ∷ []
+    ∷ packedEntry 0x0E 0x2D 999999999999 ∷ packedEntry 0x0E 0x3B 999999999999 ∷ exampleTime 0 ∷ []
     )
 
 pub shortest-data : (readLine (lineOf fewest) ≡ reads fewest) × (at (map byteOf (lineOf fewest)) 1 ≡ 39)

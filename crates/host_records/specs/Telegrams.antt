@@ -30,7 +30,7 @@ sortOf (Time m) = 1
 
 abbrev pub valueRecord : Value → List ℕ
 valueRecord (Number d) = bytesOf 8 (d .count)
-valueRecord (Time m) = m .year ∷ m .month ∷ m .day ∷ m .hour ∷ m .minute ∷ m .second ∷ 0 ∷ 0 ∷ []
+valueRecord (Time m) = m .year ∷ m .month ∷ m .day ∷ m .hour ∷ m .minute ∷ m .second ∷ m .weekday ∷ 0 ∷ []
 
 abbrev pub entryBytes : Entry → List ℕ
 entryBytes e = e .structure ∷ e .unit ∷ sortOf (e .value) ∷ 0 ∷ 0 ∷ 0 ∷ 0 ∷ 0 ∷ valueRecord (e .value)
@@ -53,7 +53,7 @@ telegramBytes t = recordOf (telegramHead t) (t .count ∷ []) (entriesBytes (t .
 abbrev pub valueIn : ℕ → List ℕ → Value
 valueIn sort b =
     cond (eqb sort 1)
-    (Time (record { year = at b 8; month = at b 9; day = at b 10; hour = at b 11; minute = at b 12; second = at b 13 }))
+    (Time (record { year = at b 8; month = at b 9; day = at b 10; hour = at b 11; minute = at b 12; second = at b 13; weekday = at b 14 }))
     (Number (record { count = number (take 8 (drop 8 b)) }))
 
 unfoldable pub entryIn : List ℕ → Entry

@@ -40,7 +40,16 @@ fn value_bytes(value: Value) -> [u8; 8]
 {
     match value {
         Value::Number(d) => bytes_of(d.count),
-        Value::Time(m) => [m.year, m.month, m.day, m.hour, m.minute, m.second, 0, 0],
+        Value::Time(m) => [
+            m.year,
+            m.month,
+            m.day,
+            m.hour,
+            m.minute,
+            m.second,
+            m.weekday,
+            0,
+        ],
     }
 }
 
@@ -140,6 +149,7 @@ fn entry_in(b: &[u8]) -> Entry
             hour: b[11],
             minute: b[12],
             second: b[13],
+            weekday: b[14],
         };
         return Entry {
             structure,

@@ -122,6 +122,7 @@ fn say_moment(m: Moment) {
     say(b" time");
     say_three(m.year, m.month, m.day);
     say_three(m.hour, m.minute, m.second);
+    say_decimal(m.weekday as u64);
 }
 
 fn say_three(a: u8, b: u8, c: u8) {

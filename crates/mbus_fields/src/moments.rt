@@ -1,7 +1,7 @@
 // The point in time.
 ghost use mathlib.Core.Path.{_≡_};
 ghost use Prim.Native.Nat.{_+_};
-ghost use Rattle.mbus_rules.specs.Moments.{momentOf, spareBits, daysIn, dateExists, timeExists};
+ghost use Rattle.mbus_rules.specs.Moments.{momentOf, spareBits, daysIn, dateExists, timeExists, weekdayExists};
 ghost use Rattle.mbus_fields.specs.Fields.{timedOf};
 use bytes_numbers::byte_at;
 use mbus_rules::Moment;
@@ -29,6 +29,7 @@ pub fn moment_of(value: &[u8]) -> Moment
         hour: hour % 32,
         minute: minute % 64,
         second: second % 64,
+        weekday: hour / 32,
     }
 }
 
@@ -38,9 +39,8 @@ pub fn spare_bits(value: &[u8]) -> bool
 {
     let second = byte_at(value, 0);
     let minute = byte_at(value, 1);
-    let hour = byte_at(value, 2);
     let last = byte_at(value, 5);
-    (63 < second) | (63 < minute) | (31 < hour) | (0 < last)
+    (63 < second) | (63 < minute) | (0 < last)
 }
 
 // The days of a month, by the Gregorian calendar; year 0 is 2000.
@@ -67,6 +67,13 @@ pub fn time_exists(m: Moment) -> bool
     ensures { λ r. ⌜ r ≡ timeExists m ⌝ }
 {
     (m.second < 60) & (m.minute < 60) & (m.hour < 24)
+}
+
+// The weekday is not said, or one of seven.
+pub fn weekday_exists(m: Moment) -> bool
+    ensures { λ r. ⌜ r ≡ weekdayExists m ⌝ }
+{
+    m.weekday < 8
 }
 
 // The six bytes read as a point in time.

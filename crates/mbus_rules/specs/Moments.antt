@@ -1,4 +1,4 @@
--- 01, "Time, 6 bytes".
+-- 01, "Time, 6 bytes", with the weekday of 02, 2026-03.
 use Prim.Native.Nat.{ℕ, _+_, _*_, _/_, _%_}
 use mathlib.Core.Bool.{Bool, cond, not, _&&_, _||_}
 use mathlib.Core.List.{List}
@@ -8,6 +8,7 @@ use Rattle.mbus_rules.specs.Lists.{at}
 
 -- Byte 1 second in bits 0–5; byte 2 minute in bits 0–5; byte 3 hour in bits 0–4; byte 4 day in bits 0–4 and the low three
 -- bits of the year in bits 5–7; byte 5 month in bits 0–3 and the high four bits of the year in bits 4–7.
+-- 02, 2026-03: byte 3 the day of the week in bits 5–7, 1 for Monday to 7 for Sunday, 0 for not said.
 abbrev pub momentOf : List ℕ → Moment
 momentOf b = record {
   year = at b 4 / 16 * 8 + at b 3 / 32;
@@ -16,11 +17,12 @@ momentOf b = record {
   hour = at b 2 % 32;
   minute = at b 1 % 64;
   second = at b 0 % 64;
+  weekday = at b 2 / 32;
 }
 
--- Byte 6 zero. All other bits are zero: this is the test that one of them is not.
+-- Byte 6 zero. The remaining spare bits stay zero (02, 2026-03): this is the test that one of them is not.
 abbrev pub spareBits : List ℕ → Bool
-spareBits b = ltb 63 (at b 0) || ltb 63 (at b 1) || ltb 31 (at b 2) || ltb 0 (at b 5)
+spareBits b = ltb 63 (at b 0) || ltb 63 (at b 1) || ltb 0 (at b 5)
 
 -- The Gregorian calendar: every fourth year is a leap year, of the full hundreds only every fourth.
 abbrev pub leap : ℕ → Bool
@@ -44,6 +46,11 @@ dateExists m =
 -- Second 0–59, minute 0–59, hour 0–23.
 abbrev pub timeExists : Moment → Bool
 timeExists m = ltb (m .second) 60 && ltb (m .minute) 60 && ltb (m .hour) 24
+
+-- 02, 2026-03: 0 for not said, 1 for Monday to 7 for Sunday. It is not compared with the date. Bits 5–7 hold no other number, so that
+-- reading does not ask this; a telegram of the caller's may break it.
+abbrev pub weekdayExists : Moment → Bool
+weekdayExists m = ltb (m .weekday) 8
 
 -- the rule of a point in time is broken
 unfoldable pub wrongMoment : List ℕ → Bool

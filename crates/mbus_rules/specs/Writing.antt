@@ -16,7 +16,7 @@ use Rattle.mbus_rules.specs.Lists.{any, total}
 use Rattle.mbus_rules.specs.Characters.{carrier}
 use Rattle.mbus_rules.specs.Answers.{Answer, reads, refuse}
 use Rattle.mbus_rules.specs.Digits.{packed}
-use Rattle.mbus_rules.specs.Moments.{dateExists, timeExists}
+use Rattle.mbus_rules.specs.Moments.{dateExists, timeExists, weekdayExists}
 use Rattle.mbus_rules.specs.Headers.{makerNamed, heatMeter}
 use Rattle.mbus_rules.specs.Quantities.{quantityOf, widthOf, paired, isTime}
 use Rattle.mbus_rules.specs.Entries.{seen, missing}
@@ -25,7 +25,8 @@ use Rattle.mbus_rules.specs.Lines.{isMethod}
 -- ---- the bytes of each part
 
 abbrev pub momentBytes : Moment → List ℕ
-momentBytes m = m .second ∷ m .minute ∷ m .hour ∷ (32 * (m .year % 8) + m .day) ∷ (16 * (m .year / 8) + m .month) ∷ 0 ∷ []
+momentBytes m =
+    m .second ∷ m .minute ∷ (32 * m .weekday + m .hour) ∷ (32 * (m .year % 8) + m .day) ∷ (16 * (m .year / 8) + m .month) ∷ 0 ∷ []
 
 abbrev pub bytesOfValue : ℕ → Value → List ℕ
 bytesOfValue width (Number d) = packed width (d .count)
@@ -90,7 +91,7 @@ usedBody t = usedHeader (t .header) || ltb 0 (t .count) || any usedEntry (t .ent
 -- a value of the wrong kind for its unit, too long for its structure, or a point in time that does not exist
 abbrev pub wrongValue : ℕ → ℕ → Value → Bool
 wrongValue width unit (Number d) = isTime unit || not (ltb (d .count) (100 ^ width))
-wrongValue width unit (Time m) = not (isTime unit) || not (dateExists m) || not (timeExists m)
+wrongValue width unit (Time m) = not (isTime unit) || not (dateExists m) || not (timeExists m) || not (weekdayExists m)
 
 abbrev pub wrongEntry : Entry → Bool
 wrongEntry e = not (paired (e .structure) (e .unit)) || wrongValue (widthOf (e .structure)) (e .unit) (e .value)

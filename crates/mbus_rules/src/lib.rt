@@ -14,7 +14,7 @@ pub struct Decimal {
     pub count: u64,
 }
 
-// A point in time. Year 0 to 99 means 2000 to 2099.
+// A point in time. Year 0 to 99 means 2000 to 2099; weekday 1 is Monday and 7 Sunday, 0 is not said.
 pub struct Moment {
     pub year: u8,
     pub month: u8,
@@ -22,6 +22,7 @@ pub struct Moment {
     pub hour: u8,
     pub minute: u8,
     pub second: u8,
+    pub weekday: u8,
 }
 
 // An entry's value.

@@ -10,6 +10,7 @@ use mbus_fields::headers::heat_meter;
 use mbus_fields::headers::maker_named;
 use mbus_fields::moments::date_exists;
 use mbus_fields::moments::time_exists;
+use mbus_fields::moments::weekday_exists;
 use mbus_fields::quantities::EIGHT_DIGITS;
 use mbus_fields::quantities::FOUR_DIGITS;
 use mbus_fields::quantities::POINT_IN_TIME;
@@ -116,7 +117,8 @@ fn wrong_value(structure: u8, unit: u8, value: Value) -> bool
         Value::Time(m) => {
             let date = date_exists(m);
             let time = time_exists(m);
-            !(unit == UNIT_OF_TIME) | !date | !time
+            let weekday = weekday_exists(m);
+            !(unit == UNIT_OF_TIME) | !date | !time | !weekday
         }
     }
 }

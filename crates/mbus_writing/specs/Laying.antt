@@ -11,7 +11,7 @@ use Rattle.mbus_rules.specs.declared.Entry.{Entry}
 use Rattle.mbus_rules.specs.declared.Telegram.{Telegram}
 use Rattle.mbus_rules.specs.Lists.{any, total}
 use Rattle.mbus_rules.specs.Digits.{packed}
-use Rattle.mbus_rules.specs.Moments.{dateExists, timeExists}
+use Rattle.mbus_rules.specs.Moments.{dateExists, timeExists, weekdayExists}
 use Rattle.mbus_rules.specs.Writing.{momentBytes, bytesOfEntry, bytesOfEntries, wrongEntry, wrongData}
 
 -- a value in six bytes, and what it takes to write it so
@@ -21,7 +21,7 @@ sixBytes (Time m) = momentBytes m
 
 abbrev pub exists : Value → Bool
 exists (Number d) = true
-exists (Time m) = dateExists m && timeExists m
+exists (Time m) = dateExists m && timeExists m && weekdayExists m
 
 -- what laying one entry asks, and what it gives
 pub record EntryFits (e : Entry) (before : List ℕ) (at : ℕ) : Type 0 where

@@ -6,7 +6,7 @@ ghost use Prim.Native.Nat.{_+_, _*_, _/_, _%_, _≤_};
 ghost use lib.ListN.{length, take, drop};
 ghost use Rattle.mbus_rules.specs.Characters.{carrier};
 ghost use Rattle.mbus_rules.specs.Digits.{packed};
-ghost use Rattle.mbus_rules.specs.Moments.{dateExists, timeExists};
+ghost use Rattle.mbus_rules.specs.Moments.{dateExists, timeExists, weekdayExists};
 ghost use Rattle.mbus_rules.specs.Writing.{momentBytes, bytesOfHeader, shortFrame, longFrame, bytesOfKind, unwritable};
 ghost use Rattle.bytes_lent.specs.Copying.{laid};
 ghost use Rattle.mbus_writing.specs.Laying.{sixBytes, exists, EntryFits, EntryLaid, EntriesFit, EntriesLaid, FrameClosed, BytesLaid, DataFits};
@@ -41,12 +41,13 @@ fn packed_six(n: u64) -> [u8; 6]
 }
 
 fn moment_bytes(m: Moment) -> [u8; 6]
-    requires { ⌜ (dateExists m ≡ true) × (timeExists m ≡ true) ⌝ }
+    requires { ⌜ (dateExists m ≡ true) × (timeExists m ≡ true) × (weekdayExists m ≡ true) ⌝ }
     ensures { λ r. ⌜ r ≡ momentBytes m ⌝ }
 {
+    let hour = 32 * m.weekday + m.hour;
     let day = 32 * (m.year % 8) + m.day;
     let month = 16 * (m.year / 8) + m.month;
-    [m.second, m.minute, m.hour, day, month, 0]
+    [m.second, m.minute, hour, day, month, 0]
 }
 
 // The value in six bytes, of which the width says how many count.

@@ -63,7 +63,7 @@ answerEntries =
     ∷ record { structure = 0x0C; unit = 0x11; value = Number (record { count = 0 }) }
     ∷ record { structure = 0x0A; unit = 0x59; value = Number (record { count = 0 }) }
     ∷ record { structure = 0x0A; unit = 0x5D; value = Number (record { count = 0 }) }
-    ∷ record { structure = 0x06; unit = 0x6D; value = Time (record { year = 0; month = 1; day = 1; hour = 0; minute = 0; second = 0 }) }
+    ∷ record { structure = 0x06; unit = 0x6D; value = Time (record { year = 0; month = 1; day = 1; hour = 0; minute = 0; second = 0; weekday = 0 }) }
     ∷ []
 
 -- an answer from an address

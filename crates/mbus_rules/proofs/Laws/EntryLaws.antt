@@ -15,7 +15,7 @@ use Rattle.mbus_rules.specs.declared.Entry.{Entry}
 use Rattle.mbus_rules.specs.Lists.{at, any}
 use Rattle.mbus_rules.specs.Answers.{reads}
 use Rattle.mbus_rules.specs.Digits.{overNine, digitsOf}
-use Rattle.mbus_rules.specs.Moments.{dateExists, timeExists, wrongMoment}
+use Rattle.mbus_rules.specs.Moments.{dateExists, timeExists, weekdayExists, wrongMoment}
 use Rattle.mbus_rules.specs.Quantities.{quantityOf, widthOf, paired, isTime, isPacked, unknown, between}
 use Rattle.mbus_rules.specs.Entries.{valueBytes, entryWidth, valueOf, entryOf, unfit, wrongDigit, wrongTime, seen, missing, readEntries}
 use Rattle.mbus_rules.specs.Writing.{bytesOfValue, bytesOfEntry, bytesOfEntries, wrongValue, wrongEntry, repeats}
@@ -42,7 +42,7 @@ value-read w u b e six bytes digits moment = by-test (isTime u) timed counted
         let m : MomentRead b = moment-read b (e ∙ six q) bytes (rw q at moment) in
         record {
           back = rw q (m .back);
-          right = rw (q, q, m .date, m .hour);
+          right = rw (q, q, m .date, m .hour, m .weekday);
         }
 
     counted : isTime u ≡ false → ValueRead w u b
@@ -72,9 +72,10 @@ value-written w u (Number d) six e =
       bytes = bytes-packed w (d .count);
     }
 value-written w u (Time m) six e =
-    let k = none (not (isTime u)) (not (dateExists m) ∷ not (timeExists m) ∷ []) e in
+    let k = none (not (isTime u)) (not (dateExists m) ∷ not (timeExists m) ∷ not (weekdayExists m) ∷ []) e in
     let q : isTime u ≡ true = not-false (isTime u) (k .0) in
-    let s : MomentWritten m = moment-written m (not-false (dateExists m) (k .1 .0)) (not-false (timeExists m) (k .1 .1 .0)) in
+    let s : MomentWritten m =
+    moment-written m (not-false (dateExists m) (k .1 .0)) (not-false (timeExists m) (k .1 .1 .0)) (not-false (weekdayExists m) (k .1 .1 .1 .0)) in
     record {
       width = sym (six q);
       back = rw (q, s .back);

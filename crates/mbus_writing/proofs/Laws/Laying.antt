@@ -25,7 +25,7 @@ use Rattle.mbus_rules.proofs.Laws.Tests.{below, none-at}
 use Rattle.mbus_rules.specs.Characters.{carrier}
 use Rattle.mbus_rules.proofs.Laws.Folding.{fold}
 use Rattle.mbus_rules.specs.Digits.{packed}
-use Rattle.mbus_rules.specs.Moments.{dateExists, timeExists}
+use Rattle.mbus_rules.specs.Moments.{dateExists, timeExists, weekdayExists}
 use Rattle.mbus_rules.specs.Quantities.{widthOf, paired, isTime}
 use Rattle.mbus_rules.proofs.Laws.TestLaws.{none}
 use Rattle.mbus_rules.proofs.Laws.HeaderLaws.{header-length}
@@ -107,9 +107,9 @@ packed-cut (suc k) (suc w) n h = ap (λ (l : List ℕ). (16 * (n / 10 % 10) + n 
 value-cut : (w u : ℕ) (v : Value) → w ≤ 6 → (isTime u ≡ true → w ≡ 6) → wrongValue w u v ≡ false → (take w (sixBytes v) ≡ bytesOfValue w v) × (exists v ≡ true)
 value-cut w u (Number d) h six e = (packed-cut 6 w (d .count) h, refl)
 value-cut w u (Time m) h six e =
-    let k = none (not (isTime u)) (not (dateExists m) ∷ not (timeExists m) ∷ []) e in
+    let k = none (not (isTime u)) (not (dateExists m) ∷ not (timeExists m) ∷ not (weekdayExists m) ∷ []) e in
     let n : w ≡ 6 = six (not-false (isTime u) (k .0)) in
-    (rw n, rw (not-false (dateExists m) (k .1 .0), not-false (timeExists m) (k .1 .1 .0)))
+    (rw n, rw (not-false (dateExists m) (k .1 .0), not-false (timeExists m) (k .1 .1 .0), not-false (weekdayExists m) (k .1 .1 .1 .0)))
 
 pub record EntryCut (e : Entry) : Type 0 where
   pub cut : take (2 + widthOf (e .structure)) (e .structure ∷ e .unit ∷ sixBytes (e .value)) ≡ bytesOfEntry e

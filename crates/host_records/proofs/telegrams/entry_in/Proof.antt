@@ -31,9 +31,12 @@ shared-slice-read-t21 c = search needs
 shared-slice-read-t23 : tie.Need-shared-slice-read-t23
 shared-slice-read-t23 c = search needs
 
+shared-slice-read-t25 : tie.Need-shared-slice-read-t25
+shared-slice-read-t25 c = search needs
+
 returns : tie.Need-returns
 unfolding entryIn
-returns c = rw (c .before .before .before .before .before .before .if1 .taken)
+returns c = rw (c .before .before .before .before .before .before .before .if1 .taken)
 
 number-at-requires : tie.Need-number-at-requires
 number-at-requires c κs = search needs
@@ -55,6 +58,7 @@ entry-in-spec =
     shared-slice-read-t19
     shared-slice-read-t21
     shared-slice-read-t23
+    shared-slice-read-t25
     returns
     number-at-requires
     returns-2)

@@ -12,13 +12,9 @@ byte-at-requires-2 c κs = search needs
 byte-at-requires-3 : tie.Need-byte-at-requires-3
 byte-at-requires-3 c κs = search needs
 
-byte-at-requires-4 : tie.Need-byte-at-requires-4
-byte-at-requires-4 c κs = search needs
-
 returns : tie.Need-returns
-returns c = rw (c .before .before .before .byte-at .ensures, c .before .before .byte-at2 .ensures, c .before .byte-at3 .ensures, c .byte-at4 .ensures)
+returns c = rw (c .before .before .byte-at .ensures, c .before .byte-at2 .ensures, c .byte-at3 .ensures)
 
 pub spare-bits-spec : {M : Type 1} → statement M
 spare-bits-spec =
-    tie.close
-    (tie.spec byte-at-requires byte-at-requires-2 byte-at-requires-3 byte-at-requires-4 returns)
+    tie.close (tie.spec byte-at-requires byte-at-requires-2 byte-at-requires-3 returns)

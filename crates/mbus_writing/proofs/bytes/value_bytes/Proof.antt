@@ -1,7 +1,7 @@
 -- `mbus_writing::bytes::value_bytes` meets its contract, case by case. Assumes nothing.
 use borrow.Author.Needs.{needs}
 use mathlib.Core.List.{[], _∷_}
-use Rattle.mbus_rules.specs.Moments.{dateExists, timeExists}
+use Rattle.mbus_rules.specs.Moments.{dateExists, timeExists, weekdayExists}
 use Rattle.mbus_rules.proofs.Laws.TestLaws.{every}
 use Rattle.mbus_writing.proofs.bytes.value_bytes.Statement.{statement}
 use Rattle.mbus_writing.proofs.bytes.value_bytes.Tie as tie
@@ -18,8 +18,8 @@ enum-known-value-2 c = search needs
 moment-bytes-requires : tie.Need-moment-bytes-requires
 moment-bytes-requires c κs =
     let m = c .before .value2 .given .0 .0 in
-    let k = every (dateExists m) (timeExists m ∷ []) (rw (c .before .value2 .given .1) at (c .before .before .before .pre)) in
-    (k .0, k .1 .0)
+    let k = every (dateExists m) (timeExists m ∷ weekdayExists m ∷ []) (rw (c .before .value2 .given .1) at (c .before .before .before .pre)) in
+    (k .0, k .1 .0, k .1 .1 .0)
 
 returns : tie.Need-returns
 returns c = rw (c .before .before .value .given .1) (c .packed-six .ensures)
