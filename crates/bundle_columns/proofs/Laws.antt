@@ -5,3 +5,5 @@ pub mod Scanning
 pub mod Looking
 pub mod Turning
 pub mod Shown
+pub mod Whole
+pub mod AsBefore

@@ -1,10 +1,12 @@
 -- 02, 2026-10: in memory the contents are kept as five lists; the file stays as it is.
-use Prim.Native.Nat.{ℕ, zero, suc, _-_}
+use Prim.Native.Nat.{ℕ, zero, suc, _-_, _^_, _≤_, _<_}
 use mathlib.Core.List.{List, [], _∷_, _++_, map}
-use lib.ListN.{length, replicate}
+use mathlib.Core.Path.{_≡_}
+use lib.ListN.{length, drop, replicate}
 use Rattle.mbus_rules.specs.Lists.{at}
 use Rattle.mbus_rules.specs.Answers.{Answer, within}
 use Rattle.bytes_numbers.specs.Numbers.{bytesOf}
+use Rattle.bundle_rows.specs.Lists.{All}
 use Rattle.bundle_rows.specs.Rows.{mostRows, bytesOfRows}
 use Rattle.bundle_rows.specs.declared.Row.{Row}
 use Rattle.bundle_check.specs.Bundles.{contentsOf, checkOf}
@@ -21,6 +23,20 @@ pub record Columns : Type 0 where
 -- one field of each row, and 0 at the places past the last
 abbrev pub listOf : (Row → ℕ) → List Row → List ℕ
 listOf field rows = map field rows ++ replicate (mostRows - length rows) 0
+
+-- ---- lists as the file can have them: numbers of so many bytes in 512 places, 0 past the count
+pub record Listed (width n : ℕ) (s : List ℕ) : Type 0 where
+  pub size : length s ≡ mostRows
+  pub fits : All (λ (x : ℕ). x < 256 ^ width) s
+  pub rest : drop n s ≡ replicate (mostRows - n) 0
+
+pub record InOrder (c : Columns) : Type 0 where
+  pub few : c .count ≤ mostRows
+  pub positions : Listed 1 (c .count) (c .positions)
+  pub directions : Listed 1 (c .count) (c .directions)
+  pub times : Listed 4 (c .count) (c .times)
+  pub offsets : Listed 4 (c .count) (c .offsets)
+  pub lengths : Listed 2 (c .count) (c .lengths)
 
 -- ---- from the file to the lists
 

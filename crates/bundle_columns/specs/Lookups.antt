@@ -26,9 +26,13 @@ firstFrom test s from =
 abbrev pub isPosition : ℕ → ℕ → Bool
 isPosition position x = eqb x position
 
--- in a bundle: the next row of a position from a given row on; the rows of what `rowAt` and `bodyAt` answer
+-- a row of it
+abbrev pub hasPosition : ℕ → Row → Bool
+hasPosition position r = isPosition position (r .position)
+
+-- in a bundle, beside `rowAt` and `bodyAt`: the next row of a position from a given row on
 unfoldable pub nextAt : List ℕ → ℕ → ℕ → Answer ℕ
-nextAt b position from = follow (checkOf b) (λ n. firstFrom (λ r. isPosition position (r .position)) (contentsOf b) from)
+nextAt b position from = follow (checkOf b) (λ n. firstFrom (hasPosition position) (contentsOf b) from)
 
 -- in the lists: a row's five fields; 39 no such row
 unfoldable pub rowKept : List ℕ → ℕ → Answer Row

@@ -1,6 +1,6 @@
 // The scan of the positions for one of them.
 ghost use mathlib.Core.Path.{_≡_};
-ghost use Prim.Native.Nat.{_+_, _≤_};
+ghost use Prim.Native.Nat.{_+_, _<_, _≤_};
 ghost use lib.ListN.{length, drop};
 ghost use Rattle.mbus_rules.specs.Lists.{any};
 ghost use Rattle.bundle_columns.specs.Lookups.{isPosition, inFront, firstFrom};
@@ -8,8 +8,9 @@ ghost use Rattle.bundle_columns.specs.Shown.{shownNext};
 ghost use Rattle.bundle_columns.specs.Scanning.{Passed};
 use crate::NextFound;
 
-// So many positions are looked at together.
-const BLOCK: usize = 64;
+// So many positions are looked at together: many far from the place, few near it.
+const FAR: usize = 64;
+const NEAR: usize = 8;
 
 // The position stands in the block. All of it is looked at, so that the loop has one way through.
 fn has(block: &[u8], position: u8) -> bool
@@ -22,18 +23,18 @@ fn has(block: &[u8], position: u8) -> bool
     found
 }
 
-// Whole blocks without the position are passed over.
-fn pass_blocks(positions: &[u8], position: u8, from: usize) -> usize
-    requires { ⌜ from ≤ length (now positions) ⌝ }
+// Whole blocks of one size without the position are passed over.
+fn pass_blocks(positions: &[u8], position: u8, from: usize, size: usize) -> usize
+    requires { ⌜ (from ≤ length (now positions)) × (0 < size) ⌝ }
     ensures { λ r. ⌜ Passed (now (positions .entry)) position from r ⌝ }
 {
     let mut i = from;
-    while BLOCK <= positions.len() - i {
-        let here = has(&positions[i..i + BLOCK], position);
+    while size <= positions.len() - i {
+        let here = has(&positions[i..i + size], position);
         if here {
             return i;
         }
-        i += BLOCK;
+        i += size;
     }
     i
 }
@@ -61,7 +62,8 @@ pub(crate) fn next_place(positions: &[u8], position: u8, from: usize) -> NextFou
     if positions.len() < from {
         return NextFound::Refused(39);
     }
-    let near = pass_blocks(positions, position, from);
+    let far = pass_blocks(positions, position, from, FAR);
+    let near = pass_blocks(positions, position, far, NEAR);
     let i = first_place(positions, position, near);
     let none = positions.len() <= i;
     if none {

@@ -60,6 +60,9 @@ module _ {s : List ℕ} {position from : ℕ} where
           );
         }
 
+    pub passed-on : {r : ℕ} → Passed s position i r → Passed s position from r
+    passed-on h = record { inside = h .inside; onward = omega (arith, g .onward, h .onward); so = h .so ∙ g .so }
+
     pub passed-one : i < length s → isPosition position (getD s i 0) ≡ false → Passed s position from (i + 1)
     passed-one h e =
         let next : inFront (isPosition position) (drop (i + 1) s) ≡ inFront (isPosition position) (drop (suc i) s) = rw (add-one i) in

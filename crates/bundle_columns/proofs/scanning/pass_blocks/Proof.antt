@@ -10,13 +10,13 @@ use Rattle.bundle_columns.proofs.scanning.pass_blocks.Statement.{statem
 use Rattle.bundle_columns.proofs.scanning.pass_blocks.Tie as tie
 
 abbrev Inv-loop : tie.InvT-loop
-Inv-loop positions position from i₀ i = Passed positions position from i
+Inv-loop positions position from size i₀ i = Passed positions position from i
 
 abbrev μ-loop : tie.MeasureT-loop
-μ-loop positions position from i₀ i = length positions - i
+μ-loop positions position from size i₀ i = length positions - i
 
 loop-holds : tie.Need-loop-holds Inv-loop μ-loop
-loop-holds c = passed-none (c .before .pre)
+loop-holds c = passed-none (c .before .pre .0)
 
 sub-loop : tie.Need-sub-loop Inv-loop μ-loop
 sub-loop c = search needs
@@ -46,7 +46,7 @@ loop-less : tie.Need-loop-less Inv-loop μ-loop
 loop-less c = search needs
 
 loop-again : tie.Need-loop-again Inv-loop μ-loop
-loop-again c = passed-block (c .before .before .before .before .loop .inv) 64 (c .before .before .before .loop-test .taken) (sym (c .before .has .ensures) ∙ c .if1 .left)
+loop-again c = passed-block (c .before .before .before .before .loop .inv) (c .before .before .before .before .before .before .args .size) (c .before .before .before .loop-test .taken) (sym (c .before .has .ensures) ∙ c .if1 .left)
 
 returns-2 : tie.Need-returns-2 Inv-loop μ-loop
 returns-2 c = c .before .loop .inv
