@@ -23,10 +23,15 @@ pub mod writing;
 
 // The bytes of the record, and where in it each list begins.
 pub const COLUMNS_BYTES: usize = 6_152;
+
 pub(crate) const POSITIONS: usize = 8;
+
 pub(crate) const DIRECTIONS: usize = 520;
+
 pub(crate) const TIMES: usize = 1_032;
+
 pub(crate) const OFFSETS: usize = 3_080;
+
 pub(crate) const LENGTHS: usize = 5_128;
 
 // The next row of a position, or refused by 39 or 101.
@@ -36,7 +41,7 @@ pub enum NextFound {
 }
 
 // The number of rows in the lists, or refused by 101.
-pub(crate) fn count_in(columns: &[u8]) -> Checked
+pub fn count_in(columns: &[u8]) -> Checked
     ensures { λ r. ⌜ r ≡ shownChecked (countKept (columnsFrom (now (columns .entry)))) ⌝ }
 {
     let count = number_at(columns, 0, 8);

@@ -34,14 +34,7 @@ fn field(bundle: &[u8], count: usize, place: usize, width: usize, i: usize) -> u
 }
 
 // One list of 512 places: that field of each row, and 0 past the last.
-fn put_list(
-    bundle: &[u8],
-    count: usize,
-    place: usize,
-    width: usize,
-    out: &mut [u8],
-    at: usize,
-)
+fn put_list(bundle: &[u8], count: usize, place: usize, width: usize, out: &mut [u8], at: usize)
     requires { ⌜ (count ≤ mostRows) × (place + width ≤ 12) × (width ≤ 4) × (at + width * mostRows ≤ length (now out)) ⌝ }
     ensures { λ _. ⌜ now (out .exit) ≡ laid (now (out .entry)) at (listBytes width (fieldsIn place width count (now (bundle .entry)))) ⌝ }
 {

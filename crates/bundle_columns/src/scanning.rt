@@ -10,6 +10,7 @@ use crate::NextFound;
 
 // So many positions are looked at together: many far from the place, few near it.
 const FAR: usize = 64;
+
 const NEAR: usize = 8;
 
 // The position stands in the block. All of it is looked at, so that the loop has one way through.

@@ -359,7 +359,6 @@ unfolding any nextKept
 next-by b position from =
     follow-by _ (columnsFrom b) _ (more (101 ∷ []) _ _ refl (lists-by b)) (λ c. first-by position (take (c .count) (c .positions)) from)
 
-
 -- 38: no room
 pub adding-by : (buffer : List ℕ) (filled : ℕ) (k : Recorded) → By (38 ∷ bundleNumbers) (addOf buffer filled k)
 unfolding any addOf
@@ -432,7 +431,9 @@ module _ (b out : List ℕ) where
 
   pub kept-into-by : (i : ℕ) → By (21 ∷ 101 ∷ 39 ∷ []) (keptInto b i out)
   unfolding any
-  kept-into-by i = needs-by _ 12 out (rowKept b i) refl (more (101 ∷ 39 ∷ []) _ _ refl (kept-row-by b i))
+  kept-into-by i =
+      follow-by _ (columnsFrom b) _ (more (101 ∷ []) _ _ refl (lists-by b))
+      (λ c. needs-by _ 12 out (rowKept b i) refl (more (101 ∷ 39 ∷ []) _ _ refl (kept-row-by b i)))
 
   pub row-into-by : (i : ℕ) → By (21 ∷ 39 ∷ bundleNumbers) (rowInto b i out)
   unfolding any

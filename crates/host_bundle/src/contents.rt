@@ -1,6 +1,6 @@
 // The contents of a run bundle in columns (2026-10 of document 02), for the bench host.
-ghost use Rattle.bytes_lent.specs.Lent.{done, Leaves};
-ghost use Rattle.bundle_columns.specs.Lookups.{nextKept};
+ghost use Rattle.bytes_lent.specs.Lent.{done, needs, Leaves};
+ghost use Rattle.bundle_columns.specs.Lookups.{rowKept, nextKept};
 ghost use Rattle.bundle_columns.specs.Record.{columnsBytes};
 ghost use Rattle.bundle_columns.specs.Shown.{columnsInto};
 ghost use Rattle.host_bundle.specs.Lent.{Gives};
@@ -10,6 +10,7 @@ use crate::record::record_of;
 use bundle_check::Checked;
 use bundle_check::rows::RowFound;
 use bundle_columns::NextFound;
+use bundle_columns::count_in;
 use bundle_columns::making::columns_of;
 use bundle_columns::next;
 use bundle_columns::row;
@@ -26,10 +27,9 @@ pub extern "C" fn skarrowith_contents_of(bundle: &[u8], contents: &mut [u8]) -> 
     }
 }
 
-// 0 and the record of row i, or 256 plus 21, 101 or 39.
-#[no_mangle]
-pub extern "C" fn skarrowith_contents_row(contents: &[u8], i: usize, out: &mut [u8]) -> u32
-    ensures { λ r. ⌜ GivesRow (keptInto (now (contents .entry)) i (now (out .entry))) (now (out .entry)) r (now (out .exit)) ⌝ }
+// The record of row i in the first places, where the lists have been tried.
+fn row_into(contents: &[u8], i: usize, out: &mut [u8]) -> u32
+    ensures { λ r. ⌜ GivesRow (needs 12 (now (out .entry)) (rowKept (now (contents .entry)) i)) (now (out .entry)) r (now (out .exit)) ⌝ }
 {
     let short = out.len() < ROW_BYTES;
     if short {
@@ -45,9 +45,25 @@ pub extern "C" fn skarrowith_contents_row(contents: &[u8], i: usize, out: &mut [
     }
 }
 
+// 0 and the record of row i, or 256 plus 101, 21 or 39.
+#[no_mangle]
+pub extern "C" fn skarrowith_contents_row(contents: &[u8], i: usize, out: &mut [u8]) -> u32
+    ensures { λ r. ⌜ GivesRow (keptInto (now (contents .entry)) i (now (out .entry))) (now (out .entry)) r (now (out .exit)) ⌝ }
+{
+    match count_in(contents) {
+        Checked::Rows(_) => row_into(contents, i, out),
+        Checked::Refused(number) => 256 + number as u32,
+    }
+}
+
 // 0 and the next row of a position from a given row on, or 256 plus 101 or 39.
 #[no_mangle]
-pub extern "C" fn skarrowith_contents_next(contents: &[u8], position: u8, from: usize, i: &mut usize) -> u32
+pub extern "C" fn skarrowith_contents_next(
+    contents: &[u8],
+    position: u8,
+    from: usize,
+    i: &mut usize,
+) -> u32
     ensures { λ r. ⌜ Gives (nextKept (now (contents .entry)) position from) (now (i .entry)) r (now (i .exit)) ⌝ }
 {
     match next(contents, position, from) {

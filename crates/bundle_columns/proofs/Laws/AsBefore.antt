@@ -95,11 +95,12 @@ module _ {A : Type 0} (test : A → Bool) (z : A) where
       let front : ℕ = inFront test (drop from s) in
       let p = passed 39 (leb (length s) (from + front)) (reads (from + front)) i e in
       let same : from + front ≡ i = reads-same (p .1) in
-      let inside : from + front < length s = leb-false (length s) (from + front) (p .0) in
-      (omega arith,
-      omega arith,
-      ap (λ (k : ℕ). test (getD s k z)) (sym same) ∙ ap test (sym (getD-drop from s front z)) ∙ front-test (drop from s) (omega (arith, length-drop from s)),
-      λ j l h. passed-over s from j l (omega arith))
+      let inside : from + front < length s = leb-false (length s) (from + front) (p .0) in (
+        omega arith,
+        omega arith,
+        ap (λ (k : ℕ). test (getD s k z)) (sym same) ∙ ap test (sym (getD-drop from s front z)) ∙ front-test (drop from s) (omega (arith, length-drop from s)),
+        λ j l h. passed-over s from j l (omega arith),
+      )
 
   -- where 39 is answered there is none
   pub first-none : (s : List A) (from : ℕ) → firstFrom test s from ≡ refusal 39 → (j : ℕ) → from ≤ j → j < length s → test (getD s j z) ≡ false

@@ -35,9 +35,11 @@ pub record Taken (b : List ℕ) (n : ℕ) : Type 0 where
 module _ (b : List ℕ) {s : Checked} (f : s ≡ shownChecked (countKept (columnsFrom b))) where
   pub taken : {n : ℕ} → s ≡ checked.Rows n → Taken b n
   unfolding columnsFrom
-  taken {n} e = go (not (eqb (length b) columnsSize) || ltb mostRows (number (take 8 b))) refl (shownChecked-same (countKept (columnsFrom b)) (reads n) (sym f ∙ e))
+  taken {n} e =
+      go (not (eqb (length b) columnsSize) || ltb mostRows (number (take 8 b))) refl (shownChecked-same (countKept (columnsFrom b)) (reads n) (sym f ∙ e))
     where
-      go : (t : Bool) → (not (eqb (length b) columnsSize) || ltb mostRows (number (take 8 b))) ≡ t → countKept (refuse noRecord t (reads (columnsIn b))) ≡ reads n
+      go : (t : Bool) → (not (eqb (length b) columnsSize) || ltb mostRows (number (take 8 b))) ≡ t
+          → countKept (refuse noRecord t (reads (columnsIn b))) ≡ reads n
           → Taken b n
       go true h g = absurd (not-refused g)
       go false h g =

@@ -10,14 +10,14 @@ use lib.Dec.{ltb}
 use lib.ListN.{length, getD, take, drop, length-append}
 use Rattle.mbus_rules.specs.Answers.{Answer, reads, refusal}
 use Rattle.bytes_lent.specs.Copying.{laid, copied}
-use Rattle.bytes_lent.specs.Pieces.{pieces}
-use Rattle.bytes_lent.proofs.Laws.Copying.{laid-on, laid-length, copied-fits}
+use Rattle.bytes_lent.proofs.Laws.Copying.{copied-fits}
 use Rattle.bytes_lent.proofs.Laws.PieceLaws.{Pieced, pieced-none, pieced-next, pieced-all, pieces-length}
 use Rattle.bytes_numbers.specs.Numbers.{bytesOf}
 use Rattle.bytes_numbers.proofs.Laws.Numbers.{length-bytes}
 use Rattle.bundle_rows.specs.Rows.{mostRows, firstOffset, blankRow, rowsOf, bytesOfRow, bytesOfRows}
 use Rattle.bundle_rows.specs.declared.Row.{Row}
-use Rattle.bundle_rows.proofs.Laws.RowLaws.{length-row}
+use Rattle.bundle_rows.proofs.Laws.Lists.{laid-two}
+use Rattle.bundle_rows.proofs.Laws.RowLaws.{length-row, rows-pieces}
 use Rattle.bundle_check.specs.declared.Checked.the-variants as checked
 use Rattle.bundle_check.specs.Bundles.{contentsOf, checkOf}
 use Rattle.bundle_check.proofs.Laws.Accepted.{accepted-sound}
@@ -44,11 +44,6 @@ kept-at c j (suc n) (suc i) d h =
     let next : suc j + i ≡ j + suc i = omega arith in
     kept-at c (suc j) n i d (omega arith) ∙ ap (keptRow c) next
 
-rows-pieces : (rows : List Row) → pieces bytesOfRow rows ≡ bytesOfRows rows
-unfolding bytesOfRows
-rows-pieces [] = refl
-rows-pieces (r ∷ rows) = ap (λ (l : List ℕ). bytesOfRow r ++ l) (rows-pieces rows)
-
 module _ (c : Columns) (n : ℕ) (d : List ℕ) where
   pub rows-none : firstOffset n ≤ length d → Pieced bytesOfRow 12 d 2 (keptFrom c 0 n) 0 d
   rows-none h = pieced-none length-row (rw (length-kept c 0 n) h)
@@ -63,17 +58,7 @@ module _ (c : Columns) (n : ℕ) (d : List ℕ) where
     pub rows-all : n ≤ i → now ≡ laid d 2 (bytesOfRows (keptFrom c 0 n))
     rows-all h = pieced-all g (omega (arith, length-kept c 0 n)) ∙ ap (laid d 2) (rows-pieces (keptFrom c 0 n))
 
--- ---- parts laid one behind the other
-
-module _ (d : List ℕ) (at k : ℕ) (x y : List ℕ) (h : at ≤ length d) (e : k ≡ at + length x) {a b : List ℕ} (ea : a ≡ laid d at x) (eb : b ≡ laid a k y) where
-  pub laid-two : b ≡ laid d at (x ++ y)
-  laid-two = eb ∙ ap₂ (λ (l : List ℕ) (n : ℕ). laid l n y) ea e ∙ laid-on d at x y h
-
-pub laid-three : (d : List ℕ) (at k m : ℕ) (x y z : List ℕ) {a b c : List ℕ} → at ≤ length d → k ≡ at + length x → m ≡ k + length y → a ≡ laid d at x
-    → b ≡ laid a k y → c ≡ laid b m z → c ≡ laid d at (x ++ (y ++ z))
-laid-three d at k m x y z h e f ea eb ec =
-    let behind : m ≡ at + length (x ++ y) = omega (arith, length-append x y) in
-    laid-two d at m (x ++ y) z h behind (laid-two d at k x y h e ea eb) ec ∙ ap (laid d at) (append-assoc x y z)
+-- ---- how many bytes a list has
 
 pub length-listed : (w p v n : ℕ) (b : List ℕ) → n ≤ mostRows → length (listBytes w (fieldsIn p v n b)) ≡ w * mostRows
 length-listed w p v n b h = pieces-length (bytesOf w) w (length-bytes w) (fieldsIn p v n b) ∙ ap (λ (k : ℕ). w * k) (length-list p v n b h)
@@ -108,7 +93,8 @@ module _ (b out : List ℕ) where
         ) in
         let whole : after ≡ laid out 0 (columnsBytes (columnsOf (rowsOf n (drop 2 b)))) =
         laid-two out 0 1032 front back zero-le size ea eb ∙ ap (laid out 0) (sym (lists-are n b)) in
-        let same : after ≡ laid out 0 (columnsBytes (columnsOf (contentsOf b))) = whole ∙ ap (λ (m : ℕ). laid out 0 (columnsBytes (columnsOf (rowsOf m (drop 2 b)))))
+        let same : after ≡ laid out 0 (columnsBytes (columnsOf (contentsOf b))) = whole ∙ ap (λ (m : ℕ). laid out 0 (columnsBytes (columnsOf (rowsOf m
+        (drop 2 b)))))
         (s .1) in
         rw (room, e) (record { answer = ap checked.Rows (sym (count-rows b n e)); left = same })
 

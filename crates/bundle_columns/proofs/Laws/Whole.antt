@@ -127,7 +127,8 @@ all-rows P f zero s p = tt
 all-rows P f (suc n) s p = (f s p, all-rows P f n (drop 12 s) (bytes-drop 12 s p))
 
 module _ (b : List ℕ) (n : ℕ) (bytes : Bytes b) (few : n ≤ mostRows) where
-  listed : (f : Row → ℕ) (p w : ℕ) → ((s : List ℕ) → number (take w (drop p s)) ≡ f (rowOf s)) → Listed w (length (rowsOf n (drop 2 b))) (listOf f (rowsOf n (drop 2 b)))
+  listed : (f : Row → ℕ) (p w : ℕ) → ((s : List ℕ) → number (take w (drop p s)) ≡ f (rowOf s))
+      → Listed w (length (rowsOf n (drop 2 b))) (listOf f (rowsOf n (drop 2 b)))
   listed f p w e =
       let rows : List Row = rowsOf n (drop 2 b) in
       let size : length rows ≡ n = length-rows n (drop 2 b) in
@@ -196,10 +197,12 @@ module _ (c : Columns) (o : InOrder c) where
   after-count = drop-at (bytesOf 8 (c .count)) (p ++ (d ++ (t ++ (f ++ l)))) 8 (length-bytes 8 (c .count))
 
   after-positions : drop 520 whole ≡ d ++ (t ++ (f ++ l))
-  after-positions = sym (drop-drop 512 8 whole) ∙ ap (drop 512) after-count ∙ drop-at p (d ++ (t ++ (f ++ l))) 512 (size-of 1 (c .positions) (o .positions .size))
+  after-positions =
+      sym (drop-drop 512 8 whole) ∙ ap (drop 512) after-count ∙ drop-at p (d ++ (t ++ (f ++ l))) 512 (size-of 1 (c .positions) (o .positions .size))
 
   after-directions : drop 1032 whole ≡ t ++ (f ++ l)
-  after-directions = sym (drop-drop 512 520 whole) ∙ ap (drop 512) after-positions ∙ drop-at d (t ++ (f ++ l)) 512 (size-of 1 (c .directions) (o .directions .size))
+  after-directions =
+      sym (drop-drop 512 520 whole) ∙ ap (drop 512) after-positions ∙ drop-at d (t ++ (f ++ l)) 512 (size-of 1 (c .directions) (o .directions .size))
 
   after-times : drop 3080 whole ≡ f ++ l
   after-times = sym (drop-drop 2048 1032 whole) ∙ ap (drop 2048) after-directions ∙ drop-at t (f ++ l) 2048 (size-of 4 (c .times) (o .times .size))

@@ -35,6 +35,7 @@ returns-2 c =
     let a = c .before .before .before .before .before .args in
     rw (shownRow-same (rowKept (now (a .columns)) (a .i)) (refusal (c .before .number .given .0 .0))
     (sym (c .before .before .before .row .ensures) ∙ c .before .number .given .1))
+
 pub body-at-spec : {M : Type 1} → statement M
 body-at-spec =
     tie.close

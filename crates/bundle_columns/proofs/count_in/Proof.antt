@@ -14,5 +14,6 @@ returns c = rw (← (c .before .number-at .ensures .so), c .if1 .taken)
 returns-2 : tie.Need-returns-2
 unfolding columnsFrom
 returns-2 c = rw (← (c .before .number-at .ensures .so), c .if1 .left)
+
 pub count-in-spec : {M : Type 1} → statement M
 count-in-spec = tie.close (tie.spec number-at-requires returns returns-2)

@@ -59,6 +59,7 @@ returns c =
     let back6 = back4 .before .before in
     rw (back4 .number-at .ensures .so, c .before .before .before .number-at2 .ensures .so, c .before .before .number-at3 .ensures .so)
     (kept-read (now (back6 .args .columns)) (back6 .args .i) (back6 .pre .1))
+
 pub kept-row-spec : {M : Type 1} → statement M
 kept-row-spec =
     tie.close

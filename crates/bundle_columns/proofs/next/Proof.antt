@@ -52,6 +52,7 @@ returns-2 c =
     let a = c .before .before .before .before .before .args in
     ap shownNext (sym (next-refused (now (a .columns)) (a .position) (a .from) (c .before .number .given .0 .0)
     (not-taken (now (a .columns)) (c .before .before .before .count-in .ensures) (c .before .number .given .1))))
+
 pub next-spec : {M : Type 1} → statement M
 next-spec =
     tie.close

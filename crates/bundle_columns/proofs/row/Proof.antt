@@ -34,14 +34,17 @@ returns-2 c =
     let back7 = c .before .before .before .before .before .before .before in
     rw (c .kept-row .ensures)
     (ap shownRow (sym
-    (row-reads (now (back7 .args .columns)) (back7 .args .i) (c .before .before .before .count .given .0 .0) (counted (c .before .before)) (c .before .if1 .left))))
+    (row-reads (now (back7 .args .columns)) (back7 .args .i) (c .before .before .before .count .given .0 .0) (counted (c .before .before))
+    (c .before .if1 .left))))
 
 returns-3 : tie.Need-returns-3
 returns-3 c =
     let back5 = c .before .before .before .before .before in
     let b = now (back5 .args .columns) in
     ap shownRow (sym
-    (row-refused b (back5 .args .i) (c .before .number .given .0 .0) (not-taken b (c .before .before .before .count-in .ensures) (c .before .number .given .1))))
+    (row-refused b (back5 .args .i) (c .before .number .given .0 .0) (not-taken b (c .before .before .before .count-in .ensures)
+    (c .before .number .given .1))))
+
 pub row-spec : {M : Type 1} → statement M
 row-spec =
     tie.close

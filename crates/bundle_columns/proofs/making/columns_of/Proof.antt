@@ -15,7 +15,8 @@ use Rattle.bundle_columns.proofs.making.columns_of.Statement.{statement
 use Rattle.bundle_columns.proofs.making.columns_of.Tie as tie
 
 -- the count as the check gave it
-counted : (c : tie.After-known-told) → checkOf (now (c .before .before .before .before .before .before .before .args .bundle)) ≡ reads (c .before .count .given .0 .0)
+counted : (c : tie.After-known-told)
+    → checkOf (now (c .before .before .before .before .before .before .before .args .bundle)) ≡ reads (c .before .count .given .0 .0)
 counted c =
     shownChecked-same (checkOf (now (c .before .before .before .before .before .before .before .args .bundle))) (reads (c .before .count .given .0 .0))
     (sym (c .before .before .before .check .ensures) ∙ c .before .count .given .1)
@@ -60,7 +61,9 @@ returns-3 c =
     let back4 = c .before .before .before .before in
     let a = back4 .before .before .before .args in
     made-refused (now (a .bundle)) (now (a .out)) (back4 .if1 .left) (c .before .number .given .0 .0)
-    (shownChecked-same (checkOf (now (a .bundle))) (refusal (c .before .number .given .0 .0)) (sym (c .before .before .before .check .ensures) ∙ c .before .number .given .1))
+    (shownChecked-same (checkOf (now (a .bundle))) (refusal (c .before .number .given .0 .0)) (sym (c .before .before .before .check .ensures)
+    ∙ c .before .number .given .1))
+
 pub columns-of-spec : {M : Type 1} → statement M
 columns-of-spec =
     tie.close

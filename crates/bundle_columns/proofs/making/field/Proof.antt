@@ -25,6 +25,7 @@ returns c =
 
 returns-2 : tie.Need-returns-2
 returns-2 c = let a = c .before .before .args in field-none (now (a .bundle)) (a .count) (a .place) (a .width) (a .i) (c .if1 .left)
+
 pub field-spec : {M : Type 1} → statement M
 field-spec =
     tie.close

@@ -11,7 +11,8 @@ use Rattle.bytes_numbers.specs.Numbers.{bytesOf}
 use Rattle.bytes_numbers.proofs.Laws.Numbers.{length-bytes}
 use Rattle.bundle_columns.specs.Record.{columnsSize, listBytes}
 use Rattle.bundle_columns.specs.Making.{fieldsIn}
-use Rattle.bundle_columns.proofs.Laws.Turning.{laid-three, length-listed}
+use Rattle.bundle_rows.proofs.Laws.Lists.{laid-three}
+use Rattle.bundle_columns.proofs.Laws.Turning.{length-listed}
 use Rattle.bundle_columns.proofs.making.put_bytes.Statement.{statement}
 use Rattle.bundle_columns.proofs.making.put_bytes.Tie as tie
 
@@ -42,6 +43,7 @@ returns c =
     laid-three d 0 8 520 (bytesOf 8 n) (listBytes 1 (fieldsIn 0 1 n b)) (listBytes 1 (fieldsIn 1 1 n b)) zero-le (omega arith)
     (omega (arith, length-listed 1 0 1 n b (back14 .pre .0))) (back10 .put-number .ensures ∙ copied-fits d 0 (bytesOf 8 n) first) (back6 .put-list .ensures)
     (c .before .before .put-list2 .ensures)
+
 pub put-bytes-spec : {M : Type 1} → statement M
 put-bytes-spec =
     tie.close

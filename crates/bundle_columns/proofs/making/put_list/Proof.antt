@@ -31,14 +31,32 @@ mul-put-number c =
     let back6 = c .before .before .before .before .before .before in
     let a = back6 .args in
     let inv = c .before .before .before .loop .inv in
-    omega (arith, pieced-length inv, pieced-room inv (omega (arith, c .before .before .loop-test .taken, length-list (a .place) (a .width) (a .count) (now (a .bundle)) (back6 .pre .0))))
+    omega (
+      arith,
+      pieced-length inv,
+      pieced-room inv (omega (
+        arith,
+        c .before .before .loop-test .taken,
+        length-list (a .place) (a .width) (a .count) (now
+            (a .bundle)) (back6 .pre .0),
+      )),
+    )
 
 add-put-number : tie.Need-add-put-number Inv-loop μ-loop
 add-put-number c =
     let back6 = c .before .before .before .before .before .before in
     let a = back6 .args in
     let inv = c .before .before .before .loop .inv in
-    omega (arith, pieced-length inv, pieced-room inv (omega (arith, c .before .before .loop-test .taken, length-list (a .place) (a .width) (a .count) (now (a .bundle)) (back6 .pre .0))))
+    omega (
+      arith,
+      pieced-length inv,
+      pieced-room inv (omega (
+        arith,
+        c .before .before .loop-test .taken,
+        length-list (a .place) (a .width) (a .count) (now
+            (a .bundle)) (back6 .pre .0),
+      )),
+    )
 
 put-number-requires : tie.Need-put-number-requires Inv-loop μ-loop
 put-number-requires c κs = search needs
@@ -54,7 +72,8 @@ loop-again c =
     let back4 = c .before .before .before .before in
     let back6 = back4 .before .before in
     let back9 = back6 .before .before .before in
-    list-next (back9 .pre .0) (back9 .pre .2) (back6 .loop .inv) (back4 .before .loop-test .taken) (back4 .field .ensures) (c .before .before .put-number .ensures)
+    list-next (back9 .pre .0) (back9 .pre .2) (back6 .loop .inv) (back4 .before .loop-test .taken) (back4 .field .ensures)
+    (c .before .before .put-number .ensures)
 
 same-length : tie.Need-same-length Inv-loop μ-loop
 same-length c = pieced-length (c .before .loop .inv)
@@ -64,6 +83,7 @@ returns c =
     let back4 = c .before .before .before .before in
     let a = back4 .args in
     pieced-all (c .before .loop .inv) (omega (arith, c .loop-test .left, length-list (a .place) (a .width) (a .count) (now (a .bundle)) (back4 .pre .0)))
+
 pub put-list-spec : {M : Type 1} → statement M
 put-list-spec =
     tie.close

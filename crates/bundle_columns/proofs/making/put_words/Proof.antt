@@ -7,7 +7,8 @@ use denote.Ref.{now}
 use lib.ListN.{length}
 use Rattle.bundle_columns.specs.Record.{columnsSize, listBytes}
 use Rattle.bundle_columns.specs.Making.{fieldsIn}
-use Rattle.bundle_columns.proofs.Laws.Turning.{laid-three, length-listed}
+use Rattle.bundle_rows.proofs.Laws.Lists.{laid-three}
+use Rattle.bundle_columns.proofs.Laws.Turning.{length-listed}
 use Rattle.bundle_columns.proofs.making.put_words.Statement.{statement}
 use Rattle.bundle_columns.proofs.making.put_words.Tie as tie
 
@@ -36,6 +37,7 @@ returns c =
     laid-three d 1032 3080 5128 (listBytes 4 (fieldsIn 2 4 n b)) (listBytes 4 (fieldsIn 6 4 n b)) (listBytes 2 (fieldsIn 10 2 n b)) (omega arith)
     (omega (arith, length-listed 4 2 4 n b (back14 .pre .0))) (omega (arith, length-listed 4 6 4 n b (back14 .pre .0))) (back10 .put-list .ensures)
     (back6 .put-list2 .ensures) (c .before .before .put-list3 .ensures)
+
 pub put-words-spec : {M : Type 1} → statement M
 put-words-spec =
     tie.close

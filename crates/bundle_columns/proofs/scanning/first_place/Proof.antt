@@ -33,6 +33,7 @@ loop-again c = passed-one (c .before .before .before .loop .inv) (c .before .bef
 
 returns-2 : tie.Need-returns-2 Inv-loop μ-loop
 returns-2 c = passed-all (c .before .loop .inv) (c .loop-test .left)
+
 pub first-place-spec : {M : Type 1} → statement M
 first-place-spec =
     tie.close

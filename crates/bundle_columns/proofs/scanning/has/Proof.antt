@@ -29,6 +29,7 @@ loop-again c = gathered-next 0 (c .before .before .loop .inv) (c .before .loop-t
 
 returns : tie.Need-returns Inv-loop μ-loop
 returns c = gathered-all (c .before .loop .inv) (c .loop-test .left)
+
 pub has-spec : {M : Type 1} → statement M
 has-spec =
     tie.close

@@ -31,6 +31,7 @@ returns-3 c =
     let a = c .before .before .before .before .before .before .args in
     ap shownNext (scan-found (now (a .positions)) (a .position) (a .from)
     (passed-on (c .before .before .before .pass-blocks .ensures) (c .before .before .pass-blocks2 .ensures)) (c .before .first-place .ensures) (c .if2 .left))
+
 pub next-place-spec : {M : Type 1} → statement M
 next-place-spec =
     tie.close

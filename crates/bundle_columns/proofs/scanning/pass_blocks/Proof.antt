@@ -46,10 +46,13 @@ loop-less : tie.Need-loop-less Inv-loop μ-loop
 loop-less c = search needs
 
 loop-again : tie.Need-loop-again Inv-loop μ-loop
-loop-again c = passed-block (c .before .before .before .before .loop .inv) (c .before .before .before .before .before .before .args .size) (c .before .before .before .loop-test .taken) (sym (c .before .has .ensures) ∙ c .if1 .left)
+loop-again c =
+    passed-block (c .before .before .before .before .loop .inv) (c .before .before .before .before .before .before .args .size)
+    (c .before .before .before .loop-test .taken) (sym (c .before .has .ensures) ∙ c .if1 .left)
 
 returns-2 : tie.Need-returns-2 Inv-loop μ-loop
 returns-2 c = c .before .loop .inv
+
 pub pass-blocks-spec : {M : Type 1} → statement M
 pass-blocks-spec =
     tie.close

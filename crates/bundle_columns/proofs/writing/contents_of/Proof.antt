@@ -58,6 +58,7 @@ returns-3 c =
     let a = c .before .before .before .before .before .before .args in
     wrote-refused (now (a .columns)) (now (a .out)) (c .before .number .given .0 .0)
     (not-taken (now (a .columns)) (c .before .before .before .count-in .ensures) (c .before .number .given .1))
+
 pub contents-of-spec : {M : Type 1} → statement M
 contents-of-spec =
     tie.close

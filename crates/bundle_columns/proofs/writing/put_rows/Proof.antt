@@ -51,7 +51,8 @@ loop-again c =
     let back5 = c .before .before .before .before .before in
     let back8 = back5 .before .before .before in
     let back11 = back8 .before .before .before in
-    rows-next (columnsIn (now (back11 .args .columns))) (back11 .args .count) (now (back11 .args .out)) (back8 .loop .inv) (back5 .before .before .loop-test .taken)
+    rows-next (columnsIn (now (back11 .args .columns))) (back11 .args .count) (now (back11 .args .out)) (back8 .loop .inv)
+    (back5 .before .before .loop-test .taken)
     (back5 .before .kept-row .ensures) (back5 .row-bytes .ensures) (c .before .before .lay .ensures)
 
 same-length : tie.Need-same-length Inv-loop μ-loop
@@ -61,6 +62,7 @@ returns : tie.Need-returns Inv-loop μ-loop
 returns c =
     let back4 = c .before .before .before .before in
     rows-all (columnsIn (now (back4 .args .columns))) (back4 .args .count) (now (back4 .args .out)) (c .before .loop .inv) (c .loop-test .left)
+
 pub put-rows-spec : {M : Type 1} → statement M
 put-rows-spec =
     tie.close

@@ -35,6 +35,7 @@ returns-2 c =
     let a = c .before .before .before .before .before .args in
     gives-number (shownNext-same (nextKept (now (a .contents)) (a .position) (a .from)) (refusal (c .before .number .given .0 .0))
     (sym (c .before .before .before .next .ensures) ∙ c .before .number .given .1))
+
 pub skarrowith-contents-next-spec : {M : Type 1} → statement M
 skarrowith-contents-next-spec =
     tie.close

@@ -35,7 +35,9 @@ same-length-2 c = search needs
 returns-2 : tie.Need-returns-2
 returns-2 c =
     let a = c .before .before .before .before .before .before .before .before .before .args in
-    turns-refused (columnsInto (now (a .bundle)) (now (a .contents))) (c .before .before .before .before .before .columns-of .ensures) (c .before .number .given .1)
+    turns-refused (columnsInto (now (a .bundle)) (now (a .contents))) (c .before .before .before .before .before .columns-of .ensures)
+    (c .before .number .given .1)
+
 pub skarrowith-contents-of-spec : {M : Type 1} → statement M
 skarrowith-contents-of-spec =
     tie.close

@@ -1,31 +1,22 @@
--- `host_bundle::contents::skarrowith_contents_row` meets its contract: too little room, and the two cases of the row. Assumes nothing.
+-- `host_bundle::contents::skarrowith_contents_row` meets its contract: 101 where the lists are none, and else the row. Assumes nothing.
 use borrow.Author.Needs.{needs}
 use denote.Ref.{now}
-use Rattle.bundle_columns.specs.Lookups.{rowKept}
-use Rattle.host_bundle.proofs.Laws.Rows.{row-short, row-value, row-number}
+use Rattle.bytes_lent.specs.Lent.{done}
+use Rattle.bytes_lent.proofs.Laws.LentLaws.{leaves-all}
+use mathlib.Core.Path.{refl}
+use Rattle.bundle_columns.proofs.Laws.Looking.{taken, not-taken}
+use Rattle.host_bundle.specs.Rows.{rowRecord}
 use Rattle.host_bundle.proofs.contents.skarrowith_contents_row.Statement.{statement}
 use Rattle.host_bundle.proofs.contents.skarrowith_contents_row.Tie as tie
 
-add-result : tie.Need-add-result
-add-result c = search needs
+count-in-requires : tie.Need-count-in-requires
+count-in-requires c κs = search needs
 
-returns : tie.Need-returns
-returns c = let a = c .before .before .before .args in row-short (rowKept (now (a .contents)) (a .i)) (now (a .out)) (c .if1 .taken)
+enum-told : tie.Need-enum-told
+enum-told c = search needs
 
-row-requires : tie.Need-row-requires
-row-requires c κs = search needs
-
-enum-known-fields : tie.Need-enum-known-fields
-enum-known-fields c = search needs
-
-record-of-requires : tie.Need-record-of-requires
-record-of-requires c κs = search needs
-
-slice-aggregate-store : tie.Need-slice-aggregate-store
-slice-aggregate-store c = search needs
-
-store-requires : tie.Need-store-requires
-store-requires c κs = search needs
+row-into-requires : tie.Need-row-into-requires
+row-into-requires c κs = search needs
 
 enum-known-number : tie.Need-enum-known-number
 enum-known-number c = search needs
@@ -33,39 +24,35 @@ enum-known-number c = search needs
 cast-result : tie.Need-cast-result
 cast-result c = search needs
 
-add-result-2 : tie.Need-add-result-2
-add-result-2 c = search needs
+add-result : tie.Need-add-result
+add-result c = search needs
 
 same-length : tie.Need-same-length
 same-length c = search needs
 
+returns : tie.Need-returns
+returns c =
+    let back6 = c .before .before .before .before .before .before in
+    let a = back6 .before .before .before .args in
+    rw (taken (now (a .contents)) (back6 .count-in .ensures) (c .before .before .before .before .enum-told .given .1) .from)
+    (c .before .before .row-into .ensures)
+
 returns-2 : tie.Need-returns-2
 returns-2 c =
-    let back5 = c .before .before .before .before .before in
-    let back10 = back5 .before .before .before .before .before in
-    let a = back10 .before .before .before .args in
-    row-value (rowKept (now (a .contents)) (a .i)) (now (a .out)) (back10 .if1 .left) (back5 .before .before .before .before .row .ensures)
-    (back5 .before .before .fields .given .1) (back5 .record-of .ensures) (c .before .before .store .ensures .1)
+    let a = c .before .before .before .before .before .before .args in
+    rw (not-taken (now (a .contents)) (c .before .before .before .count-in .ensures) (c .before .number .given .1)) (leaves-all rowRecord (now
+    (a .out)) done refl)
 
-returns-3 : tie.Need-returns-3
-returns-3 c =
-    let back4 = c .before .before .before .before in
-    let a = back4 .before .before .before .args in
-    row-number (rowKept (now (a .contents)) (a .i)) (now (a .out)) (back4 .if1 .left) (c .before .before .before .row .ensures) (c .before .number .given .1)
 pub skarrowith-contents-row-spec : {M : Type 1} → statement M
 skarrowith-contents-row-spec =
     tie.close
     (tie.spec
-    add-result
-    returns
-    row-requires
-    enum-known-fields
-    record-of-requires
-    slice-aggregate-store
-    store-requires
+    count-in-requires
+    enum-told
+    row-into-requires
     enum-known-number
     cast-result
-    add-result-2
+    add-result
     same-length
-    returns-2
-    returns-3)
+    returns
+    returns-2)
