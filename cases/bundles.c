@@ -5,6 +5,7 @@
 #include "words.h"
 
 #include "../second/bundle.h"
+#include "../second/contents.h"
 
 #include <inttypes.h>
 #include <stdio.h>
@@ -144,6 +145,32 @@ int answer_row(void)
 int answer_body(void)
 {
     return answer_of(say_body);
+}
+
+/* The same row from the columns. */
+int answer_kept(void)
+{
+    static struct second_contents contents;
+    struct second_row row;
+    uint64_t index;
+    if (!take(&index, UINT64_MAX) || !take_bytes(&bundle) || !is_whole())
+        return 0;
+    if (!refused(second_contents(bundle.b, bundle.n, &contents)) && !refused(second_contents_row(&contents, index, &row)))
+        say_row(&row);
+    return 1;
+}
+
+int answer_next(void)
+{
+    static struct second_contents contents;
+    uint64_t position, from;
+    size_t index = 0;
+    if (!take(&position, 0xFF) || !take(&from, UINT64_MAX) || !take_bytes(&bundle) || !is_whole())
+        return 0;
+    if (!refused(second_contents(bundle.b, bundle.n, &contents)) &&
+        !refused(second_contents_next(&contents, (unsigned)position, from, &index)))
+        printf("next +%zu", index);
+    return 1;
 }
 
 int answer_add(void)

@@ -6,6 +6,8 @@
 int answer_check(void);
 int answer_row(void);
 int answer_body(void);
+int answer_kept(void);
+int answer_next(void);
 int answer_add(void);
 int answer_list(void);
 

@@ -18,7 +18,8 @@ static const struct {
     {"read", answer_read},   {"write", answer_write}, {"find", answer_find},         {"wake", answer_wake},
     {"gap", answer_gap},     {"error", answer_error}, {"exchange", answer_exchange}, {"meter", answer_meter},
     {"check", answer_check}, {"row", answer_row},     {"body", answer_body},         {"add", answer_add},
-    {"list", answer_list},   {"resistance", answer_resistance}, {"temperature", answer_temperature},
+    {"list", answer_list},   {"kept", answer_kept},   {"next", answer_next},
+    {"resistance", answer_resistance}, {"temperature", answer_temperature},
 };
 
 static int answer_case(char **known)

@@ -107,6 +107,49 @@ static void test_example(void)
     expect("nothing beyond", memcmp(lent.bytes + size, before.bytes + size, sizeof lent.bytes - size) != 0, 0);
 }
 
+/* The example's columns, and columns of the host's own making. */
+static void test_contents(void)
+{
+    static struct skarrowith_contents contents, blank;
+    struct skarrowith_row same = {0, 14, 2, 7, SKARROWITH_HEARD};
+    size_t size = sizeof contents;
+    expect("the columns' size", (uint32_t)size, 6152);
+    begin(example, sizeof example);
+    refused("no room for the columns", skarrowith_contents_of(example, sizeof example, &contents, size - 1), 21);
+    refused("no bundle", skarrowith_contents_of(example, 1, &contents, size), 31);
+    expect("columns as they were", memcmp(&contents, &blank, size) != 0, 0);
+    expect("the example's columns", skarrowith_contents_of(example, sizeof example, &contents, size), 0);
+    expect("their count", (uint32_t)contents.count, 1);
+    expect("the position", contents.positions[0], 7);
+    expect("the direction", contents.directions[0], SKARROWITH_HEARD);
+    expect("the time", contents.times[0], 0);
+    expect("the offset", contents.offsets[0], 14);
+    expect("the length", contents.lengths[0], 2);
+    expect("no second position", contents.positions[1], 0);
+    expect("their row", skarrowith_contents_row(&contents, size, 0, &lent.row, sizeof lent.row), 0);
+    expect("its fields", memcmp(&lent.row, &same, sizeof same) != 0, 0);
+    expect("position 7", skarrowith_contents_next(&contents, size, 7, 0, &lent.number), 0);
+    expect("its row's number", (uint32_t)lent.number, 0);
+    remember();
+    refused("no second row", skarrowith_contents_row(&contents, size, 1, &lent.row, sizeof lent.row), 39);
+    refused("a byte short", skarrowith_contents_row(&contents, size, 0, &lent.row, sizeof lent.row - 1), 21);
+    refused("no record before the room", skarrowith_contents_row(&contents, size - 1, 0, &lent.row, 0), 101);
+    refused("no second row of position 7", skarrowith_contents_next(&contents, size, 7, 1, &lent.number), 39);
+    refused("no row of position 0", skarrowith_contents_next(&contents, size, 0, 0, &lent.number), 39);
+    refused("from the last number", skarrowith_contents_next(&contents, size, 7, SIZE_MAX, &lent.number), 39);
+    refused("columns a byte longer", skarrowith_contents_next(&contents, size + 1, 7, 0, &lent.number), 101);
+    memset(&contents, 0xFF, size);
+    contents.count = 512;
+    expect("512 rows of another's making", skarrowith_contents_row(&contents, size, 511, &lent.row, sizeof lent.row), 0);
+    expect("as they stand", lent.row.time, 0xFFFFFFFF);
+    expect("position 255", skarrowith_contents_next(&contents, size, 255, 511, &lent.number), 0);
+    expect("its row's number", (uint32_t)lent.number, 511);
+    contents.count = 513;
+    remember();
+    refused("513 rows", skarrowith_contents_row(&contents, size, 0, &lent.row, sizeof lent.row), 101);
+    refused("513 rows scanned", skarrowith_contents_next(&contents, size, 255, 0, &lent.number), 101);
+}
+
 static void test_refusals(void)
 {
     static const struct {
@@ -217,6 +260,7 @@ int main(void)
 {
     expect("the row's size", sizeof(struct skarrowith_row), 12);
     test_example();
+    test_contents();
     test_refusals();
     test_adding();
     test_full();

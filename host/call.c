@@ -39,6 +39,9 @@ static const struct {
     [BUNDLE_ROW] = {"skarrowith_bundle_row", "0", "21 30 31 32 33 34 35 36 37 39"},
     [BUNDLE_ADD] = {"skarrowith_bundle_add", "0", "30 31 32 33 34 35 36 37 38"},
     [BUNDLE_LIST] = {"skarrowith_bundle_list", "0", "21"},
+    [CONTENTS_OF] = {"skarrowith_contents_of", "0", "21 30 31 32 33 34 35 36 37"},
+    [CONTENTS_ROW] = {"skarrowith_contents_row", "0", "21 39 101"},
+    [CONTENTS_NEXT] = {"skarrowith_contents_next", "0", "39 101"},
 };
 
 static unsigned long seen[FUNCTIONS][ANSWERS], cases;

@@ -28,6 +28,9 @@ enum function {
     BUNDLE_ROW,
     BUNDLE_ADD,
     BUNDLE_LIST,
+    CONTENTS_OF,
+    CONTENTS_ROW,
+    CONTENTS_NEXT,
     FUNCTIONS
 };
 

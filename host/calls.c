@@ -29,6 +29,7 @@ static struct skarrowith_found found;
 static struct skarrowith_telegram telegram;
 static struct skarrowith_exchange waiting, exchange;
 static struct skarrowith_meter set_up, meter;
+static struct skarrowith_contents contents;
 
 /* ---- what is called */
 
@@ -62,6 +63,38 @@ static uint32_t meter_measure(void)
 static uint32_t resistance(void) { return skarrowith_resistance(5019, &number); }
 static uint32_t temperature(void) { return skarrowith_temperature(1200000, &number); }
 static uint32_t check_bundle(void) { return skarrowith_bundle_check(bytes, count, &told); }
+static uint32_t make_contents(void) { return skarrowith_contents_of(bytes, count, &contents, sizeof contents); }
+
+/* A position that no row has: all rows are passed over. */
+static uint32_t scan_none(void) { return skarrowith_contents_next(&contents, sizeof contents, 49, 0, &told); }
+
+/* All rows of one position, one after the other. */
+static uint32_t scan_all(void)
+{
+    uint32_t rows = 0;
+    for (size_t from = 0; skarrowith_contents_next(&contents, sizeof contents, 7, from, &told) == 0; from = told + 1)
+        rows++;
+    return rows;
+}
+
+/* The same by plain C over the rows of the file, 12 bytes each. */
+static size_t next_in_file(uint8_t position, size_t from)
+{
+    while (from < ROWS && bytes[2 + 12 * from] != position)
+        from++;
+    return from;
+}
+
+static uint32_t scan_none_in_file(void) { return (uint32_t)next_in_file(49, 0); }
+
+static uint32_t scan_all_in_file(void)
+{
+    uint32_t rows = 0;
+    for (size_t from = 0; (from = next_in_file(7, from)) < ROWS; from++)
+        rows++;
+    return rows;
+}
+
 static uint32_t list_bundle(void) { return skarrowith_bundle_list(bytes, count, text, sizeof text, &told); }
 static uint32_t none(void) { return (uint32_t)count; }
 
@@ -171,6 +204,12 @@ static void put_bundle(void)
     count = at;
 }
 
+static void put_contents(void)
+{
+    put_bundle();
+    make_contents();
+}
+
 static const struct {
     const char *name;
     void (*make)(void);
@@ -197,6 +236,9 @@ static const struct {
     {"temperature", put_ack, temperature, NULL},
     {"check-bundle", put_bundle, check_bundle, NULL},
     {"list-bundle", put_bundle, list_bundle, NULL},
+    {"contents-bundle", put_bundle, make_contents, NULL},
+    {"scan-none", put_contents, scan_none, scan_none_in_file},
+    {"scan-all", put_contents, scan_all, scan_all_in_file},
 };
 
 /* ---- the stack: painted, lent to one call, and looked at */

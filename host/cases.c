@@ -5,6 +5,7 @@
 #include "skarrowith.h"
 
 #include "../second/bundle.h"
+#include "../second/contents.h"
 #include "../second/exchange.h"
 #include "../second/indication.h"
 #include "../second/line.h"
@@ -242,6 +243,49 @@ int second_row(const uint8_t *bundle, size_t n, uint64_t index, struct second_ro
     if (refusal == 0)
         *row = (struct second_row){r.position, r.direction, r.time, r.offset, r.length};
     return refusal;
+}
+
+int second_contents(const uint8_t *bundle, size_t n, struct second_contents *c)
+{
+    struct skarrowith_contents r;
+    int refusal = refusal_in(skarrowith_contents_of(bundle, n, &r, sizeof r));
+    if (refusal != 0)
+        return refusal;
+    c->count = r.count;
+    memcpy(c->positions, r.positions, sizeof r.positions);
+    memcpy(c->directions, r.directions, sizeof r.directions);
+    memcpy(c->times, r.times, sizeof r.times);
+    memcpy(c->offsets, r.offsets, sizeof r.offsets);
+    memcpy(c->lengths, r.lengths, sizeof r.lengths);
+    return 0;
+}
+
+static struct skarrowith_contents contents_record(const struct second_contents *c)
+{
+    struct skarrowith_contents r;
+    r.count = c->count;
+    memcpy(r.positions, c->positions, sizeof r.positions);
+    memcpy(r.directions, c->directions, sizeof r.directions);
+    memcpy(r.times, c->times, sizeof r.times);
+    memcpy(r.offsets, c->offsets, sizeof r.offsets);
+    memcpy(r.lengths, c->lengths, sizeof r.lengths);
+    return r;
+}
+
+int second_contents_row(const struct second_contents *c, uint64_t index, struct second_row *row)
+{
+    struct skarrowith_contents contents = contents_record(c);
+    struct skarrowith_row r;
+    int refusal = refusal_in(skarrowith_contents_row(&contents, sizeof contents, (size_t)index, &r, sizeof r));
+    if (refusal == 0)
+        *row = (struct second_row){r.position, r.direction, r.time, r.offset, r.length};
+    return refusal;
+}
+
+int second_contents_next(const struct second_contents *c, unsigned position, uint64_t from, size_t *index)
+{
+    struct skarrowith_contents contents = contents_record(c);
+    return refusal_in(skarrowith_contents_next(&contents, sizeof contents, (uint8_t)position, (size_t)from, index));
 }
 
 int second_add(uint8_t *buffer, size_t places, uint64_t filled, struct second_row row, const uint8_t *body,

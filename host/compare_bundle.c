@@ -1,4 +1,4 @@
-/* Run bundles, whole and damaged, their rows, adding and listing: the archive against the second program. */
+/* Run bundles, whole and damaged, their rows, columns, adding and listing: the archive against the second program. */
 #define _POSIX_C_SOURCE 200809L
 
 #include "compare_bundle.h"
@@ -6,6 +6,8 @@
 #include "call.h"
 #include "skarrowith.h"
 
+#include "../second/chance.h"
+#include "../second/contents.h"
 #include "../second/make_bundle.h"
 
 #include <stdio.h>
@@ -23,23 +25,22 @@ static void check(void)
     end(skarrowith_bundle_check(bytes->to, bundle.n, rows->to), answer_for(refusal));
 }
 
+static void put_row(void *to, const struct second_row *r)
+{
+    struct skarrowith_row fields = {r->time, r->offset, (uint16_t)r->length, (uint8_t)r->position, (uint8_t)r->direction};
+    memcpy(to, &fields, sizeof fields);
+}
+
 static void row(void)
 {
     struct second_row r = {0};
-    struct skarrowith_row fields = {0};
     size_t i = (size_t)some_row();
-    size_t size = some_places(sizeof fields);
-    int refusal = size < sizeof fields ? 21 : second_row(bundle.b, bundle.n, i, &r);
+    size_t size = some_places(sizeof(struct skarrowith_row));
+    int refusal = size < sizeof(struct skarrowith_row) ? 21 : second_row(bundle.b, bundle.n, i, &r);
     begin(BUNDLE_ROW);
     struct lent *bytes = lend("bundle", bundle.n, bundle.b, bundle.n), *out = lend("row", size, NULL, 0);
-    if (refusal == 0) {
-        fields.time = r.time;
-        fields.offset = r.offset;
-        fields.length = (uint16_t)r.length;
-        fields.position = (uint8_t)r.position;
-        fields.direction = (uint8_t)r.direction;
-        memcpy(out->second, &fields, sizeof fields);
-    }
+    if (refusal == 0)
+        put_row(out->second, &r);
     end(skarrowith_bundle_row(bytes->to, bundle.n, (size_t)tell("i", i), out->to, size), answer_for(refusal));
 }
 
@@ -62,6 +63,83 @@ static void list(void)
     }
     free(text);
     end(skarrowith_bundle_list(bytes->to, bundle.n, out->to, places, written->to), answer_for(places < length ? 21 : 0));
+}
+
+/* The columns as they are compared: the fields of the header's struct, each list by its name. */
+static void put_contents(void *to, const struct second_contents *c)
+{
+    struct skarrowith_contents r;
+    memset(&r, 0, sizeof r);
+    r.count = c->count;
+    for (size_t i = 0; i < SECOND_ROWS; i++) {
+        r.positions[i] = c->positions[i];
+        r.directions[i] = c->directions[i];
+        r.times[i] = c->times[i];
+        r.offsets[i] = c->offsets[i];
+        r.lengths[i] = c->lengths[i];
+    }
+    memcpy(to, &r, sizeof r);
+}
+
+static struct second_contents columns;
+
+static void contents_of(void)
+{
+    size_t size = some_places(sizeof(struct skarrowith_contents));
+    int refusal = size < sizeof(struct skarrowith_contents) ? 21 : second_contents(bundle.b, bundle.n, &columns);
+    begin(CONTENTS_OF);
+    struct lent *bytes = lend("bundle", bundle.n, bundle.b, bundle.n), *out = lend("contents", size, NULL, 0);
+    if (refusal == 0)
+        put_contents(out->second, &columns);
+    end(skarrowith_contents_of(bytes->to, bundle.n, out->to, size), answer_for(refusal));
+}
+
+/* Columns of another's making: any bytes, most often with a count that is in range, or nearly. */
+static void some_columns(void)
+{
+    uint8_t *b = (uint8_t *)&columns;
+    unsigned alike = once_in(2) ? 256 : between(1, 8);
+    for (size_t i = 0; i < sizeof columns; i++)
+        b[i] = (uint8_t)below(alike);
+    columns.count = once_in(8) ? chance() : once_in(3) ? between(510, 514) : below(513);
+}
+
+/* The columns of a bundle, where it has any, and else of another's making; their size, now and then a wrong one. */
+static size_t some_contents(uint8_t *record)
+{
+    if (once_in(4) || second_contents(bundle.b, bundle.n, &columns) != 0)
+        some_columns();
+    put_contents(record, &columns);
+    return once_in(12) ? some_places(sizeof columns) : sizeof columns;
+}
+
+static uint8_t record[sizeof(struct skarrowith_contents) + 4096];
+
+static void contents_row(void)
+{
+    struct second_row r = {0};
+    size_t n = some_contents(record), size = some_places(sizeof(struct skarrowith_row));
+    size_t i = once_in(2) ? (size_t)some_row() : below(514);
+    int refusal = n != sizeof columns || columns.count > SECOND_ROWS ? 101 : size < sizeof(struct skarrowith_row) ? 21 : second_contents_row(&columns, i, &r);
+    begin(CONTENTS_ROW);
+    struct lent *in = lend("contents", n, record, n), *out = lend("row", size, NULL, 0);
+    if (refusal == 0)
+        put_row(out->second, &r);
+    end(skarrowith_contents_row(in->to, n, (size_t)tell("i", i), out->to, size), answer_for(refusal));
+}
+
+static void contents_next(void)
+{
+    size_t n = some_contents(record), found = 0;
+    size_t from = once_in(3) ? 0 : once_in(2) ? (size_t)some_row() : below(514);
+    unsigned position = once_in(3) ? some_row_position() : columns.positions[below(SECOND_ROWS)];
+    int refusal = n != sizeof columns ? 101 : second_contents_next(&columns, position, from, &found);
+    begin(CONTENTS_NEXT);
+    struct lent *in = lend("contents", n, record, n), *i = lend("i", sizeof found, NULL, 0);
+    tell("position", position);
+    if (refusal == 0)
+        memcpy(i->second, &found, sizeof found);
+    end(skarrowith_contents_next(in->to, n, (uint8_t)position, (size_t)tell("from", from), i->to), answer_for(refusal));
 }
 
 /* A row is added to a bundle of its own making. */
@@ -92,5 +170,8 @@ void compare_bundle(void)
     check();
     row();
     list();
+    contents_of();
+    contents_row();
+    contents_next();
     add();
 }

@@ -16,7 +16,7 @@
  *
  * Lent memory is a pointer and the number of its places; with 0 of them the pointer may be null. Output that is too short
  * for what is to be written is refused by 21; a longer one is changed in its first places alone. A count that is answered
- * beside (rows, filled, written, milliohm, hundredths) is written through a pointer to it, which may not be null. Memory for
+ * beside (rows, i, filled, written, milliohm, hundredths) is written through a pointer to it, which may not be null. Memory for
  * uint16_t, uint32_t, int64_t and size_t is aligned as C aligns these types; bytes and records may stand at any address.
  *
  * Stack, as measured. skarrowith_bundle_list takes 28,000 bytes, the simulated meter up to 4,300, every other function fewer
@@ -32,7 +32,7 @@
  * its size; bytes named zero are 0; a telegram's kind is 1 to 5 and the sort of each of its seven entries 0 or 1. No other
  * field of a telegram is asked about there: one with a count of 9 or a month 13 is a record, and what is done with it says
  * the rest (writing refuses it by 20, set-up by 72). An exchange and a meter are records only if some history of steps leads
- * to them.
+ * to them. Columns are records if their count is not over 512.
  *
  * Build the archive target/staticlib/libskarrowith.a with `make`, and link it into an x86-64 program.
  */
@@ -332,6 +332,47 @@ uint32_t skarrowith_bundle_check(const uint8_t *bundle, size_t len, size_t *rows
  * Refuses by 21, by 30 to 37, and by 39 if there is no such row. The whole bundle is checked at each call.
  */
 uint32_t skarrowith_bundle_row(const uint8_t *bundle, size_t len, size_t i, struct skarrowith_row *row, size_t size);
+
+/*
+ * The contents of a bundle kept in columns, for who looks rows up often: 6,152 bytes. Place i of each list is row i; the
+ * places past the count are 0.
+ */
+struct skarrowith_contents {
+    uint64_t count; /* of rows, 0 to 512 */
+    uint8_t positions[512];
+    uint8_t directions[512];
+    uint32_t times[512];
+    uint32_t offsets[512];
+    uint16_t lengths[512];
+};
+
+/*
+ * Turns the contents of a bundle into columns.
+ *
+ * contents, size: takes the columns; size is sizeof(struct skarrowith_contents).
+ *
+ * Refuses by 21, and by 30 to 37 as the check does.
+ */
+uint32_t skarrowith_contents_of(const uint8_t *bundle, size_t len, struct skarrowith_contents *contents, size_t size);
+
+/*
+ * Reads row i from columns, as skarrowith_bundle_row reads it from their bundle, without a check of the bundle. Columns may
+ * be of the caller's own making: only the count is asked about, and the row is answered as it stands.
+ *
+ * Refuses by 101 if size is another or the count is over 512, by 21, and by 39 if there is no such row.
+ */
+uint32_t skarrowith_contents_row(const struct skarrowith_contents *contents, size_t size, size_t i,
+                                 struct skarrowith_row *row, size_t row_size);
+
+/*
+ * Finds the next row of a position: the first from row `from` on. To go on behind it, ask from *i + 1.
+ *
+ * i: takes the row's number; not null.
+ *
+ * Refuses by 101 if size is another or the count is over 512, and by 39 if there is none.
+ */
+uint32_t skarrowith_contents_next(const struct skarrowith_contents *contents, size_t size, uint8_t position, size_t from,
+                                  size_t *i);
 
 /*
  * Adds a row, last, to the bundle that fills the first bytes of a buffer; the bodies move by 12 and the bytes past the new

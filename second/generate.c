@@ -264,6 +264,19 @@ static void generate_body(void)
     print_row("body");
 }
 
+static void generate_kept(void)
+{
+    print_row("kept");
+}
+
+static void generate_next(void)
+{
+    some_bundle();
+    unsigned position = some_row_position();
+    printf("next +%u +%" PRIu64, position, once_in(3) ? 0 : some_row());
+    print_bytes(bundle.b, bundle.n, bundle.rows);
+}
+
 static void generate_add(void)
 {
     static struct addition a;
@@ -298,7 +311,8 @@ int main(int argc, char **argv)
         {"read", generate_read},   {"write", generate_write}, {"find", generate_find},         {"wake", generate_wake},
         {"gap", generate_gap},     {"error", generate_error}, {"exchange", generate_exchange}, {"meter", generate_meter},
         {"check", generate_check}, {"row", generate_row},     {"body", generate_body},         {"add", generate_add},
-        {"list", generate_list},   {"resistance", generate_resistance}, {"temperature", generate_temperature},
+        {"list", generate_list},   {"kept", generate_kept},   {"next", generate_next},
+        {"resistance", generate_resistance}, {"temperature", generate_temperature},
     };
     if (argc != 4)
         return fprintf(stderr, "usage: generate NAME SEED COUNT\n"), 2;

@@ -242,6 +242,13 @@ uint64_t some_row(void)
     return once_in(30) ? chance() : once_in(6) || rows == 0 ? rows : below(rows);
 }
 
+unsigned some_row_position(void)
+{
+    if (bundle.rows > 0 && !once_in(4))
+        return bundle.b[2 + 12 * below((unsigned)bundle.rows)];
+    return once_in(2) ? below(256) : some_position();
+}
+
 void some_addition(struct addition *a, unsigned broken)
 {
     size_t n = new_body(a->body);

@@ -19,6 +19,9 @@ void some_bundle(void);
 /* A row's number, most often of one that is there. */
 uint64_t some_row(void);
 
+/* A position, most often that of some row. */
+unsigned some_row_position(void);
+
 /* A row that is to be added to the bundle, and how many bytes the bundle is said to fill; one in so many bundles is broken. */
 struct addition {
     struct second_row row;

@@ -18,7 +18,7 @@ use Rattle.bundle_adding.proofs.Laws.AddingLaws
 use Rattle.bundle_check.proofs.Laws.HoldingLaws.{bundle-whole}
 
 -- each byte of a list of bytes, by its place
-byte-at : (s : List ℕ) → Bytes s → (i : ℕ) → getD s i 0 < 256
+pub byte-at : (s : List ℕ) → Bytes s → (i : ℕ) → getD s i 0 < 256
 byte-at [] h i = lit< tt
 byte-at (b ∷ s) h zero = h .0
 byte-at (b ∷ s) h (suc i) = byte-at s (h .1) i

@@ -5,6 +5,7 @@ pub mod Search
 pub mod Exchange
 pub mod Meter
 pub mod Bundle
+pub mod Columns
 pub mod Listing
 pub mod Records
 pub mod Refusals

@@ -34,6 +34,8 @@ use Rattle.bundle_check.specs.Shown.{shownChecked}
 use Rattle.bundle_check.proofs.Laws.Shown as bundles
 use Rattle.bundle_check.specs.RowsShown.{shownRow, shownBody}
 use Rattle.bundle_check.proofs.Laws.RowsShown as rows
+use Rattle.bundle_columns.specs.Shown.{shownNext}
+use Rattle.bundle_columns.proofs.Laws.Shown as columns
 use Rattle.bundle_adding.specs.Shown.{shownAdded}
 use Rattle.bundle_adding.proofs.Laws.Shown as addings
 use Rattle.listing_text.specs.Shown.{shownListed}
@@ -105,6 +107,9 @@ row-apart = rows.shownRow-same
 
 pub body-apart : Apart shownBody
 body-apart = rows.shownBody-same
+
+pub next-apart : Apart shownNext
+next-apart = columns.shownNext-same
 
 pub added-apart : Apart shownAdded
 added-apart = addings.shownAdded-same

@@ -49,6 +49,9 @@ use Rattle.bundle_check.specs.RowRules.{wrongRow, wrongRows, wrongPlaces, bodie
 use Rattle.bundle_check.specs.Bundles.{mostBytes, countOf, contentsOf, checkRows, checkOf}
 use Rattle.bundle_check.specs.Records.{Recorded, rowFor}
 use Rattle.bundle_check.specs.Handing.{placeOf, rowAt, bodyAt}
+use Rattle.bundle_columns.specs.Record.{columnsSize, columnsIn, columnsFrom}
+use Rattle.bundle_columns.specs.Lookups.{isPosition, inFront, firstFrom, rowKept, bodyKept, nextKept}
+use Rattle.bundle_columns.specs.Shown.{columnsInto, contentsInto}
 use Rattle.bundle_adding.specs.Adding.{lastTime, grown, noRoom, addOf}
 use Rattle.listing_text.specs.Shown.{listedIn}
 use Rattle.host_words.specs.Refusals as words
@@ -66,7 +69,7 @@ use Rattle.host_exchange.specs.Calls as exchanges
 use Rattle.host_exchange.specs.Calls.{startFor, tickFor, sentFor}
 use Rattle.host_meter.specs.Calls as meters
 use Rattle.host_meter.specs.Calls.{setUpFor, measureFor}
-use Rattle.host_bundle.specs.Rows.{rowInto}
+use Rattle.host_bundle.specs.Rows.{rowInto, keptInto}
 
 -- A refusal, if the answer is one, has one of these numbers.
 unfoldable pub By : {A : Type 0} → List ℕ → Answer A → Type 0
@@ -124,6 +127,9 @@ more : {A : Type 0} (ns ms : List ℕ) (a : Answer A) → less ns ms ≡ true �
 unfolding By
 more ns ms (refusal n) l h = among-more ns ms n l h
 more ns ms (reads a) l h = tt
+
+needs-by : {A B : Type 0} (ns : List ℕ) (n : ℕ) (out : List B) (next : Answer A) → among ns 21 → By ns next → By ns (needs n out next)
+needs-by ns n out next h k = refuse-by ns 21 (ltb (length out) n) next h k
 
 -- ---- reading a line
 
@@ -320,6 +326,39 @@ row-by b i =
 pub body-place-by : (b : List ℕ) (i : ℕ) → By (39 ∷ bundleNumbers) (bodyAt b i)
 body-place-by b i = within-by _ placeOf (rowAt b i) (row-by b i)
 
+-- 2026-10: the lists of a bundle; and of a record of them the contents, a row, its body and the next row of a position
+pub lists-by : (b : List ℕ) → By (101 ∷ []) (columnsFrom b)
+unfolding any columnsFrom
+lists-by b =
+    refuse-by (101 ∷ []) 101 (not (eqb (length b) columnsSize) || ltb mostRows (number (take 8 b))) (reads (columnsIn b)) refl (reads-by _ (columnsIn b))
+
+pub lists-into-by : (b out : List ℕ) → By (21 ∷ bundleNumbers) (columnsInto b out)
+unfolding any
+lists-into-by b out = needs-by _ columnsSize out _ refl (within-by _ _ (checkOf b) (more bundleNumbers _ _ refl (bundle-by b)))
+
+pub contents-into-by : (b out : List ℕ) → By (101 ∷ 21 ∷ []) (contentsInto b out)
+unfolding any
+contents-into-by b out =
+    follow-by _ (columnsFrom b) _ (more (101 ∷ []) _ _ refl (lists-by b)) (λ c. needs-by _ (firstOffset (c .count)) out _ refl (reads-by _ _))
+
+pub kept-row-by : (b : List ℕ) (i : ℕ) → By (101 ∷ 39 ∷ []) (rowKept b i)
+unfolding any rowKept
+kept-row-by b i = follow-by _ (columnsFrom b) _ (more (101 ∷ []) _ _ refl (lists-by b)) (λ c. refuse-by _ 39 (leb (c .count) i) _ refl (reads-by _ _))
+
+pub kept-body-by : (b : List ℕ) (i : ℕ) → By (101 ∷ 39 ∷ []) (bodyKept b i)
+kept-body-by b i = within-by _ placeOf (rowKept b i) (kept-row-by b i)
+
+first-by : (position : ℕ) (s : List ℕ) (from : ℕ) → By (101 ∷ 39 ∷ []) (firstFrom (isPosition position) s from)
+unfolding any
+first-by position s from =
+    let i : ℕ = from + inFront (isPosition position) (drop from s) in
+    refuse-by (101 ∷ 39 ∷ []) 39 (leb (length s) i) (reads i) refl (reads-by _ i)
+
+pub next-by : (b : List ℕ) (position from : ℕ) → By (101 ∷ 39 ∷ []) (nextKept b position from)
+unfolding any nextKept
+next-by b position from =
+    follow-by _ (columnsFrom b) _ (more (101 ∷ []) _ _ refl (lists-by b)) (λ c. first-by position (take (c .count) (c .positions)) from)
+
 -- 38: no room
 pub adding-by : (buffer : List ℕ) (filled : ℕ) (k : Recorded) → By (38 ∷ bundleNumbers) (addOf buffer filled k)
 unfolding any addOf
@@ -372,9 +411,6 @@ meter-record-by b =
 
 -- ---- the functions for C, each in the order of its own record or places and of what it calls
 
-needs-by : {A B : Type 0} (ns : List ℕ) (n : ℕ) (out : List B) (next : Answer A) → among ns 21 → By ns next → By ns (needs n out next)
-needs-by ns n out next h k = refuse-by ns 21 (ltb (length out) n) next h k
-
 placed-by : {A B : Type 0} (ns : List ℕ) (n : ℕ) (out : List B) (a : Answer A) → among ns 21 → By ns a → By ns (placed n out a)
 placed-by ns n out a h k = follow-by ns a _ k (λ x. needs-by ns n out (reads x) h (reads-by ns x))
 
@@ -392,6 +428,12 @@ module _ (b out : List ℕ) where
   pub find-for-by : By (18 ∷ 21 ∷ []) (findFor b out)
   unfolding any
   find-for-by = placed-by _ 16 out (findIn b) refl (more (18 ∷ []) _ _ refl (searching-by b))
+
+  pub kept-into-by : (i : ℕ) → By (21 ∷ 101 ∷ 39 ∷ []) (keptInto b i out)
+  unfolding any
+  kept-into-by i =
+      follow-by _ (columnsFrom b) _ (more (101 ∷ []) _ _ refl (lists-by b))
+      (λ c. needs-by _ 12 out (rowKept b i) refl (more (101 ∷ 39 ∷ []) _ _ refl (kept-row-by b i)))
 
   pub row-into-by : (i : ℕ) → By (21 ∷ 39 ∷ bundleNumbers) (rowInto b i out)
   unfolding any

@@ -13,6 +13,9 @@ use Rattle.mbus_writing.specs.Answering.{WritesLine}
 use Rattle.bundle_check.specs.Records.{Recorded}
 use Rattle.bundle_check.specs.Handing.{BodyPlace}
 use Rattle.bundle_check.specs.Stretches.{Handed}
+use Rattle.bundle_check.specs.declared.Checked.{Checked}
+use Rattle.bundle_columns.specs.Columns.{Columns}
+use Rattle.bundle_columns.specs.Shown.{Turns}
 use Rattle.bundle_adding.specs.declared.Added.{Added}
 use Rattle.bundle_adding.specs.Shown.{Adds}
 use Rattle.listing_text.specs.declared.Listed.{Listed}
@@ -45,6 +48,10 @@ writing-settled t before x y p q = two-equations _ _ x y (p .answer, p .places) 
 
 pub adding-settled : (before : List ℕ) (filled : ℕ) (k : Recorded) → Settled (λ (x : Added × List ℕ). Adds before filled k (x .0) (x .1))
 adding-settled before filled k x y p q = two-equations _ _ x y (p .answers, p .leaves) (q .answers, q .leaves)
+
+pub turning-settled : (written : Columns → List ℕ) (a : Answer Columns) (before : List ℕ)
+    → Settled (λ (x : Checked × List ℕ). Turns written a before (x .0) (x .1))
+turning-settled written a before x y p q = two-equations _ _ x y (p .answer, p .left) (q .answer, q .left)
 
 pub listing-settled : (b before : List ℕ) → Settled (λ (x : Listed × List ℕ). Lists b before (x .0) (x .1))
 listing-settled b before x y p q = two-equations _ _ x y (p .answer, p .holds) (q .answer, q .holds)

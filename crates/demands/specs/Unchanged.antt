@@ -16,6 +16,9 @@ use Rattle.mbus_writing.specs.Answering.{WritesLine}
 use Rattle.bundle_check.specs.Records.{Recorded}
 use Rattle.bundle_check.specs.Handing.{BodyPlace}
 use Rattle.bundle_check.specs.Stretches.{bytesAt, Handed}
+use Rattle.bundle_check.specs.declared.Checked.{Checked}
+use Rattle.bundle_columns.specs.Columns.{Columns}
+use Rattle.bundle_columns.specs.Shown.{Turns}
 use Rattle.bundle_adding.specs.declared.Added.{Added}
 use Rattle.bundle_adding.specs.Adding.{addOf}
 use Rattle.bundle_adding.specs.Adding as adding
@@ -61,6 +64,10 @@ module _ (n : ℕ) where
       → Adds before filled k r after → after ≡ before
   adding-unchanged before after filled k r e p =
       by-answer (λ a. adding.bufferAfter a before filled k) before (λ m. refl) (addOf before filled k) n after e (p .leaves)
+
+  pub turning-unchanged : (written : Columns → List ℕ) (a : Answer Columns) (before after : List ℕ) (r : Checked) → a ≡ refusal n
+      → Turns written a before r after → after ≡ before
+  turning-unchanged written a before after r e p = by-answer (stored written before) before (λ m. refl) a n after e (p .left)
 
   pub listing-unchanged : (b before after : List ℕ) (r : Listed) → listedIn (listingOf b) before ≡ refusal n → Lists b before r after → after ≡ before
   listing-unchanged b before after r e p =

@@ -2,11 +2,13 @@
 use Prim.Native.Nat.{ℕ}
 use mathlib.Core.List.{List, [], _∷_, _++_}
 use lib.ListN.{length}
-use Rattle.mbus_rules.specs.Answers.{Answer}
+use Rattle.mbus_rules.specs.Answers.{Answer, follow}
 use Rattle.bytes_numbers.specs.Numbers.{bytesOf}
 use Rattle.bytes_lent.specs.Lent.{done, needs, Leaves}
 use Rattle.bundle_rows.specs.declared.Row.{Row}
 use Rattle.bundle_check.specs.Handing.{rowAt}
+use Rattle.bundle_columns.specs.Lookups.{rowKept}
+use Rattle.bundle_columns.specs.Record.{columnsFrom}
 
 -- time 4 bytes; offset 4; body length 2; position; direction
 abbrev pub rowRecord : Row → List ℕ
@@ -15,6 +17,10 @@ rowRecord r = bytesOf 4 (r .time) ++ (bytesOf 4 (r .offset) ++ (bytesOf 2 (r .le
 -- 21 where there is no room for the record, before all others
 abbrev pub rowInto : List ℕ → ℕ → List ℕ → Answer Row
 rowInto b i out = needs 12 out (rowAt b i)
+
+-- the same of the lists of 2026-10, behind 101
+abbrev pub keptInto : List ℕ → ℕ → List ℕ → Answer Row
+keptInto b i out = follow (columnsFrom b) (λ c. needs 12 out (rowKept b i))
 
 -- 0, and the row's record in the places lent for it; or 256 plus the refusal number, and they are as they were.
 abbrev pub GivesRow : Answer Row → List ℕ → ℕ → List ℕ → Type 0

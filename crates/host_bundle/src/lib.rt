@@ -16,6 +16,7 @@ use bytes_lent::store;
 use listing_text::Listed;
 use listing_text::list;
 
+pub mod contents;
 mod record;
 
 // 0 and the count of rows, or 256 plus 30 to 37.

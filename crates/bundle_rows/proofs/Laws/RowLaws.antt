@@ -11,6 +11,7 @@ use lib.ListN.{length, getD, take, drop, length-append, length-drop}
 use lib.Seq.{drop-drop, getD-drop, drop-cons, length-take-le, getD-take, drop-at, take-add}
 use Rattle.mbus_rules.specs.Lists.{at}
 use Rattle.mbus_rules.proofs.Laws.TestLaws.{none}
+use Rattle.bytes_lent.specs.Pieces.{pieces}
 use Rattle.bytes_numbers.specs.Numbers.{number, bytesOf}
 use Rattle.bytes_numbers.proofs.Laws.Numbers.{number-bytes}
 use Rattle.bytes_numbers.proofs.Laws.NumberLaws.{Bytes, number-below, bytes-read}
@@ -89,6 +90,12 @@ pub rows-bytes-append : (l m : List Row) → bytesOfRows (l ++ m) ≡ bytesOfRow
 unfolding bytesOfRows
 rows-bytes-append [] m = refl
 rows-bytes-append (r ∷ l) m = rw (rows-bytes-append l m, append-assoc (bytesOfRow r) (bytesOfRows l) (bytesOfRows m))
+
+-- the same as pieces
+pub rows-pieces : (rows : List Row) → pieces bytesOfRow rows ≡ bytesOfRows rows
+unfolding bytesOfRows
+rows-pieces [] = refl
+rows-pieces (r ∷ rows) = ap (λ (l : List ℕ). bytesOfRow r ++ l) (rows-pieces rows)
 
 pub one-row : (r : Row) → bytesOfRows (r ∷ []) ≡ bytesOfRow r
 unfolding bytesOfRows

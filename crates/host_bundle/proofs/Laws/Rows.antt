@@ -8,19 +8,18 @@ use borrow.Author.Tests.{ltb-false}
 use lib.Dec.{ltb}
 use lib.ListN.{length, take, drop}
 use Rattle.mbus_rules.specs.Lists.{at}
-use Rattle.mbus_rules.specs.Answers.{reads, refusal}
+use Rattle.mbus_rules.specs.Answers.{Answer, reads, refusal}
 use Rattle.bytes_numbers.specs.Numbers.{number, bytesOf}
 use Rattle.bytes_numbers.proofs.Laws.Numbers.{number-bytes}
 use Rattle.bytes_lent.specs.Copying.{copied}
-use Rattle.bytes_lent.specs.Lent.{done}
+use Rattle.bytes_lent.specs.Lent.{done, needs}
 use Rattle.bytes_lent.proofs.Laws.LentLaws.{leaves-all, leaves-copied}
 use Rattle.bundle_rows.specs.declared.Row.{Row}
 use Rattle.bundle_check.specs.declared.rows.RowFound.{RowFound}
 use Rattle.bundle_check.specs.declared.rows.RowFound.the-variants.{Fields, Refused}
-use Rattle.bundle_check.specs.Handing.{rowAt}
 use Rattle.bundle_check.specs.RowsShown.{shownRow}
 use Rattle.bundle_check.proofs.Laws.RowsShown.{shownRow-same}
-use Rattle.host_bundle.specs.Rows.{rowRecord, rowInto, GivesRow}
+use Rattle.host_bundle.specs.Rows.{rowRecord, GivesRow}
 
 -- Laws: the record's size; too little room, and the two cases of the row.
 pub length-record : (r : Row) → length (rowRecord r) ≡ 12
@@ -45,15 +44,16 @@ fields-read r t o l = record {
   direction = refl;
 }
 
-module _ (b : List ℕ) (i : ℕ) (out : List ℕ) where
-  pub row-short : ltb (length out) 12 ≡ true → GivesRow (rowInto b i out) out (256 + 21) out
+-- of any rule that gives a row
+module _ (a : Answer Row) (out : List ℕ) where
+  pub row-short : ltb (length out) 12 ≡ true → GivesRow (needs 12 out a) out (256 + 21) out
   row-short e = rw e (leaves-all rowRecord out done refl)
 
-  module _ {s : RowFound} (e : ltb (length out) 12 ≡ false) (f : s ≡ shownRow (rowAt b i)) where
-    pub row-number : {n : ℕ} → s ≡ Refused n → GivesRow (rowInto b i out) out (256 + n) out
-    row-number {n} g = rw e (leaves-all rowRecord out done (shownRow-same (rowAt b i) (refusal n) (sym f ∙ g)))
+  module _ {s : RowFound} (e : ltb (length out) 12 ≡ false) (f : s ≡ shownRow a) where
+    pub row-number : {n : ℕ} → s ≡ Refused n → GivesRow (needs 12 out a) out (256 + n) out
+    row-number {n} g = rw e (leaves-all rowRecord out done (shownRow-same a (refusal n) (sym f ∙ g)))
 
-    pub row-value : {r : Row} {x after : List ℕ} → s ≡ Fields r → x ≡ rowRecord r → after ≡ copied out 0 x → GivesRow (rowInto b i out) out 0 after
+    pub row-value : {r : Row} {x after : List ℕ} → s ≡ Fields r → x ≡ rowRecord r → after ≡ copied out 0 x → GivesRow (needs 12 out a) out 0 after
     row-value {r} {x} g h k =
         let room : length x ≤ length out = omega (arith, ap length h, length-record r, ltb-false (length out) 12 e) in
-        rw e (leaves-copied rowRecord out done (shownRow-same (rowAt b i) (reads r) (sym f ∙ g)) h room k refl)
+        rw e (leaves-copied rowRecord out done (shownRow-same a (reads r) (sym f ∙ g)) h room k refl)

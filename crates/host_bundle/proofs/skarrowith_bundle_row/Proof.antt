@@ -1,6 +1,7 @@
 -- `host_bundle::skarrowith_bundle_row` meets its contract: too little room, and the two cases of the row. Assumes nothing.
 use borrow.Author.Needs.{needs}
 use denote.Ref.{now}
+use Rattle.bundle_check.specs.Handing.{rowAt}
 use Rattle.host_bundle.proofs.Laws.Rows.{row-short, row-value, row-number}
 use Rattle.host_bundle.proofs.skarrowith_bundle_row.Statement.{statement}
 use Rattle.host_bundle.proofs.skarrowith_bundle_row.Tie as tie
@@ -9,7 +10,7 @@ add-result : tie.Need-add-result
 add-result c = search needs
 
 returns : tie.Need-returns
-returns c = let a = c .before .before .before .args in row-short (now (a .bundle)) (a .i) (now (a .out)) (c .if1 .taken)
+returns c = let a = c .before .before .before .args in row-short (rowAt (now (a .bundle)) (a .i)) (now (a .out)) (c .if1 .taken)
 
 row-requires : tie.Need-row-requires
 row-requires c κs = search needs
@@ -41,7 +42,7 @@ same-length c = search needs
 returns-2 : tie.Need-returns-2
 returns-2 c =
     let a = c .before .before .before .before .before .before .before .before .before .before .before .before .before .args in
-    row-value (now (a .bundle)) (a .i) (now (a .out)) (c .before .before .before .before .before .before .before .before .before .before .if1 .left)
+    row-value (rowAt (now (a .bundle)) (a .i)) (now (a .out)) (c .before .before .before .before .before .before .before .before .before .before .if1 .left)
     (c .before .before .before .before .before .before .before .before .before .row .ensures)
     (c .before .before .before .before .before .before .before .fields .given .1) (c .before .before .before .before .before .record-of .ensures)
     (c .before .before .store .ensures .1)
@@ -49,7 +50,7 @@ returns-2 c =
 returns-3 : tie.Need-returns-3
 returns-3 c =
     let a = c .before .before .before .before .before .before .before .args in
-    row-number (now (a .bundle)) (a .i) (now (a .out)) (c .before .before .before .before .if1 .left) (c .before .before .before .row .ensures)
+    row-number (rowAt (now (a .bundle)) (a .i)) (now (a .out)) (c .before .before .before .before .if1 .left) (c .before .before .before .row .ensures)
     (c .before .number .given .1)
 
 pub skarrowith-bundle-row-spec : {M : Type 1} → statement M

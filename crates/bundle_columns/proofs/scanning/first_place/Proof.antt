@@ -1,0 +1,49 @@
+-- `bundle_columns::scanning::first_place` meets its contract: the loop looks at each place. Assumes nothing.
+use borrow.Author.Needs.{needs}
+use Prim.Native.Nat.{_-_}
+use lib.ListN.{length}
+use Rattle.bundle_columns.specs.Scanning.{Passed}
+use Rattle.bundle_columns.proofs.Laws.Scanning.{passed-none, passed-one, passed-here, passed-all}
+use Rattle.bundle_columns.proofs.scanning.first_place.Statement.{statement}
+use Rattle.bundle_columns.proofs.scanning.first_place.Tie as tie
+
+abbrev Inv-loop : tie.InvT-loop
+Inv-loop positions position from i₀ i = Passed positions position from i
+
+abbrev μ-loop : tie.MeasureT-loop
+μ-loop positions position from i₀ i = length positions - i
+
+loop-holds : tie.Need-loop-holds Inv-loop μ-loop
+loop-holds c = passed-none (c .pre)
+
+shared-slice-read-here : tie.Need-shared-slice-read-here Inv-loop μ-loop
+shared-slice-read-here c = search needs
+
+returns : tie.Need-returns Inv-loop μ-loop
+returns c = passed-here (c .before .before .before .loop .inv) (c .before .before .loop-test .taken) (c .if1 .taken)
+
+add-i : tie.Need-add-i Inv-loop μ-loop
+add-i c = search needs
+
+loop-less : tie.Need-loop-less Inv-loop μ-loop
+loop-less c = search needs
+
+loop-again : tie.Need-loop-again Inv-loop μ-loop
+loop-again c = passed-one (c .before .before .before .loop .inv) (c .before .before .loop-test .taken) (c .if1 .left)
+
+returns-2 : tie.Need-returns-2 Inv-loop μ-loop
+returns-2 c = passed-all (c .before .loop .inv) (c .loop-test .left)
+
+pub first-place-spec : {M : Type 1} → statement M
+first-place-spec =
+    tie.close
+    (tie.spec
+    Inv-loop
+    μ-loop
+    loop-holds
+    shared-slice-read-here
+    returns
+    add-i
+    loop-less
+    loop-again
+    returns-2)

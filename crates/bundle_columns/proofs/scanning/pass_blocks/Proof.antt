@@ -1,0 +1,73 @@
+-- `bundle_columns::scanning::pass_blocks` meets its contract: the loop passes over blocks without the position. Assumes nothing.
+use borrow.Author.Needs.{needs}
+use Prim.Native.Nat.{_-_}
+use mathlib.Core.Path.{sym, _∙_}
+use native.Mathlib.Omega.{arith}
+use lib.ListN.{length}
+use Rattle.bundle_columns.specs.Scanning.{Passed}
+use Rattle.bundle_columns.proofs.Laws.Scanning.{passed-none, passed-block}
+use Rattle.bundle_columns.proofs.scanning.pass_blocks.Statement.{statement}
+use Rattle.bundle_columns.proofs.scanning.pass_blocks.Tie as tie
+
+abbrev Inv-loop : tie.InvT-loop
+Inv-loop positions position from size i₀ i = Passed positions position from i
+
+abbrev μ-loop : tie.MeasureT-loop
+μ-loop positions position from size i₀ i = length positions - i
+
+loop-holds : tie.Need-loop-holds Inv-loop μ-loop
+loop-holds c = passed-none (c .before .pre .0)
+
+sub-loop : tie.Need-sub-loop Inv-loop μ-loop
+sub-loop c = search needs
+
+add-has : tie.Need-add-has Inv-loop μ-loop
+add-has c = search needs
+
+sub-has : tie.Need-sub-has Inv-loop μ-loop
+sub-has c = search needs
+
+part-has-start : tie.Need-part-has-start Inv-loop μ-loop
+part-has-start c = search needs
+
+part-has-end : tie.Need-part-has-end Inv-loop μ-loop
+part-has-end c = search needs
+
+has-requires : tie.Need-has-requires Inv-loop μ-loop
+has-requires c κs = search needs
+
+returns : tie.Need-returns Inv-loop μ-loop
+returns c = c .before .before .before .before .loop .inv
+
+add-i : tie.Need-add-i Inv-loop μ-loop
+add-i c = search needs
+
+loop-less : tie.Need-loop-less Inv-loop μ-loop
+loop-less c = search needs
+
+loop-again : tie.Need-loop-again Inv-loop μ-loop
+loop-again c =
+    passed-block (c .before .before .before .before .loop .inv) (c .before .before .before .before .before .before .args .size)
+    (c .before .before .before .loop-test .taken) (sym (c .before .has .ensures) ∙ c .if1 .left)
+
+returns-2 : tie.Need-returns-2 Inv-loop μ-loop
+returns-2 c = c .before .loop .inv
+
+pub pass-blocks-spec : {M : Type 1} → statement M
+pass-blocks-spec =
+    tie.close
+    (tie.spec
+    Inv-loop
+    μ-loop
+    loop-holds
+    sub-loop
+    add-has
+    sub-has
+    part-has-start
+    part-has-end
+    has-requires
+    returns
+    add-i
+    loop-less
+    loop-again
+    returns-2)

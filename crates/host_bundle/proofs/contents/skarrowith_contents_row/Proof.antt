@@ -1,0 +1,58 @@
+-- `host_bundle::contents::skarrowith_contents_row` meets its contract: 101 where the lists are none, and else the row. Assumes nothing.
+use borrow.Author.Needs.{needs}
+use denote.Ref.{now}
+use Rattle.bytes_lent.specs.Lent.{done}
+use Rattle.bytes_lent.proofs.Laws.LentLaws.{leaves-all}
+use mathlib.Core.Path.{refl}
+use Rattle.bundle_columns.proofs.Laws.Looking.{taken, not-taken}
+use Rattle.host_bundle.specs.Rows.{rowRecord}
+use Rattle.host_bundle.proofs.contents.skarrowith_contents_row.Statement.{statement}
+use Rattle.host_bundle.proofs.contents.skarrowith_contents_row.Tie as tie
+
+count-in-requires : tie.Need-count-in-requires
+count-in-requires c κs = search needs
+
+enum-told : tie.Need-enum-told
+enum-told c = search needs
+
+row-into-requires : tie.Need-row-into-requires
+row-into-requires c κs = search needs
+
+enum-known-number : tie.Need-enum-known-number
+enum-known-number c = search needs
+
+cast-result : tie.Need-cast-result
+cast-result c = search needs
+
+add-result : tie.Need-add-result
+add-result c = search needs
+
+same-length : tie.Need-same-length
+same-length c = search needs
+
+returns : tie.Need-returns
+returns c =
+    let back6 = c .before .before .before .before .before .before in
+    let a = back6 .before .before .before .args in
+    rw (taken (now (a .contents)) (back6 .count-in .ensures) (c .before .before .before .before .enum-told .given .1) .from)
+    (c .before .before .row-into .ensures)
+
+returns-2 : tie.Need-returns-2
+returns-2 c =
+    let a = c .before .before .before .before .before .before .args in
+    rw (not-taken (now (a .contents)) (c .before .before .before .count-in .ensures) (c .before .number .given .1)) (leaves-all rowRecord (now
+    (a .out)) done refl)
+
+pub skarrowith-contents-row-spec : {M : Type 1} → statement M
+skarrowith-contents-row-spec =
+    tie.close
+    (tie.spec
+    count-in-requires
+    enum-told
+    row-into-requires
+    enum-known-number
+    cast-result
+    add-result
+    same-length
+    returns
+    returns-2)
