@@ -102,11 +102,13 @@ module _ (b : List ℕ) (step : Step) {s : Taken} (e : s ≡ shownBench (benchFr
   was-read {x} {u} f g k = rw (read-from b e f, ← shown-as (answer x step) u g) k
 
 -- the end of a send, by the telegram that was made for it
-pub send-made : (x : Bench) (kind address method : ℕ) (t : Clock) {k : Kind} {m : Telegram} {u : Stepped}
-    → k ≡ kindIn kind → m ≡ bare k address method → u ≡ shownStep (answer x (sendEnded m t))
-    → u ≡ shownStep (answer x (sendEnded (bare (kindIn kind) address method) t))
-send-made x kind address method t {k} e f g =
-    g ∙ ap (λ (m : Telegram). shownStep (answer x (sendEnded m t))) (f ∙ ap (λ (q : Kind). bare q address method) e)
+pub send-was-read : (b : List ℕ) (kind address method t : ℕ) {s : Taken} → s ≡ shownBench (benchFrom b)
+    → {x : Bench} {k : Kind} {m : Telegram} {u : Stepped} {after : List ℕ} {r : ℕ} → s ≡ taken.Is x → k ≡ kindIn kind → m ≡ bare k address method
+    → u ≡ shownStep (answer x (sendEnded m (record { 0 = t }))) → Answers (answerOf u) b after r → Answers (sendEndedFor b kind address method t) b after r
+send-was-read b kind address method t e {x} {k} {m} {u} i made sent g kept =
+    let whole : m ≡ bare (kindIn kind) address method = sent ∙ ap (λ (q : Kind). bare q address method) made in
+    was-read b (sendEnded (bare (kindIn kind) address method) (record { 0 = t })) e i
+    (g ∙ ap (λ (q : Telegram). shownStep (answer x (sendEnded q (record { 0 = t })))) whole) kept
 
 -- the two ways out of keeping what a line gave
 module _ {a : Answer Exchange} {telegram : Telegram} {before after out : List ℕ} {r : ℕ} (k : Answers a before after r) where
