@@ -52,6 +52,7 @@ refusalTexts =
     ∷ row 40 "exchange: time earlier than the last step's"
     ∷ row 41 "exchange: step not called for in this state"
     ∷ row 42 "start with ack or data"
+    ∷ row 43 "a different request at a resend"
     ∷ row 50 "command begins less than 33 after the wake-up's end, or before it"
     ∷ row 51 "command begins more than 330 after the wake-up's end"
     ∷ row 52 "wake-up count outside 459-502"

@@ -24,7 +24,7 @@ use Rattle.exchange_steps.specs.declared.Exchange.{Exchange}
 use Rattle.exchange_steps.specs.declared.Bench.{Bench}
 use Rattle.exchange_steps.specs.declared.Bench.the-variants.{Idle, Busy}
 use Rattle.exchange_replies.specs.Fits.{fits}
-use Rattle.exchange_steps.specs.Steps.{failed, causeOf, waits, asksResend, ended, sending, moved, step, sentIn, resentIn, startWith, sendEndedIn, heardOn, heardOf}
+use Rattle.exchange_steps.specs.Steps.{failed, causeOf, waits, asksResend, ended, sending, begun, moved, step, sentIn, resentIn, startWith, sendEndedIn, heardOn, heardOf}
 use Rattle.exchange_steps.proofs.Laws.Steps.{refusedBy, uncalled, step-taken, open-window, past-window, line-fails, late-fails, tick-fails}
 use Rattle.exchange_steps.proofs.Laws.Steps.{asks-request, asks-another, resent-same, resent-early, resent-uncalled, resent-differs}
 use Rattle.exchange_steps.proofs.Laws.Steps.{ended-none, goes-on}
@@ -46,6 +46,20 @@ reply-is b y telegram t e w = rw (e, w)
 -- A line that is heard while a resend is awaited changes nothing.
 pub resend-stays : (x : Exchange) (cause : Cause) → x .state ≡ Resend cause → (line : List ℕ) (t : Clock) → next (Busy x) (heard line t) ≡ Busy x
 resend-stays x cause e line t = ap (stands (Busy x)) (uncalled x t (waits (x .state)) _ (rw e))
+
+-- Given none, a send of a request begins its exchange, and anything else is 42.
+module _ (telegram : Telegram) (t : Clock) where
+  pub none-begins : (request : Request) → viewed (reads telegram) ≡ views.Asks request → answer Idle (sendEnded telegram t) ≡ reads (begun request t)
+  none-begins request v = ap (λ (w : View). startWith w t) v
+
+  pub none-refuses : ((request : Request) → viewed (reads telegram) ≡ views.Asks request → ⊥) → answer Idle (sendEnded telegram t) ≡ refusal 42
+  none-refuses other = go (viewed (reads telegram)) refl
+    where
+      go : (v : View) → viewed (reads telegram) ≡ v → answer Idle (sendEnded telegram t) ≡ refusal 42
+      go (views.Refused n) i = ap (λ (w : View). startWith w t) i
+      go views.Ack i = ap (λ (w : View). startWith w t) i
+      go (views.Asks request) i = absurd (other request i)
+      go (views.Data answers) i = ap (λ (w : View). startWith w t) i
 
 module _ (x : Exchange) (telegram : Telegram) (t : Clock) where
   -- An exchange that has ended counts as none.
