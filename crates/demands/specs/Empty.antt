@@ -14,8 +14,8 @@ use Rattle.mbus_rules.specs.declared.Kind.{Kind}
 use Rattle.mbus_rules.specs.declared.Kind.the-variants.{Ack, Read}
 use Rattle.mbus_rules.specs.declared.Request.{Request}
 use Rattle.mbus_rules.specs.declared.Request.the-variants.{Enter}
+use Rattle.mbus_rules.specs.declared.Request.the-variants as requests
 use Rattle.mbus_rules.specs.declared.Telegram.{Telegram}
-use Rattle.mbus_rules.specs.declared.View.{View}
 use Rattle.mbus_rules.specs.declared.View.the-variants.{Asks}
 use Rattle.mbus_rules.specs.Lists.{at, any, total}
 use Rattle.mbus_rules.specs.Characters.{odd, carrier}
@@ -307,15 +307,13 @@ takesAnySend (Busy x) (sendEnded telegram t) = sentIn x t
 takesAnySend (Busy x) (heard line t) = answer (Busy x) (heard line t)
 takesAnySend (Busy x) (tick t) = answer (Busy x) (tick t)
 
--- 1 for an enter
-abbrev isEntry : View → ℕ
-isEntry (Asks (Enter a m)) = 1
-isEntry other = 0
-
 pub takes-any-send : SendsOneRequest takesAnySend → ⊥
 unfolding runBy madeBy Ask
 takes-any-send d =
-    let r = d (sentAgain (readOf 0xFE)) (sending (Enter 0xFE 0x90) 2 (clockAt 451)) refl in omega (arith, ap isEntry (r .0))
+    let r = d (sentAgain (readOf 0xFE)) (sending (Enter 0xFE 0x90) 2 (clockAt 451)) refl in
+    let same : Asks (requests.Read 0xFE) ≡ Asks (Enter 0xFE 0x90) = r .0 in
+    let z : _≡_ {A = ℕ} 0 1 = cc in
+    omega arith
 
 -- and which never begins a second exchange
 pub begins-but-once : BeginsAgain takesAnySend → ⊥
