@@ -12,7 +12,6 @@ use Rattle.bench_clock.specs.declared.Clock.{Clock}
 use Rattle.bench_clock.specs.Times.{replyTime, earlier}
 use Rattle.mbus_rules.specs.declared.Kind.{Kind}
 use Rattle.mbus_rules.specs.declared.Kind.the-variants.{Ack, Read}
-use Rattle.mbus_rules.specs.declared.Request.{Request}
 use Rattle.mbus_rules.specs.declared.Request.the-variants.{Enter}
 use Rattle.mbus_rules.specs.declared.Request.the-variants as requests
 use Rattle.mbus_rules.specs.declared.Telegram.{Telegram}
@@ -35,7 +34,7 @@ use Rattle.exchange_steps.specs.declared.State.the-variants.{Waiting, Resend, W
 use Rattle.exchange_steps.specs.declared.Exchange.{Exchange}
 use Rattle.exchange_steps.specs.declared.Bench.{Bench}
 use Rattle.exchange_steps.specs.declared.Bench.the-variants.{Idle, Busy}
-use Rattle.exchange_steps.specs.Steps.{asksResend, ended, sending, begun, moved, step, sentIn, sendEndedOn, tickOn, isWell}
+use Rattle.exchange_steps.specs.Steps.{asksResend, sending, begun, moved, step, sentIn, sendEndedOn, tickOn, isWell}
 use Rattle.exchange_steps.specs.Histories.{Step, sendEnded, heard, tick, answer, stands, Send, noted, run, sendsMade, Ask}
 use Rattle.meter_steps.specs.declared.Meter.{Meter}
 use Rattle.meter_steps.specs.Meters as meters
@@ -232,11 +231,11 @@ rules-send-one-request h x e = rw (made-by Idle [] h) (exchange.sends-reported h
 
 abbrev pub BeginsAgain : (Bench → Step → Answer Exchange) → Type 0
 BeginsAgain program =
-    (x : Exchange) (telegram : Telegram) (t : Clock) → ended (x .state) ≡ true
+    (x : Exchange) (telegram : Telegram) (t : Clock) → x .state ≡ Well
     → program (Busy x) (sendEnded telegram t) ≡ program Idle (sendEnded telegram t)
 
 pub rules-begin-again : BeginsAgain answer
-rules-begin-again x telegram t = exchange.ended-as-none telegram t x
+rules-begin-again x telegram t = exchange.well-as-none telegram t x
 
 -- the send of an enter; a tick past the window, after which a resend is asked for; and the end of a send of this telegram
 abbrev atStart : Exchange

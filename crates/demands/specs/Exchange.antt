@@ -16,7 +16,7 @@ use Rattle.mbus_rules.specs.Views.{viewed}
 use Rattle.exchange_replies.specs.Fits.{fits}
 use Rattle.exchange_steps.specs.declared.Cause.{Cause}
 use Rattle.exchange_steps.specs.declared.Cause.the-variants.{Silent}
-use Rattle.exchange_steps.specs.declared.State.the-variants.{Waiting, Resend, Well}
+use Rattle.exchange_steps.specs.declared.State.the-variants.{Waiting, Resend, Well, Failed}
 use Rattle.exchange_steps.specs.declared.Exchange.{Exchange}
 use Rattle.exchange_steps.specs.declared.Bench.the-variants.{Idle, Busy}
 use Rattle.exchange_steps.specs.Steps.{causeOf, ended, sending, begun, moved}
@@ -34,9 +34,12 @@ module _ (telegram : Telegram) (t : Clock) where
   none-refuses other = Theorems.none-refuses telegram t other
 
   module _ (x : Exchange) where
-    -- An exchange that has ended counts as none, and its last time no longer binds.
-    pub ended-as-none : ended (x .state) ≡ true → answer (Busy x) (sendEnded telegram t) ≡ answer Idle (sendEnded telegram t)
-    ended-as-none = Theorems.ended-as-none x telegram t
+    -- An exchange that has ended, well or by a cause, counts as none, and its last time no longer binds.
+    pub well-as-none : x .state ≡ Well → answer (Busy x) (sendEnded telegram t) ≡ answer Idle (sendEnded telegram t)
+    well-as-none = Theorems.well-as-none x telegram t
+
+    pub failed-as-none : (cause : Cause) → x .state ≡ Failed cause → answer (Busy x) (sendEnded telegram t) ≡ answer Idle (sendEnded telegram t)
+    failed-as-none = Theorems.failed-as-none x telegram t
 
     -- One that waits refuses it by 40, and then by 41, whatever was sent.
     pub waiting-refuses : x .state ≡ Waiting → answer (Busy x) (sendEnded telegram t) ≡ refusal (cond (earlier (x .last .0) (t .0)) 40 41)

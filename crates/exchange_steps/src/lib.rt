@@ -17,13 +17,14 @@ use mbus_rules::Request;
 use mbus_rules::Telegram;
 use mbus_rules::View;
 use mbus_telegrams::plain;
+use progress::has_ended;
 use requests::asks_for;
 use states::after_line;
 use states::after_tick;
 use states::asks_resend;
-use states::has_ended;
 use states::waits;
 
+mod progress;
 mod requests;
 mod states;
 

@@ -1,6 +1,6 @@
 // Which step is called for, and the state that comes next.
 ghost use mathlib.Core.Path.{_≡_};
-ghost use Rattle.exchange_steps.specs.Steps.{afterLine, afterTick, asksResend, causeOf, ended, failed, waits};
+ghost use Rattle.exchange_steps.specs.Steps.{afterLine, afterTick, asksResend, causeOf, failed, waits};
 use crate::Cause;
 use crate::State;
 use exchange_replies::fits;
@@ -78,17 +78,5 @@ pub fn asks_resend(state: State, sends: u8) -> bool
         State::Resend(_) => sends < MOST,
         State::Well => false,
         State::Failed(_) => false,
-    }
-}
-
-// Whether the exchange has ended, well or by a cause.
-pub fn has_ended(state: State) -> bool
-    ensures { λ r. ⌜ r ≡ ended state ⌝ }
-{
-    match state {
-        State::Waiting => false,
-        State::Resend(_) => false,
-        State::Well => true,
-        State::Failed(_) => true,
     }
 }

@@ -1,5 +1,4 @@
 // The exchange for C: include/skarrowith.h says how.
-ghost use mathlib.Core.Path.{_≡_};
 ghost use Prim.Native.Nat.{_≤_};
 ghost use lib.ListN.{length};
 ghost use Rattle.mbus_rules.specs.Lines.{readLine};
@@ -8,9 +7,9 @@ ghost use Rattle.exchange_steps.specs.Histories.{answer, heard};
 ghost use Rattle.host_exchange.specs.Calls.{Answers, HearsReply, answerOf, sendEndedFor, tickFor, heardFor};
 use bench_clock::Clock;
 use bytes_lent::store;
+use exchange_record::Taken;
 use exchange_record::bench_from;
 use exchange_record::exchange_bytes;
-use exchange_record::Taken;
 use exchange_steps::Bench;
 use exchange_steps::Stepped;
 use host_records::telegrams::telegram_bytes;

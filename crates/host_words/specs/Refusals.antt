@@ -15,7 +15,7 @@ pub record Row : Type 0 where
 abbrev row : ℕ → String → Row
 row n s = record { number = n; words = s }
 
--- 01's words in 01's order, 02's behind them, and the library's own numbers. Where 01 joins numbers in one row, the words that they share are said again;
+-- 01's words and 02's in the order of the numbers, and the library's own. Where 01 joins numbers in one row, the words that they share are said again;
 -- ≥ and – are written in ASCII; those of the run bundle are told by its name; 21 is said of every output, a record's too.
 abbrev pub refusalTexts : List Row
 refusalTexts =

@@ -20,7 +20,7 @@ use Rattle.exchange_steps.specs.declared.Exchange.{Exchange}
 use Rattle.exchange_steps.specs.declared.Bench.{Bench}
 use Rattle.exchange_steps.specs.declared.Bench.the-variants.{Idle, Busy}
 use Rattle.exchange_replies.specs.Fits.{fits}
-use Rattle.exchange_steps.specs.Steps.{mostSends, failed, causeOf, afterLine, afterTick, waits, sending, begun, moved, past, heardOn, tickOn}
+use Rattle.exchange_steps.specs.Steps.{mostSends, failed, causeOf, afterLine, afterTick, waits, sending, moved, past, heardOn, tickOn}
 use Rattle.exchange_steps.specs.Steps.{sendEndedOn}
 use Rattle.exchange_steps.proofs.Laws.Steps.{asks-few, step-cases, send-cases}
 use Rattle.exchange_record.specs.Exchanges.{failsBy, standsAt, reached, exchangeBytes, exchangeFrom}

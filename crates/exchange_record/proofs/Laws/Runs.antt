@@ -41,7 +41,7 @@ use Rattle.exchange_steps.specs.Steps.{mostSends, failed, afterLine, afterTick,
 use Rattle.exchange_steps.proofs.Laws.Steps.{step-taken}
 use Rattle.exchange_steps.proofs.Laws.Theorems.{same-as-sent}
 use Rattle.exchange_record.specs.Exchanges.{failsBy, standsAt, reached, benchBytes, benchFrom}
-use Rattle.exchange_record.proofs.Laws.ExchangeLaws.{ReadFrom, exchange-written, none-read, busy-read, busy-from}
+use Rattle.exchange_record.proofs.Laws.ExchangeLaws.{exchange-written, none-read, busy-read, busy-from}
 use Rattle.exchange_record.proofs.Laws.Reached.{Parts, parts, GoodBy, Keeps, send-good, heard-good, tick-good}
 
 -- ---- three lines: one that is refused, one that fits nothing, and one that fits the request

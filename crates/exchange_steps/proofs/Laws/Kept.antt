@@ -25,7 +25,7 @@ use Rattle.exchange_steps.specs.declared.Exchange.{Exchange}
 use Rattle.exchange_steps.specs.declared.Bench.{Bench}
 use Rattle.exchange_steps.specs.declared.Bench.the-variants.{Idle, Busy}
 use Rattle.exchange_replies.specs.Fits.{fits}
-use Rattle.exchange_steps.specs.Steps.{mostSends, failed, causeOf, afterLine, afterTick, waits, inProgress, sending, begun, moved, past, step}
+use Rattle.exchange_steps.specs.Steps.{mostSends, failed, causeOf, afterLine, afterTick, waits, sending, begun, moved, past, step}
 use Rattle.exchange_steps.proofs.Laws.Steps.{asks-few, by-cond, step-cases, in-progress-is, send-cases}
 use Rattle.exchange_steps.specs.Histories.{Step, sendEnded, heard, tick, answer, stands, next, run, Send, madeIn, noted, sendsMade, Ask}
 

@@ -223,6 +223,7 @@ send-cases b view t P refused begins resends = go (inProgress b) refl
     new views.Ack v i = refused 42
     new (views.Asks request) v i = begins i request v
     new (views.Data answers) v i = refused 42
+
     go : (c : Bench) → inProgress b ≡ c → P (sendEndedIn c view t)
     go Idle i = new view refl i
     go (Busy x) i =

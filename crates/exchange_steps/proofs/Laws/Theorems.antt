@@ -2,7 +2,7 @@
 use Prim.Native.Nat.{ℕ, _+_, _≤_, _<_}
 use native.Mathlib.Omega.{arith}
 use mathlib.Core.Bool.{true, false}
-use mathlib.Core.List.{List, [], _∷_, _++_}
+use mathlib.Core.List.{List, [], _∷_}
 use mathlib.Core.Logic.{_⊎_, inl, inr, ⊎-elim}
 use mathlib.Core.Path.{_≡_, refl, sym, ap, subst, _∙_}
 use lib.ListN.{length}
@@ -24,11 +24,13 @@ use Rattle.exchange_steps.specs.declared.Exchange.{Exchange}
 use Rattle.exchange_steps.specs.declared.Bench.{Bench}
 use Rattle.exchange_steps.specs.declared.Bench.the-variants.{Idle, Busy}
 use Rattle.exchange_replies.specs.Fits.{fits}
-use Rattle.exchange_steps.specs.Steps.{failed, causeOf, waits, asksResend, ended, sending, begun, moved, step, sentIn, resentIn, startWith, sendEndedIn, heardOn, heardOf}
+use Rattle.exchange_steps.specs.Steps.{failed, causeOf, waits, asksResend, ended, sending, begun, moved, step, sentIn}
+use Rattle.exchange_steps.specs.Steps.{resentIn, startWith, sendEndedIn, heardOn, heardOf}
 use Rattle.exchange_steps.proofs.Laws.Steps.{refusedBy, uncalled, step-taken, open-window, past-window, line-fails, late-fails, tick-fails}
 use Rattle.exchange_steps.proofs.Laws.Steps.{asks-request, asks-another, resent-same, resent-early, resent-uncalled, resent-differs}
 use Rattle.exchange_steps.proofs.Laws.Steps.{ended-none, goes-on}
-use Rattle.exchange_steps.specs.Histories.{Step, sendEnded, heard, tick, answer, stands, next, run, after, Send, made, Ask, EndedWell, SendFails, GivesWay}
+use Rattle.exchange_steps.specs.Histories.{Step, sendEnded, heard, tick, answer, stands, next, run, after, Send, made}
+use Rattle.exchange_steps.specs.Histories.{Ask, EndedWell, SendFails, GivesWay}
 use Rattle.exchange_steps.proofs.Laws.Kept.{Agrees, Kept, KeptBy, kept}
 use Rattle.exchange_steps.proofs.Laws.Endings.{ended-well}
 
@@ -63,8 +65,14 @@ module _ (telegram : Telegram) (t : Clock) where
 
 module _ (x : Exchange) (telegram : Telegram) (t : Clock) where
   -- An exchange that has ended counts as none.
-  pub ended-as-none : ended (x .state) ≡ true → answer (Busy x) (sendEnded telegram t) ≡ answer Idle (sendEnded telegram t)
+  ended-as-none : ended (x .state) ≡ true → answer (Busy x) (sendEnded telegram t) ≡ answer Idle (sendEnded telegram t)
   ended-as-none e = ap (λ (b : Bench). sendEndedIn b (viewed (reads telegram)) t) (ended-none x e)
+
+  pub well-as-none : x .state ≡ Well → answer (Busy x) (sendEnded telegram t) ≡ answer Idle (sendEnded telegram t)
+  well-as-none w = ended-as-none (ap ended w)
+
+  pub failed-as-none : (cause : Cause) → x .state ≡ Failed cause → answer (Busy x) (sendEnded telegram t) ≡ answer Idle (sendEnded telegram t)
+  failed-as-none cause w = ended-as-none (ap ended w)
 
   in-hand : ended (x .state) ≡ false → answer (Busy x) (sendEnded telegram t) ≡ resentIn x (viewed (reads telegram)) t
   in-hand e = ap (λ (b : Bench). sendEndedIn b (viewed (reads telegram)) t) (goes-on x e)

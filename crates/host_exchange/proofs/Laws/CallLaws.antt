@@ -10,7 +10,7 @@ use lib.ListN.{length}
 use Rattle.bench_clock.specs.declared.Clock.{Clock}
 use Rattle.mbus_rules.specs.declared.Kind.{Kind}
 use Rattle.mbus_rules.specs.declared.Telegram.{Telegram}
-use Rattle.mbus_rules.specs.Answers.{Answer, reads, refusal, follow}
+use Rattle.mbus_rules.specs.Answers.{Answer, reads, refusal}
 use Rattle.mbus_rules.specs.Lines.{readLine}
 use Rattle.mbus_rules.specs.Lists.{at}
 use Rattle.mbus_rules.specs.Telegrams.{bare, blank, shown}

@@ -33,7 +33,9 @@ send-ended-requires : tie.Need-send-ended-requires
 send-ended-requires c κs = search needs
 
 keep-requires : tie.Need-keep-requires
-keep-requires c κs = room-read (now (c .before .before .before .before .before .before .before .before .before .before .args .kept)) (c .before .before .before .before .before .before .before .bench-from .ensures) (c .before .before .before .before .before .stood2 .given .1)
+keep-requires c κs =
+    room-read (now (c .before .before .before .before .before .before .before .before .before .before .args .kept))
+    (c .before .before .before .before .before .before .before .bench-from .ensures) (c .before .before .before .before .before .stood2 .given .1)
 
 same-length : tie.Need-same-length
 same-length c = search needs

@@ -25,7 +25,9 @@ tick-requires : tie.Need-tick-requires
 tick-requires c κs = search needs
 
 keep-requires : tie.Need-keep-requires
-keep-requires c κs = room-read (now (c .before .before .before .before .before .before .before .before .args .kept)) (c .before .before .before .before .before .bench-from .ensures) (c .before .before .before .stood2 .given .1)
+keep-requires c κs =
+    room-read (now (c .before .before .before .before .before .before .before .before .args .kept))
+    (c .before .before .before .before .before .bench-from .ensures) (c .before .before .before .stood2 .given .1)
 
 same-length : tie.Need-same-length
 same-length c = search needs

@@ -22,10 +22,14 @@ resent-requires : tie.Need-resent-requires
 resent-requires c κs = search needs
 
 returns : tie.Need-returns
-returns c = rw (← c .before .before .before .in-progress .ensures, c .before .enum-told .given .1, ← c .before .before .before .before .view-of .ensures) (c .start-with .ensures)
+returns c =
+    rw (← c .before .before .before .in-progress .ensures, c .before .enum-told .given .1, ← c .before .before .before .before .view-of .ensures)
+    (c .start-with .ensures)
 
 returns-2 : tie.Need-returns-2
-returns-2 c = rw (← c .before .before .before .before .in-progress .ensures, c .before .before .bench .given .1, ← c .before .before .before .before .before .view-of .ensures) (c .resent .ensures)
+returns-2 c =
+    rw (← c .before .before .before .before .in-progress .ensures, c .before .before .bench .given .1, ← c .before .before .before .before .before .view-of .ensures)
+    (c .resent .ensures)
 
 pub send-ended-spec : {M : Type 1} → statement M
 send-ended-spec =

@@ -24,12 +24,14 @@ enum-told c = search needs
 returns-2 : tie.Need-returns-2
 returns-2 c =
     let a = c .before .before .before .before .before .before .args in
-    resent-refused (a .self) (a .view) (a .t) (c .before .before .before .before .before .sent .ensures) (c .before .before .before .before .asks-for .ensures) (c .before .stepped .given .1)
+    resent-refused (a .self) (a .view) (a .t) (c .before .before .before .before .before .sent .ensures)
+    (c .before .before .before .before .asks-for .ensures) (c .before .stepped .given .1)
 
 returns-3 : tie.Need-returns-3
 returns-3 c =
     let a = c .before .before .before .before .before .args in
-    resent-another (a .self) (a .view) (a .t) (c .before .before .before .before .sent .ensures) (c .before .before .before .asks-for .ensures) (c .before .before .if1 .left) (c .enum-told .given .1)
+    resent-another (a .self) (a .view) (a .t) (c .before .before .before .before .sent .ensures)
+    (c .before .before .before .asks-for .ensures) (c .before .before .if1 .left) (c .enum-told .given .1)
 
 pub resent-spec : {M : Type 1} → statement M
 resent-spec =
