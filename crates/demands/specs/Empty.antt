@@ -36,6 +36,7 @@ use Rattle.exchange_steps.specs.declared.Bench.{Bench}
 use Rattle.exchange_steps.specs.declared.Bench.the-variants.{Idle, Busy}
 use Rattle.exchange_steps.specs.Steps.{asksResend, sending, begun, moved, step, sentIn, sendEndedOn, tickOn, isWell}
 use Rattle.exchange_steps.specs.Histories.{Step, sendEnded, heard, tick, answer, stands, Send, noted, run, sendsMade, Ask}
+use Rattle.exchange_steps.specs.Values.{clockAt}
 use Rattle.meter_steps.specs.declared.Meter.{Meter}
 use Rattle.meter_steps.specs.Meters as meters
 use Rattle.meter_steps.specs.Meters.{Said, Deed, silence, says, quiet, returned}
@@ -145,9 +146,6 @@ spoken (says t) = 1
 abbrev speaks : Answer Deed → ℕ
 speaks (refusal n) = 2
 speaks (reads d) = spoken (d .said)
-
-abbrev clockAt : ℕ → Clock
-clockAt t = record { 0 = t }
 
 abbrev fresh : Meter
 fresh = meters.begunMeter 0 blank

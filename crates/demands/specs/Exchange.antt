@@ -3,7 +3,7 @@ use Prim.Native.Nat.{ℕ, _+_, _≤_, _<_}
 use mathlib.Core.Bool.{true, false, cond}
 use mathlib.Core.List.{List, [], _∷_}
 use mathlib.Core.Logic.{_⊎_}
-use mathlib.Core.Path.{_≡_}
+use mathlib.Core.Path.{_≡_, refl}
 use lib.ListN.{length}
 use Rattle.bench_clock.specs.declared.Clock.{Clock}
 use Rattle.bench_clock.specs.Times.{replyTime, earlier}
@@ -49,16 +49,28 @@ module _ (telegram : Telegram) (t : Clock) where
     pub resend-early : (cause : Cause) → x .state ≡ Resend cause → t .0 < x .last .0 → answer (Busy x) (sendEnded telegram t) ≡ refusal 40
     resend-early = Theorems.resend-early x telegram t
 
+-- ---- a line and a tick, where neither is called for
+
+-- Given none they are 41;
+pub none-hears : (line : List ℕ) (t : Clock) → (answer Idle (heard line t) ≡ refusal 41) × (answer Idle (tick t) ≡ refusal 41)
+none-hears line t = (refl, refl)
+
+-- after the end they are 40, and then 41.
+pub ended-hears : (x : Exchange) → ended (x .state) ≡ true → (line : List ℕ) (t : Clock)
+    → (answer (Busy x) (heard line t) ≡ refusal (cond (earlier (x .last .0) (t .0)) 40 41))
+    × (answer (Busy x) (tick t) ≡ refusal (cond (earlier (x .last .0) (t .0)) 40 41))
+ended-hears = Theorems.ended-refuses
+
 -- ---- every history
 
-module _ (h : List Step) (x : Exchange) (stands : after h ≡ Busy x) where
+module _ (h : List Step) (x : Exchange) (stood : after h ≡ Busy x) where
   -- It reports exactly the sends made, never more than three, and all of them were of its request.
   pub sends-reported : (x .sends ≡ length (made h)) × (length (made h) ≤ 3) × Ask (x .request) (made h)
-  sends-reported = (Theorems.sends-reported h x stands, Theorems.three-sends h x stands, Theorems.one-request h x stands)
+  sends-reported = (Theorems.sends-reported h x stood, Theorems.three-sends h x stood, Theorems.one-request h x stood)
 
   -- It ends well only by a line that was heard while a send was outstanding, not before that send's end and at most 450 after it, and that fits.
   pub ends-well : x .state ≡ Well → EndedWell Idle [] h x
-  ends-well = Theorems.ends-well h x stands
+  ends-well = Theorems.ends-well h x stood
 
   -- And by every such line it does, whichever of the three sends is outstanding.
   pub takes-reply : (send : Send) (others : List Send) (line : List ℕ) (t : Clock) (telegram : Telegram)
@@ -69,29 +81,29 @@ module _ (h : List Step) (x : Exchange) (stands : after h ≡ Busy x) where
       → readLine line ≡ reads telegram
       → fits (x .request) (viewed (reads telegram)) ≡ true
       → answer (Busy x) (heard line t) ≡ reads (moved x Well t)
-  takes-reply = Theorems.takes-reply h x stands
+  takes-reply = Theorems.takes-reply h x stood
 
   module _ (send : Send) (others : List Send) (t : Clock) (waiting : x .state ≡ Waiting) (last-send : made h ≡ send ∷ others)
       (in-order : x .last .0 ≤ t .0) where
     -- A line in time that does not fit fails the send: the first and second then ask for a resend, the third ends the exchange with its cause.
     pub fails-by-line : (line : List ℕ) → t .0 ≤ send .end .0 + replyTime → fits (x .request) (viewed (readLine line)) ≡ false
         → SendFails h x (causeOf (viewed (readLine line))) t (answer (Busy x) (heard line t))
-    fails-by-line = Theorems.fails-by-line h x stands send others t waiting last-send in-order
+    fails-by-line = Theorems.fails-by-line h x stood send others t waiting last-send in-order
 
     -- Past the window every line is silence, as a tick is, and fails the send in the same way.
     pub fails-by-silence : (line : List ℕ) → send .end .0 + replyTime < t .0
         → SendFails h x Silent t (answer (Busy x) (heard line t)) × SendFails h x Silent t (answer (Busy x) (tick t))
-    fails-by-silence = Theorems.fails-by-silence h x stands send others t waiting last-send in-order
+    fails-by-silence = Theorems.fails-by-silence h x stood send others t waiting last-send in-order
 
   module _ (cause : Cause) (asked : x .state ≡ Resend cause) where
     -- Where a resend is asked for, the end of a send of the same request is the next send; a different request, ack and data are 43.
     module _ (telegram : Telegram) (t : Clock) (in-order : x .last .0 ≤ t .0) where
       pub resend-recorded : viewed (reads telegram) ≡ Asks (x .request)
           → answer (Busy x) (sendEnded telegram t) ≡ reads (sending (x .request) (x .sends + 1) t)
-      resend-recorded = Theorems.resend-recorded h x stands cause asked telegram t in-order
+      resend-recorded = Theorems.resend-recorded h x stood cause asked telegram t in-order
 
       pub another-refused : (viewed (reads telegram) ≡ Asks (x .request) → ⊥) → answer (Busy x) (sendEnded telegram t) ≡ refusal 43
-      another-refused = Theorems.another-refused h x stands cause asked telegram t in-order
+      another-refused = Theorems.another-refused h x stood cause asked telegram t in-order
 
     -- A line that is heard meanwhile changes nothing.
     pub resend-stays : (line : List ℕ) (t : Clock) → next (Busy x) (heard line t) ≡ Busy x

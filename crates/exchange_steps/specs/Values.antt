@@ -10,13 +10,13 @@ use Rattle.exchange_steps.specs.declared.Bench.the-variants.{Busy}
 use Rattle.exchange_steps.specs.Steps.{begun, moved}
 use Rattle.exchange_steps.specs.Histories.{sendEnded, heard, after}
 
-abbrev timeAt : ℕ → Clock
-timeAt n = record { 0 = n }
+abbrev pub clockAt : ℕ → Clock
+clockAt n = record { 0 = n }
 
 -- After the send of an enter, and an ack that is heard so long after its end.
 abbrev pub heardAfter : ℕ → Bench
-heardAfter n = after (sendEnded (enterOf 0xFE 0x90) (timeAt 0) ∷ heard (0x1E5 ∷ []) (timeAt n) ∷ [])
+heardAfter n = after (sendEnded (enterOf 0xFE 0x90) (clockAt 0) ∷ heard (0x1E5 ∷ []) (clockAt n) ∷ [])
 
 -- The exchange of that enter, its only send made, with its last step so long after.
 abbrev pub enteredBy : State → ℕ → Bench
-enteredBy state n = Busy (moved (begun (Enter 0xFE 0x90) (timeAt 0)) state (timeAt n))
+enteredBy state n = Busy (moved (begun (Enter 0xFE 0x90) (clockAt 0)) state (clockAt n))

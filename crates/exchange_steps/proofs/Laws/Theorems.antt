@@ -24,7 +24,7 @@ use Rattle.exchange_steps.specs.declared.Exchange.{Exchange}
 use Rattle.exchange_steps.specs.declared.Bench.{Bench}
 use Rattle.exchange_steps.specs.declared.Bench.the-variants.{Idle, Busy}
 use Rattle.exchange_replies.specs.Fits.{fits}
-use Rattle.exchange_steps.specs.Steps.{failed, causeOf, waits, asksResend, ended, sending, begun, moved, step, sentIn}
+use Rattle.exchange_steps.specs.Steps.{failed, causeOf, waits, asksResend, ended, sending, begun, moved, sentIn}
 use Rattle.exchange_steps.specs.Steps.{resentIn, startWith, sendEndedIn, heardOn, heardOf}
 use Rattle.exchange_steps.proofs.Laws.Steps.{refusedBy, uncalled, step-taken, open-window, past-window, line-fails, late-fails, tick-fails}
 use Rattle.exchange_steps.proofs.Laws.Steps.{asks-request, asks-another, resent-same, resent-early, resent-uncalled, resent-differs}
@@ -144,16 +144,18 @@ module _ (x : Exchange) (e : ended (x .state) ≡ true) where
           begins = told (views.Asks request) i;
         })
 
-  -- a line or a tick
-  unheard : (t : Clock) (y : Exchange) → stands (Busy x) (step x t (waits (x .state)) y) ≡ Busy x
-  unheard t y = ap (stands (Busy x)) (uncalled x t (waits (x .state)) y (ended-waits (x .state) e))
+  -- It refuses every line and tick, by 40 or 41.
+  pub ended-refuses : (line : List ℕ) (t : Clock)
+      → (answer (Busy x) (heard line t) ≡ refusal (refusedBy x t)) × (answer (Busy x) (tick t) ≡ refusal (refusedBy x t))
+  ended-refuses line t =
+      let over = ended-waits (x .state) e in (uncalled x t (waits (x .state)) _ over, uncalled x t (waits (x .state)) _ over)
 
   -- It stays as it is, until a send of a request ends: that begins the next exchange.
   pub ended-stays : (h : List Step) → Stays h
   unfolding run
   ended-stays [] = inl refl
-  ended-stays (heard line t ∷ h) = later (heard line t) h (unheard t _) (ended-stays h)
-  ended-stays (tick t ∷ h) = later (tick t) h (unheard t _) (ended-stays h)
+  ended-stays (heard line t ∷ h) = later (heard line t) h (ap (stands (Busy x)) (ended-refuses line t .0)) (ended-stays h)
+  ended-stays (tick t ∷ h) = later (tick t) h (ap (stands (Busy x)) (ended-refuses [] t .1)) (ended-stays h)
   ended-stays (sendEnded telegram t ∷ h) = after-send telegram t h (ended-stays h) (viewed (reads telegram)) refl
 
 -- ---- any history
