@@ -13,7 +13,7 @@
 
 static uint16_t characters[WORDS_MOST];
 
-/* A step's name and how many numbers follow it; behind those of a line heard come its characters. */
+/* A step's name and how many numbers follow it; behind those of a line heard come its characters, of a send's end what was sent. */
 struct shape {
     const char *name;
     size_t numbers;
@@ -23,6 +23,7 @@ struct step {
     const char *name;
     uint64_t numbers[3];
     size_t n;
+    struct second_telegram sent;
 };
 
 static int is_step(const struct step *s, const char *name)
@@ -41,6 +42,8 @@ static int take_step(const struct shape *shape, struct step *s)
     for (size_t i = 0; i < shape->numbers; i++)
         if (!take(&s->numbers[i], UINT64_MAX))
             return 0;
+    if (is_step(s, "ended"))
+        return take_telegram(&s->sent);
     return !is_step(s, "heard") || take_characters(characters, &s->n);
 }
 
@@ -60,7 +63,7 @@ static void say_exchange(const struct second_exchange *x)
     static const char *const states[] = {"waiting", "resend", "well", "failed"};
     static const char *const causes[] = {" silent", " damaged", " wrong"};
     int failed = x->state == SECOND_RESEND || x->state == SECOND_FAILED;
-    printf("%s%s +%u", states[x->state], failed ? causes[x->cause] : "", x->sends);
+    printf("%s%s +%u", states[x->state - SECOND_WAITING], failed ? causes[x->cause] : "", x->sends);
     printf(" +%" PRIu64 " +%" PRIu64, x->began, x->last);
 }
 
@@ -72,8 +75,7 @@ static void step_exchange(struct second_exchange *x, const struct step *s)
     if (is_line)
         refusal = second_heard(x, characters, s->n, t, &reply);
     else
-        refusal = is_step(s, "tick") ? second_tick(x, t) : second_sent(x, t);
-    putchar(' ');
+        refusal = is_step(s, "tick") ? second_tick(x, t) : second_send_ended(x, &s->sent, t);
     if (refused(refusal))
         return;
     say_exchange(x);
@@ -85,18 +87,16 @@ static void step_exchange(struct second_exchange *x, const struct step *s)
 
 int answer_exchange(void)
 {
-    static const struct shape shapes[] = {{"heard", 1}, {"tick", 1}, {"sent", 1}, {NULL, 0}};
+    static const struct shape shapes[] = {{"ended", 1}, {"heard", 1}, {"tick", 1}, {NULL, 0}};
     struct second_exchange x;
-    struct second_telegram request;
     struct step s;
-    uint64_t t;
-    if (!take_name("start") || !take(&t, UINT64_MAX) || !take_telegram(&request) || !is_history(shapes))
+    if (is_whole() || !is_history(shapes))
         return 0;
-    if (refused(second_start(&x, &request, t)))
-        return 1;
-    say_exchange(&x);
-    while (take_step(shapes, &s))
+    second_no_exchange(&x);
+    for (const char *between = ""; take_step(shapes, &s); between = " ") {
+        printf("%s", between);
         step_exchange(&x, &s);
+    }
     return 1;
 }
 

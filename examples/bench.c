@@ -16,6 +16,7 @@ enum { WAKE_UP = 480, CHARACTER = 11, REPLY_AFTER = 60, WINDOW = 450 };
 static uint8_t bundle[SKARROWITH_BUNDLE_MOST]; /* two bytes of 0 are an empty one */
 static size_t filled = 2;
 static struct skarrowith_meter meter;
+static struct skarrowith_exchange exchange; /* zeros: none yet */
 static uint64_t now; /* in bit times of 1/2400 s */
 
 /* Hands on an answer; a refusal, which a bench that keeps the rules does not see, ends the program with its words. */
@@ -55,15 +56,20 @@ static size_t meter_answers(const uint16_t *line, size_t count, uint16_t *answer
     return expect("answer", skarrowith_write_line(&telegram, sizeof telegram, answer, SKARROWITH_LINE_MOST));
 }
 
+/* Sends a request and says that this has ended: that begins an exchange, or is the resend that one asks for. */
+static uint32_t send_request(uint8_t kind, uint8_t method, const uint16_t *line, size_t count)
+{
+    send(line, count);
+    return expect("send ended", skarrowith_exchange_send_ended(&exchange, sizeof exchange, kind, BROADCAST, method, now));
+}
+
 /* One exchange: sends the request until a fitting answer has come, which the line loses so many times. */
 static void ask(uint8_t kind, uint8_t method, int lost, const uint16_t *left_over, size_t left, struct skarrowith_telegram *reply)
 {
-    struct skarrowith_exchange exchange;
     uint16_t request[SKARROWITH_LINE_MOST], answer[SKARROWITH_LINE_MOST];
     size_t length = expect("request", skarrowith_write_request(kind, BROADCAST, method, request, SKARROWITH_LINE_MOST));
     uint64_t began = now;
-    send(request, length);
-    uint32_t state = expect("start", skarrowith_exchange_start(&exchange, sizeof exchange, kind, BROADCAST, method, now));
+    uint32_t state = send_request(kind, method, request, length);
     if (left != 0) {
         record(SKARROWITH_HEARD, began, left_over, left);
         uint32_t said = skarrowith_exchange_heard(&exchange, sizeof exchange, left_over, left, began, reply, sizeof *reply);
@@ -73,10 +79,9 @@ static void ask(uint8_t kind, uint8_t method, int lost, const uint16_t *left_ove
         size_t count = meter_answers(request, length, answer);
         if (lost-- > 0) {
             now += WINDOW + 1;
-            state = expect("tick", skarrowith_exchange_tick(&exchange, sizeof exchange, now));
+            expect("tick", skarrowith_exchange_tick(&exchange, sizeof exchange, now));
             printf("no answer: send again\n");
-            send(request, length);
-            state = expect("sent", skarrowith_exchange_sent(&exchange, sizeof exchange, now));
+            state = send_request(kind, method, request, length);
         } else {
             now += REPLY_AFTER;
             record(SKARROWITH_HEARD, now, answer, count);

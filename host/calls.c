@@ -40,6 +40,12 @@ static uint32_t write_line(void) { return skarrowith_write_line(&telegram, sizeo
 static uint32_t find(void) { return skarrowith_find_line(characters, count, &found, sizeof found); }
 
 /* A step from a copy, so that each call finds the same state. */
+static uint32_t exchange_resent(void)
+{
+    exchange = waiting;
+    return skarrowith_exchange_send_ended(&exchange, sizeof exchange, SKARROWITH_READ, 0xFE, 0, 2000);
+}
+
 static uint32_t exchange_heard(void)
 {
     exchange = waiting;
@@ -135,7 +141,14 @@ static void put_data(void) { put(second_example, sizeof second_example); }
 static void put_waiting(void)
 {
     put_data();
-    skarrowith_exchange_start(&waiting, sizeof waiting, SKARROWITH_READ, 0xFE, 0, 1000);
+    skarrowith_exchange_send_ended(&waiting, sizeof waiting, SKARROWITH_READ, 0xFE, 0, 1000);
+}
+
+/* A read that asks for a resend. */
+static void put_asking(void)
+{
+    put_waiting();
+    skarrowith_exchange_tick(&waiting, sizeof waiting, 1451);
 }
 
 static void put_meter(void)
@@ -225,6 +238,7 @@ static const struct {
     {"words", put_ack, words, NULL},
     {"read-data", put_data, read_line, read_by_second},
     {"hear-data", put_waiting, exchange_heard, NULL},
+    {"resent", put_asking, exchange_resent, NULL},
     {"meter-read", put_meter, meter_heard, NULL},
     {"write-data", put_meter, write_line, NULL},
     {"set-up", put_meter, meter_set_up, NULL},

@@ -153,7 +153,7 @@ static int tell_exchange(uint32_t answer, struct second_exchange *x)
 {
     if (answer >= SKARROWITH_REFUSED)
         return refusal_in(answer);
-    x->state = (enum second_state)(answer - SKARROWITH_WAITING);
+    x->state = (enum second_state)(answer - SKARROWITH_WAITING + SECOND_WAITING);
     if (exchange.cause != 0)
         x->cause = (enum second_cause)(exchange.cause - SKARROWITH_SILENT);
     x->sends = exchange.sends;
@@ -162,21 +162,21 @@ static int tell_exchange(uint32_t answer, struct second_exchange *x)
     return 0;
 }
 
-int second_start(struct second_exchange *x, const struct second_telegram *request, uint64_t t)
+void second_no_exchange(struct second_exchange *x)
 {
-    struct skarrowith_telegram r = telegram_record(request);
+    memset(&exchange, 0, sizeof exchange);
     memset(x, 0, sizeof *x);
-    return tell_exchange(skarrowith_exchange_start(&exchange, sizeof exchange, r.kind, r.address, r.method, t), x);
+}
+
+int second_send_ended(struct second_exchange *x, const struct second_telegram *sent, uint64_t t)
+{
+    struct skarrowith_telegram s = telegram_record(sent);
+    return tell_exchange(skarrowith_exchange_send_ended(&exchange, sizeof exchange, s.kind, s.address, s.method, t), x);
 }
 
 int second_tick(struct second_exchange *x, uint64_t t)
 {
     return tell_exchange(skarrowith_exchange_tick(&exchange, sizeof exchange, t), x);
-}
-
-int second_sent(struct second_exchange *x, uint64_t t)
-{
-    return tell_exchange(skarrowith_exchange_sent(&exchange, sizeof exchange, t), x);
 }
 
 int second_heard(struct second_exchange *x, const uint16_t *line, size_t n, uint64_t t, struct second_telegram *reply)

@@ -6,6 +6,7 @@
 
 #include "../second/chance.h"
 #include "../second/make_line.h"
+#include "../second/make_telegram.h"
 #include "../second/number.h"
 #include "../second/record.h"
 
@@ -13,50 +14,47 @@
 
 static uint32_t state_of(const struct second_exchange *x)
 {
-    return (uint32_t)x->state + 1;
+    return (uint32_t)x->state;
 }
 
-static int start(uint8_t *record, union state *state)
+static int no_exchange(uint8_t *record, union state *state)
 {
-    struct second_exchange *x = &state->exchange;
-    unsigned kind = once_in(12) ? below(once_in(2) ? 7 : 256) : between(2, 4), address = once_in(3) ? 0xFE : below(256);
-    unsigned method = once_in(8) ? below(256) : kind == 3 ? between(0x90, 0x92) : 0;
-    size_t size = some_places(SECOND_EXCHANGE_SIZE);
-    uint64_t t = first_time();
-    struct second_telegram request = second_request(kind, address, method);
-    int refusal = size < SECOND_EXCHANGE_SIZE ? 21 : second_start(x, &request, t);
-    begin(EXCHANGE_START);
-    struct lent *exchange = lend("exchange", size, NULL, 0);
-    if (refusal == 0)
-        second_put_exchange(exchange->second, x);
+    second_no_exchange(&state->exchange);
+    memset(record, 0, SECOND_EXCHANGE_SIZE);
+    return 1;
+}
+
+/* The end of a send on the record; `refusal` is one that goes before the step's. */
+static struct lent *send_ended(const uint8_t *record, size_t size, int refusal, struct second_exchange *x, uint64_t t)
+{
+    struct second_telegram sent = some_send(x);
+    unsigned kind = once_in(30) ? below(256) : (unsigned)sent.kind + 1, address = sent.address, method = sent.method;
+    sent = second_request(kind, address, method);
+    begin(EXCHANGE_SEND_ENDED);
+    struct lent *exchange = lend("exchange", size, record, size);
     tell("kind", kind);
     tell("address", address);
     tell("method", method);
     tell("t", t);
-    end(skarrowith_exchange_start(exchange->to, size, (uint8_t)kind, (uint8_t)address, (uint8_t)method, t),
-        refusal == 0 ? state_of(x) : answer_for(refusal));
     if (refusal == 0)
-        memcpy(record, exchange->proved, SECOND_EXCHANGE_SIZE);
-    return refusal == 0;
+        refusal = second_send_ended(x, &sent, t);
+    if (refusal == 0)
+        second_put_exchange(exchange->second, x);
+    end(skarrowith_exchange_send_ended(exchange->to, size, (uint8_t)kind, (uint8_t)address, (uint8_t)method, t),
+        refusal == 0 ? state_of(x) : answer_for(refusal));
+    return exchange;
 }
 
-/* A tick or a sent on the record; `refusal` is one that goes before the step's. */
-static struct lent *pass(enum function f, const uint8_t *record, size_t size, int refusal, struct second_exchange *x,
-                         uint64_t t)
+static struct lent *tick(const uint8_t *record, size_t size, int refusal, struct second_exchange *x, uint64_t t)
 {
-    uint32_t proved;
-    begin(f);
+    begin(EXCHANGE_TICK);
     struct lent *exchange = lend("exchange", size, record, size);
     tell("t", t);
     if (refusal == 0)
-        refusal = f == EXCHANGE_TICK ? second_tick(x, t) : second_sent(x, t);
+        refusal = second_tick(x, t);
     if (refusal == 0)
         second_put_exchange(exchange->second, x);
-    if (f == EXCHANGE_TICK)
-        proved = skarrowith_exchange_tick(exchange->to, size, t);
-    else
-        proved = skarrowith_exchange_sent(exchange->to, size, t);
-    end(proved, refusal == 0 ? state_of(x) : answer_for(refusal));
+    end(skarrowith_exchange_tick(exchange->to, size, t), refusal == 0 ? state_of(x) : answer_for(refusal));
     return exchange;
 }
 
@@ -89,22 +87,26 @@ static struct lent *step(const uint8_t *record, size_t size, int refusal, union 
     struct second_exchange *x = &state->exchange;
     uint64_t t = exchange_time(x);
     unsigned sort = below(8);
-    if (x->state == SECOND_RESEND && !once_in(4))
+    if (x->state != SECOND_WAITING && !once_in(4))
         sort = 7;
     if (sort < 4)
         return hear(record, size, refusal, x, t);
-    return pass(sort < 7 ? EXCHANGE_TICK : EXCHANGE_SENT, record, size, refusal, x, t);
+    return sort < 7 ? tick(record, size, refusal, x, t) : send_ended(record, size, refusal, x, t);
 }
 
+/* Now and then a record of none, zeros. */
 static void mix(uint8_t *record)
 {
     uint64_t began = first_time(), after = once_in(2) ? between(448, 453) : below(900);
+    memset(record, 0, SECOND_EXCHANGE_SIZE);
+    if (once_in(10))
+        return;
     record[0] = (uint8_t)between(1, 5);
+    record[1] = (uint8_t)below(256);
     record[2] = (uint8_t)(once_in(4) ? below(256) : 0);
     record[3] = (uint8_t)(once_in(4) ? below(6) : between(1, 4));
     record[4] = (uint8_t)below(once_in(8) ? 5 : 4);
     record[5] = (uint8_t)below(once_in(4) ? 5 : 4);
-    record[6] = record[7] = 0;
     second_put_number(record + 8, 8, began);
     second_put_number(record + 16, 8, once_in(8) ? began - after : began + after);
 }
@@ -124,4 +126,4 @@ static int has_ended(const union state *state)
     return state->exchange.state == SECOND_WELL || state->exchange.state == SECOND_FAILED;
 }
 
-const struct history exchanges = {SECOND_EXCHANGE_SIZE, 12, start, step, hold, take, mix, has_ended};
+const struct history exchanges = {SECOND_EXCHANGE_SIZE, 16, no_exchange, step, hold, take, mix, has_ended};

@@ -38,7 +38,7 @@ void compare_history(const struct history *h)
             fail("a step gives a record that no step gives");
         if (once_in(3))
             step_aside(h, record);
-        if (h->has_ended(&state) && once_in(2))
+        if (h->has_ended(&state) && once_in(4))
             return;
     }
 }

@@ -20,7 +20,7 @@ struct history {
     size_t size;    /* of its record */
     unsigned steps; /* at the most */
 
-    /* Makes a fresh state and its record by a call; says whether that was accepted. */
+    /* Makes a fresh state and its record, by a call where one is needed; says whether that was accepted. */
     int (*begin)(uint8_t *record, union state *state);
 
     /* One step of any kind on the record; `refusal` is one that goes before the step's. */

@@ -38,11 +38,17 @@ void hold_telegram(const struct lent *l, const struct second_telegram *s)
 
 void hold_exchange(const struct lent *l, const struct second_exchange *s)
 {
+    static const struct skarrowith_exchange none = {0};
     struct skarrowith_exchange x;
     int has_cause = s->state == SECOND_RESEND || s->state == SECOND_FAILED;
     unsigned cause = has_cause ? (unsigned)s->cause + 1 : 0;
     memcpy(&x, l->proved, sizeof x);
-    if (x.kind != (unsigned)s->request.kind + 1 || x.address != s->request.address || x.state != (unsigned)s->state + 1 ||
+    if (s->state == SECOND_NONE) {
+        if (memcmp(&x, &none, sizeof x) != 0)
+            fail("a record of none is not zero");
+        return;
+    }
+    if (x.kind != (unsigned)s->request.kind + 1 || x.address != s->request.address || x.state != (unsigned)s->state ||
         x.cause != cause || x.sends != s->sends || x.began != s->began || x.last != s->last ||
         (x.kind == SKARROWITH_ENTER && x.method != s->request.method))
         fail("a field of the exchange's struct is another");

@@ -58,7 +58,7 @@ static void expect_words(uint32_t number, size_t places, uint32_t answer, const 
 /* Documents 01 and 02 have words for these numbers, and the library for two of its own. */
 static int has_words(uint32_t n)
 {
-    return (n >= 1 && n <= 21 && n != 19) || (n >= 30 && n <= 42) || (n >= 50 && n <= 52) || (n >= 60 && n <= 62) ||
+    return (n >= 1 && n <= 21 && n != 19) || (n >= 30 && n <= 43) || (n >= 50 && n <= 52) || (n >= 60 && n <= 62) ||
            (n >= 70 && n <= 72) || n == 90 || n == 91 || n == 100 || n == 101;
 }
 
@@ -116,6 +116,7 @@ int main(void)
     expect_words(91, 260, 44, "resistance below the first or above the last");
     expect_words(21, 260, 32, "output: fewer places than needed");
     expect_words(SKARROWITH_REFUSED + SKARROWITH_NO_SUCH_NUMBER, 260, 24, "no words for this number");
+    expect_words(SKARROWITH_REFUSED + 43, 260, 31, "a different request at a resend");
     expect_words(SKARROWITH_NO_RECORD, 260, 95,
                  "no record: another size, kind or sort, a byte that must be 0, or a state to which no steps lead");
     expect_words(99, 260, SKARROWITH_REFUSED + SKARROWITH_NO_SUCH_NUMBER, "");

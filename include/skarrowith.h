@@ -32,7 +32,7 @@
  * its size; bytes named zero are 0; a telegram's kind is 1 to 5 and the sort of each of its seven entries 0 or 1. No other
  * field of a telegram is asked about there: one with a count of 9 or a month 13 is a record, and what is done with it says
  * the rest (writing refuses it by 20, set-up by 72). An exchange and a meter are records only if some history of steps leads
- * to them. Columns are records if their count is not over 512.
+ * to them; 24 zeros are the record of no exchange. Columns are records if their count is not over 512.
  *
  * Build the archive target/staticlib/libskarrowith.a with `make`, and link it into an x86-64 program.
  */
@@ -194,7 +194,7 @@ uint32_t skarrowith_temperature(uint32_t milliohm, uint32_t *hundredths);
 /*
  * The exchange
  *
- * One request, at most three sends of it, and how it ends.
+ * One request, at most three sends of it, and how it ends. One record serves for one exchange after another.
  */
 
 /* How an exchange stands: what every step of it answers. */
@@ -209,9 +209,13 @@ uint32_t skarrowith_temperature(uint32_t milliohm, uint32_t *hundredths);
 #define SKARROWITH_WRONG_KIND 3
 
 /*
- * An exchange, 24 bytes, to be read and not to be changed: a record that no run of steps reaches is refused by 101.
- * kind, address and method are the request's; cause is 0 while waiting and after ending well; began is the end of the
- * last send and last the time of the last step.
+ * An exchange, 24 bytes, to be read and not to be changed. All zeros, as in `struct skarrowith_exchange x = {0}`, is none:
+ * so a host begins. Else kind, address and method are the request's, method 0 but for an enter; cause is 0 while waiting and
+ * after ending well; began is the end of the last send and last the time of the last step.
+ *
+ * Bytes that no steps give are refused by 101. What they are asked for: kind is 2, 3 or 4, state and cause are numbers above,
+ * sends is 1 to 3; last is not before began, and more than 450 after it exactly where the cause is silence; a resend is asked
+ * for before the third send, and failed is the third.
  */
 struct skarrowith_exchange {
     uint8_t kind, address, method, state, cause, sends;
@@ -220,25 +224,27 @@ struct skarrowith_exchange {
 };
 
 /*
- * Times are counted in bit times of 1/2400 s and must not go back from step to step (40). A step that the state does not
- * call for is refused by 41.
+ * Times are counted in bit times of 1/2400 s and must not go back from step to step of one exchange (40). A step that the
+ * state does not call for, and a line or a tick where there is none, is refused by 41. Every step answers the state,
+ * SKARROWITH_WAITING to SKARROWITH_FAILED, or refuses.
  *
- * start: the request's first send has ended at t; method is looked at for an enter only, and may be any byte there: whether
- *        the request can be written is for skarrowith_write_request to say. Refuses by 21, or 42 for a kind that is no
- *        request.
- * heard: a line was heard that began at t. If the exchange then stands SKARROWITH_WELL, its telegram has been written to
- *        reply; if not, reply is as it was. Refuses by 101, 21 (reply), 40 or 41.
- * tick:  no line has begun up to t; more than 450 after the send that is silence. Do not tick past the window while a
- *        line that began inside it is still coming in: first hear it, with the time at which it began. Refuses by 101,
- *        40 or 41.
- * sent:  the resend that was asked for (SKARROWITH_RESEND) has ended at t. Refuses by 101, 40 or 41.
+ * send_ended: a send has ended at t. Where there is no exchange, or one that has ended, it begins an exchange of that
+ *             request, whatever the last one's time; 42 for a kind that is no request. Where a resend is asked for
+ *             (SKARROWITH_RESEND) it is the next send; 43 if it is not the request that the exchange was begun with. While
+ *             one is waiting no send is called for, whatever it is. method is looked at for an enter only, and may be any
+ *             byte there: whether the request can be written is for skarrowith_write_request to say. Refuses by 101, 40,
+ *             41, 42 or 43.
+ * heard:      a line was heard that began at t. If the exchange then stands SKARROWITH_WELL, its telegram has been written
+ *             to reply; if not, reply is as it was. Refuses by 101, 21 (reply), 40 or 41.
+ * tick:       no line has begun up to t; more than 450 after the send that is silence. Do not tick past the window while a
+ *             line that began inside it is still coming in: first hear it, with the time at which it began. Refuses by 101,
+ *             40 or 41.
  */
-uint32_t skarrowith_exchange_start(
+uint32_t skarrowith_exchange_send_ended(
     struct skarrowith_exchange *exchange, size_t size, uint8_t kind, uint8_t address, uint8_t method, uint64_t t);
 uint32_t skarrowith_exchange_heard(struct skarrowith_exchange *exchange, size_t size, const uint16_t *line, size_t count,
     uint64_t t, struct skarrowith_telegram *reply, size_t reply_size);
 uint32_t skarrowith_exchange_tick(struct skarrowith_exchange *exchange, size_t size, uint64_t t);
-uint32_t skarrowith_exchange_sent(struct skarrowith_exchange *exchange, size_t size, uint64_t t);
 
 /*
  * The simulated meter

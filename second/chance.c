@@ -158,6 +158,8 @@ uint64_t some_amount(uint64_t total)
 uint64_t exchange_time(const struct second_exchange *x)
 {
     static const unsigned edges[] = {0, 1, 100, 449, 450, 451, 452, 900};
+    if (x->state == SECOND_NONE || (x->state >= SECOND_WELL && once_in(3)))
+        return first_time();
     return some_time(x->last, x->began, edges, 8);
 }
 

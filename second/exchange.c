@@ -1,21 +1,17 @@
-/* One exchange, from document 01. */
+/* The exchange, from document 01 and from 2026-09 of document 02. */
 #include "exchange.h"
+
+#include <string.h>
 
 enum { WINDOW = 450, SENDS_MOST = 3, BROADCAST = 0xFE };
 
-int second_start(struct second_exchange *x, const struct second_telegram *request, uint64_t t)
+void second_no_exchange(struct second_exchange *x)
 {
-    if (request->kind == SECOND_ACK || request->kind == SECOND_DATA)
-        return 42;
-    x->request = *request;
-    x->state = SECOND_WAITING;
-    x->cause = SECOND_SILENT;
-    x->sends = 1;
-    x->began = x->last = t;
-    return 0;
+    memset(x, 0, sizeof *x);
+    x->state = SECOND_NONE;
 }
 
-/* Whether a step at t is called for, it being so in one state only. */
+/* Whether a step at t is called for, it being so in one state only. Where there is none, no step has been: its last time is 0. */
 static int refusal_of(const struct second_exchange *x, uint64_t t, enum second_state called_for)
 {
     if (t < x->last)
@@ -70,11 +66,33 @@ int second_heard(struct second_exchange *x, const uint16_t *line, size_t n, uint
     return 0;
 }
 
-int second_sent(struct second_exchange *x, uint64_t t)
+/* What a host sends again: the method is a part of an enter only. */
+static int is_same(const struct second_telegram *request, const struct second_telegram *sent)
 {
-    int refusal = refusal_of(x, t, SECOND_RESEND);
-    if (refusal != 0)
-        return refusal;
+    if (sent->kind != request->kind || sent->address != request->address)
+        return 0;
+    return sent->kind != SECOND_ENTER || sent->method == request->method;
+}
+
+static int may_begin(const struct second_exchange *x)
+{
+    return x->state == SECOND_NONE || x->state == SECOND_WELL || x->state == SECOND_FAILED;
+}
+
+int second_send_ended(struct second_exchange *x, const struct second_telegram *sent, uint64_t t)
+{
+    if (may_begin(x)) {
+        if (sent->kind == SECOND_ACK || sent->kind == SECOND_DATA)
+            return 42;
+        x->request = *sent;
+        x->sends = 0;
+    } else {
+        int refusal = refusal_of(x, t, SECOND_RESEND);
+        if (refusal != 0)
+            return refusal;
+        if (!is_same(&x->request, sent))
+            return 43;
+    }
     x->state = SECOND_WAITING;
     x->sends++;
     x->began = x->last = t;

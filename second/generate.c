@@ -107,38 +107,36 @@ static void generate_temperature(void)
 
 static void exchange_step(struct second_exchange *x)
 {
-    struct second_telegram reply;
+    struct second_telegram t, reply;
     struct line l = {{0}, 0};
-    uint64_t t = exchange_time(x);
+    uint64_t at = exchange_time(x);
     unsigned sort = below(8);
-    if (x->state == SECOND_RESEND && !once_in(4))
+    if (x->state != SECOND_WAITING && !once_in(4))
         sort = 7;
     if (sort < 4) {
         reply_line(&l, &x->request);
-        printf(" heard +%" PRIu64, t);
+        printf(" heard +%" PRIu64, at);
         print_characters(&l);
-        second_heard(x, l.c, l.n, t, &reply);
+        second_heard(x, l.c, l.n, at, &reply);
     } else if (sort < 7) {
-        printf(" tick +%" PRIu64, t);
-        second_tick(x, t);
+        printf(" tick +%" PRIu64, at);
+        second_tick(x, at);
     } else {
-        printf(" sent +%" PRIu64, t);
-        second_sent(x, t);
+        t = some_send(x);
+        printf(" ended +%" PRIu64, at);
+        print_telegram(&t, 0);
+        second_send_ended(x, &t, at);
     }
 }
 
 static void generate_exchange(void)
 {
     struct second_exchange x;
-    struct second_telegram request = good_telegram(once_in(20) ? some_kind() : (enum second_kind)between(1, 3));
-    uint64_t t = first_time();
-    printf("exchange start +%" PRIu64, t);
-    print_telegram(&request, 0);
-    if (second_start(&x, &request, t) != 0)
-        return;
-    for (unsigned steps = between(1, 12); steps > 0; steps--) {
+    second_no_exchange(&x);
+    printf("exchange");
+    for (unsigned steps = between(1, 16); steps > 0; steps--) {
         exchange_step(&x);
-        if ((x.state == SECOND_WELL || x.state == SECOND_FAILED) && once_in(2))
+        if ((x.state == SECOND_WELL || x.state == SECOND_FAILED) && once_in(4))
             return;
     }
 }

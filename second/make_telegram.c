@@ -194,6 +194,27 @@ void break_telegram(struct second_telegram *t)
     }
 }
 
+struct second_telegram some_send(const struct second_exchange *x)
+{
+    struct second_telegram t = x->request;
+    if (x->state != SECOND_RESEND || once_in(10))
+        return good_telegram(once_in(12) ? some_kind() : (enum second_kind)between(1, 3));
+    switch (below(10)) {
+    case 0:
+        t.address ^= 1u << below(8);
+        break;
+    case 1:
+        t.method = once_in(2) ? between(0x90, 0x92) : below(256);
+        break;
+    case 2:
+        t.kind = some_kind();
+        break;
+    default:
+        break;
+    }
+    return t;
+}
+
 struct second_telegram meter_template(void)
 {
     struct second_telegram t = good_telegram(SECOND_DATA);

@@ -102,10 +102,12 @@ static int has_cause(const struct second_exchange *x)
 void second_put_exchange(uint8_t *to, const struct second_exchange *x)
 {
     memset(to, 0, SECOND_EXCHANGE_SIZE);
+    if (x->state == SECOND_NONE)
+        return;
     to[0] = (uint8_t)(x->request.kind + 1);
     to[1] = (uint8_t)x->request.address;
     to[2] = (uint8_t)(x->request.kind == SECOND_ENTER ? x->request.method : 0);
-    to[3] = (uint8_t)(x->state + 1);
+    to[3] = (uint8_t)x->state;
     to[4] = (uint8_t)(has_cause(x) ? x->cause + 1 : 0);
     to[5] = (uint8_t)x->sends;
     second_put_number(to + BEGAN, 8, x->began);
@@ -125,12 +127,14 @@ static int can_stand(const struct second_exchange *x)
 
 int second_take_exchange(const uint8_t *b, size_t n, struct second_exchange *x)
 {
-    memset(x, 0, sizeof *x);
+    second_no_exchange(x);
+    if (n == SECOND_EXCHANGE_SIZE && is_zero(b, n))
+        return 0;
     if (n != SECOND_EXCHANGE_SIZE || b[0] < 2 || b[0] > 4 || (b[0] != 3 && b[2] != 0) || b[3] < 1 || b[3] > 4 ||
         !is_zero(b + 6, 2))
         return SECOND_NO_RECORD;
     x->request = second_request(b[0], b[1], b[2]);
-    x->state = (enum second_state)(b[3] - 1);
+    x->state = (enum second_state)b[3];
     if (has_cause(x) ? b[4] < 1 || b[4] > 3 : b[4] != 0)
         return SECOND_NO_RECORD;
     x->cause = has_cause(x) ? (enum second_cause)(b[4] - 1) : SECOND_SILENT;

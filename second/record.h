@@ -14,7 +14,7 @@ void second_put_meter(uint8_t *to, const struct second_meter *m);
 
 /*
  * Each answers 0, or 101 where the bytes are no record; of an exchange or a meter, also where no history leads to what
- * they say.
+ * they say. Bytes of 0 are the record of no exchange.
  */
 int second_take_telegram(const uint8_t *b, size_t n, struct second_telegram *t);
 int second_take_exchange(const uint8_t *b, size_t n, struct second_exchange *x);

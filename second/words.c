@@ -43,6 +43,7 @@ const char *second_words(unsigned long number)
         [40] = "exchange: time earlier than the last step's",
         [41] = "exchange: step not called for in this state",
         [42] = "start with ack or data",
+        [43] = "a different request at a resend",
         [50] = "command begins less than 33 after the wake-up's end, or before it",
         [51] = "command begins more than 330 after the wake-up's end",
         [52] = "wake-up count outside 459-502",

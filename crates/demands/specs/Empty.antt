@@ -12,9 +12,10 @@ use Rattle.bench_clock.specs.declared.Clock.{Clock}
 use Rattle.bench_clock.specs.Times.{replyTime, earlier}
 use Rattle.mbus_rules.specs.declared.Kind.{Kind}
 use Rattle.mbus_rules.specs.declared.Kind.the-variants.{Ack, Read}
-use Rattle.mbus_rules.specs.declared.Request.{Request}
 use Rattle.mbus_rules.specs.declared.Request.the-variants.{Enter}
+use Rattle.mbus_rules.specs.declared.Request.the-variants as requests
 use Rattle.mbus_rules.specs.declared.Telegram.{Telegram}
+use Rattle.mbus_rules.specs.declared.View.the-variants.{Asks}
 use Rattle.mbus_rules.specs.Lists.{at, any, total}
 use Rattle.mbus_rules.specs.Characters.{odd, carrier}
 use Rattle.mbus_rules.specs.Answers.{Answer, reads, refusal}
@@ -31,8 +32,11 @@ use Rattle.exchange_replies.specs.Fits.{fits}
 use Rattle.exchange_steps.specs.declared.Cause.the-variants.{Silent}
 use Rattle.exchange_steps.specs.declared.State.the-variants.{Waiting, Resend, Well}
 use Rattle.exchange_steps.specs.declared.Exchange.{Exchange}
-use Rattle.exchange_steps.specs.Steps.{asksResend, sending, begun, moved, step, sentIn, tickIn, isWell}
-use Rattle.exchange_steps.specs.Histories.{Step, heard, tick, sent, answer, stands, noted, run, sendsMade}
+use Rattle.exchange_steps.specs.declared.Bench.{Bench}
+use Rattle.exchange_steps.specs.declared.Bench.the-variants.{Idle, Busy}
+use Rattle.exchange_steps.specs.Steps.{asksResend, sending, begun, moved, step, sentIn, sendEndedOn, tickOn, isWell}
+use Rattle.exchange_steps.specs.Histories.{Step, sendEnded, heard, tick, answer, stands, Send, noted, run, sendsMade, Ask}
+use Rattle.exchange_steps.specs.Values.{clockAt}
 use Rattle.meter_steps.specs.declared.Meter.{Meter}
 use Rattle.meter_steps.specs.Meters as meters
 use Rattle.meter_steps.specs.Meters.{Said, Deed, silence, says, quiet, returned}
@@ -143,9 +147,6 @@ abbrev speaks : Answer Deed → ℕ
 speaks (refusal n) = 2
 speaks (reads d) = spoken (d .said)
 
-abbrev clockAt : ℕ → Clock
-clockAt t = record { 0 = t }
-
 abbrev fresh : Meter
 fresh = meters.begunMeter 0 blank
 
@@ -176,96 +177,142 @@ meter-answers-all step loud d =
     let answer : speaks (step fresh (hear (0x1E5 ∷ []) (clockAt 0))) ≡ 0 = ap speaks r in
     omega (arith, loud fresh (0x1E5 ∷ []) (clockAt 0), answer)
 
--- ---- an exchange, by what it answers to a step: as it stands after a history, and the ends of the sends that were made
+-- ---- an exchange, by what is answered to a step: how it stands after a history, and the sends that were made
 
-unfoldable pub runBy : (Exchange → Step → Answer Exchange) → Exchange → List Step → Exchange
-runBy program x [] = x
-runBy program x (s ∷ h) = runBy program (stands x (program x s)) h
+abbrev nextBy : (Bench → Step → Answer Exchange) → Bench → Step → Bench
+nextBy program b s = stands b (program b s)
 
-unfoldable pub madeBy : (Exchange → Step → Answer Exchange) → Exchange → List Clock → List Step → List Clock
-madeBy program x ends [] = ends
-madeBy program x ends (s ∷ h) = madeBy program (stands x (program x s)) (noted s (program x s) ends) h
+unfoldable pub runBy : (Bench → Step → Answer Exchange) → Bench → List Step → Bench
+runBy program b [] = b
+runBy program b (s ∷ h) = runBy program (nextBy program b s) h
 
-run-by : (x : Exchange) (h : List Step) → runBy answer x h ≡ run x h
+unfoldable pub madeBy : (Bench → Step → Answer Exchange) → Bench → List Send → List Step → List Send
+madeBy program b sends [] = sends
+madeBy program b sends (s ∷ h) = madeBy program (nextBy program b s) (noted b s (program b s) sends) h
+
+run-by : (b : Bench) (h : List Step) → runBy answer b h ≡ run b h
 unfolding runBy run
-run-by x [] = refl
-run-by x (s ∷ h) = run-by (stands x (answer x s)) h
+run-by b [] = refl
+run-by b (s ∷ h) = run-by (stands b (answer b s)) h
 
-made-by : (x : Exchange) (ends : List Clock) (h : List Step) → madeBy answer x ends h ≡ sendsMade x ends h
+made-by : (b : Bench) (sends : List Send) (h : List Step) → madeBy answer b sends h ≡ sendsMade b sends h
 unfolding madeBy sendsMade
-made-by x ends [] = refl
-made-by x ends (s ∷ h) = made-by (stands x (answer x s)) (noted s (answer x s) ends) h
+made-by b sends [] = refl
+made-by b sends (s ∷ h) = made-by (stands b (answer b s)) (noted b s (answer b s) sends) h
 
-abbrev pub TakesReplies : (Exchange → Step → Answer Exchange) → Type 0
+abbrev pub TakesReplies : (Bench → Step → Answer Exchange) → Type 0
 TakesReplies program =
-    (request : Request) (start : Clock) (h : List Step) (send : Clock) (others : List Clock) (line : List ℕ) (t : Clock) (telegram : Telegram)
-    → runBy program (begun request start) h .state ≡ Waiting
-    → madeBy program (begun request start) (start ∷ []) h ≡ send ∷ others
-    → runBy program (begun request start) h .last .0 ≤ t .0
-    → t .0 ≤ send .0 + replyTime
+    (h : List Step) (x : Exchange) → runBy program Idle h ≡ Busy x → (send : Send) (others : List Send) (line : List ℕ) (t : Clock) (telegram : Telegram)
+    → x .state ≡ Waiting
+    → madeBy program Idle [] h ≡ send ∷ others
+    → x .last .0 ≤ t .0
+    → t .0 ≤ send .end .0 + replyTime
     → readLine line ≡ reads telegram
-    → fits request (viewed (reads telegram)) ≡ true
-    → program (runBy program (begun request start) h) (heard line t) ≡ reads (moved (runBy program (begun request start) h) Well t)
+    → fits (x .request) (viewed (reads telegram)) ≡ true
+    → program (Busy x) (heard line t) ≡ reads (moved x Well t)
 
 pub rules-take-replies : TakesReplies answer
-rules-take-replies request start h send others line t telegram =
-    rw (run-by (begun request start) h, made-by (begun request start) (start ∷ []) h) (exchange.takes-reply request start h send others line t telegram)
+rules-take-replies h x e send others line t telegram w m =
+    exchange.takes-reply h x (sym (run-by Idle h) ∙ e) send others line t telegram w (sym (made-by Idle [] h) ∙ m)
 
-abbrev pub ReportsSends : (Exchange → Step → Answer Exchange) → Type 0
-ReportsSends program =
-    (request : Request) (start : Clock) (h : List Step)
-    → runBy program (begun request start) h .sends ≡ length (madeBy program (begun request start) (start ∷ []) h)
+abbrev pub ReportsSends : (Bench → Step → Answer Exchange) → Type 0
+ReportsSends program = (h : List Step) (x : Exchange) → runBy program Idle h ≡ Busy x → x .sends ≡ length (madeBy program Idle [] h)
 
 pub rules-report-sends : ReportsSends answer
-rules-report-sends request start h =
-    rw (run-by (begun request start) h, made-by (begun request start) (start ∷ []) h) (exchange.sends-reported request start h .0)
+rules-report-sends h x e = rw (made-by Idle [] h) (exchange.sends-reported h x (sym (run-by Idle h) ∙ e) .0)
 
--- the start of an enter; a tick past the window, after which a resend is asked for; and the send that then ends
+abbrev pub SendsOneRequest : (Bench → Step → Answer Exchange) → Type 0
+SendsOneRequest program = (h : List Step) (x : Exchange) → runBy program Idle h ≡ Busy x → Ask (x .request) (madeBy program Idle [] h)
+
+pub rules-send-one-request : SendsOneRequest answer
+rules-send-one-request h x e = rw (made-by Idle [] h) (exchange.sends-reported h x (sym (run-by Idle h) ∙ e) .2)
+
+abbrev pub BeginsAgain : (Bench → Step → Answer Exchange) → Type 0
+BeginsAgain program =
+    (x : Exchange) (telegram : Telegram) (t : Clock) → x .state ≡ Well
+    → program (Busy x) (sendEnded telegram t) ≡ program Idle (sendEnded telegram t)
+
+pub rules-begin-again : BeginsAgain answer
+rules-begin-again x telegram t = exchange.well-as-none telegram t x
+
+-- the send of an enter; a tick past the window, after which a resend is asked for; and the end of a send of this telegram
 abbrev atStart : Exchange
 atStart = begun (Enter 0xFE 0x90) (clockAt 0)
 
+abbrev asking : Exchange
+asking = moved atStart (Resend Silent) (clockAt 451)
+
+abbrev sentAgain : Telegram → List Step
+sentAgain telegram = sendEnded (enterOf 0xFE 0x90) (clockAt 0) ∷ tick (clockAt 451) ∷ sendEnded telegram (clockAt 451) ∷ []
+
 abbrev resent : List Step
-resent = tick (clockAt 451) ∷ sent (clockAt 451) ∷ []
+resent = sentAgain (enterOf 0xFE 0x90)
+
+abbrev enterSent : ℕ → Send
+enterSent t = record { telegram = enterOf 0xFE 0x90; end = clockAt t }
 
 abbrev wellIn : Answer Exchange → Bool
 wellIn (refusal n) = false
 wellIn (reads x) = isWell (x .state)
 
 -- One that decides all on its first send and only shows two more: whatever it answers to a line after the second send, it does not end well.
-module _ (program : Exchange → Step → Answer Exchange) (ticks : (x : Exchange) (t : Clock) → program x (tick t) ≡ tickIn x t)
-    (sends : (x : Exchange) (t : Clock) → program x (sent t) ≡ sentIn x t) where
-  abbrev asking : Exchange
-  asking = moved atStart (Resend Silent) (clockAt 451)
+module _ (program : Bench → Step → Answer Exchange) (ticks : (b : Bench) (t : Clock) → program b (tick t) ≡ tickOn b t)
+    (sends : (b : Bench) (telegram : Telegram) (t : Clock) → program b (sendEnded telegram t) ≡ sendEndedOn b (viewed (reads telegram)) t) where
+  abbrev again : Step
+  again = sendEnded (enterOf 0xFE 0x90) (clockAt 451)
 
-  first : stands atStart (program atStart (tick (clockAt 451))) ≡ asking
-  first = ap (stands atStart) (ticks atStart (clockAt 451))
+  first : nextBy program (nextBy program Idle (sendEnded (enterOf 0xFE 0x90) (clockAt 0))) (tick (clockAt 451)) ≡ Busy asking
+  first =
+      ap (λ (b : Bench). nextBy program b (tick (clockAt 451))) (ap (stands Idle) (sends Idle (enterOf 0xFE 0x90) (clockAt 0)))
+      ∙ ap (stands (Busy atStart)) (ticks (Busy atStart) (clockAt 451))
 
-  second : runBy program atStart resent ≡ sending (Enter 0xFE 0x90) 2 (clockAt 451)
+  second : runBy program Idle resent ≡ Busy (sending (Enter 0xFE 0x90) 2 (clockAt 451))
   unfolding runBy
-  second = ap (λ (x : Exchange). stands x (program x (sent (clockAt 451)))) first ∙ ap (stands asking) (sends asking (clockAt 451))
+  second = ap (λ (b : Bench). nextBy program b again) first ∙ ap (stands (Busy asking)) (sends (Busy asking) (enterOf 0xFE 0x90) (clockAt 451))
 
-  made-two : madeBy program atStart (clockAt 0 ∷ []) resent ≡ clockAt 451 ∷ clockAt 0 ∷ []
+  made-two : madeBy program Idle [] resent ≡ enterSent 451 ∷ enterSent 0 ∷ []
   unfolding madeBy
   made-two =
-      ap (λ (x : Exchange). noted (sent (clockAt 451)) (program x (sent (clockAt 451))) (clockAt 0 ∷ [])) first
-      ∙ ap (λ (a : Answer Exchange). noted (sent (clockAt 451)) a (clockAt 0 ∷ [])) (sends asking (clockAt 451))
+      let once : List Send = noted Idle (sendEnded (enterOf 0xFE 0x90) (clockAt 0)) (program Idle (sendEnded (enterOf 0xFE 0x90) (clockAt 0))) [] in
+      ap (λ (b : Bench). noted b again (program b again) once) first
+      ∙ ap (λ (a : Answer Exchange). noted (Busy asking) again a once) (sends (Busy asking) (enterOf 0xFE 0x90) (clockAt 451))
+      ∙ ap (λ (a : Answer Exchange). enterSent 451 ∷ noted Idle (sendEnded (enterOf 0xFE 0x90) (clockAt 0)) a [])
+      (sends Idle (enterOf 0xFE 0x90) (clockAt 0))
 
-  pub decides-on-first-send : ((x : Exchange) (line : List ℕ) (t : Clock) → 1 < x .sends → wellIn (program x (heard line t)) ≡ false)
+  pub decides-on-first-send : ((x : Exchange) (line : List ℕ) (t : Clock) → 1 < x .sends → wellIn (program (Busy x) (heard line t)) ≡ false)
       → TakesReplies program → ⊥
   decides-on-first-send deaf d =
-      let waiting : runBy program atStart resent .state ≡ Waiting = ap (λ (x : Exchange). x .state) second in
-      let in-order : runBy program atStart resent .last .0 ≤ 451 = rw second (lit≤ tt) in
-      let later : 1 < runBy program atStart resent .sends = rw second (lit< tt) in
-      let r = d (Enter 0xFE 0x90) (clockAt 0) resent (clockAt 451) (clockAt 0 ∷ []) (0x1E5 ∷ []) (clockAt 451) ack waiting made-two in-order (lit≤ tt)
-      ack-read refl in
-      true≢false (sym (ap wellIn r) ∙ deaf (runBy program atStart resent) (0x1E5 ∷ []) (clockAt 451) later)
+      let x : Exchange = sending (Enter 0xFE 0x90) 2 (clockAt 451) in
+      let r = d resent x second (enterSent 451) (enterSent 0 ∷ []) (0x1E5 ∷ []) (clockAt 451) ack refl made-two (lit≤ tt) (lit≤ tt) ack-read refl in
+      true≢false (sym (ap wellIn r) ∙ deaf x (0x1E5 ∷ []) (clockAt 451) (lit< tt))
 
 -- one that reports one send, however many were made
-abbrev reportsOne : Exchange → Step → Answer Exchange
-reportsOne x (heard line t) = answer x (heard line t)
-reportsOne x (tick t) = tickIn x t
-reportsOne x (sent t) = step x t (asksResend (x .state) (x .sends)) (sending (x .request) 1 t)
+abbrev reportsOne : Bench → Step → Answer Exchange
+reportsOne Idle s = answer Idle s
+reportsOne (Busy x) (sendEnded telegram t) = step x t (asksResend (x .state) (x .sends)) (sending (x .request) 1 t)
+reportsOne (Busy x) (heard line t) = answer (Busy x) (heard line t)
+reportsOne (Busy x) (tick t) = answer (Busy x) (tick t)
 
 pub reports-another-count : ReportsSends reportsOne → ⊥
 unfolding runBy madeBy
-reports-another-count d = omega (arith, d (Enter 0xFE 0x90) (clockAt 0) resent)
+reports-another-count d = omega (arith, d resent (sending (Enter 0xFE 0x90) 1 (clockAt 451)) refl)
+
+-- one that takes the end of any send for a resend's
+abbrev takesAnySend : Bench → Step → Answer Exchange
+takesAnySend Idle s = answer Idle s
+takesAnySend (Busy x) (sendEnded telegram t) = sentIn x t
+takesAnySend (Busy x) (heard line t) = answer (Busy x) (heard line t)
+takesAnySend (Busy x) (tick t) = answer (Busy x) (tick t)
+
+pub takes-any-send : SendsOneRequest takesAnySend → ⊥
+unfolding runBy madeBy Ask
+takes-any-send d =
+    let r = d (sentAgain (readOf 0xFE)) (sending (Enter 0xFE 0x90) 2 (clockAt 451)) refl in
+    let same : Asks (requests.Read 0xFE) ≡ Asks (Enter 0xFE 0x90) = r .0 in
+    let z : _≡_ {A = ℕ} 0 1 = cc in
+    omega arith
+
+-- and which never begins a second exchange
+pub begins-but-once : BeginsAgain takesAnySend → ⊥
+begins-but-once d =
+    omega (arith, ap (told (λ (x : Exchange). 0)) (d (moved atStart Well (clockAt 0)) (enterOf 0xFE 0x90) (clockAt 0) refl))

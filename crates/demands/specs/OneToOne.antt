@@ -24,6 +24,7 @@ use Rattle.mbus_search.specs.Searching.{foundShown}
 use Rattle.mbus_search.proofs.Laws.Meaning as searches
 use Rattle.exchange_steps.specs.Steps as exchanges
 use Rattle.exchange_steps.proofs.Laws.Steps as steps
+use Rattle.exchange_record.specs.Exchanges.{shownBench}
 use Rattle.meter_template.specs.Templates.{shownSum}
 use Rattle.meter_template.proofs.Laws.TemplateLaws as sums
 use Rattle.meter_steps.specs.declared.Meter.{Meter}
@@ -88,6 +89,12 @@ error-apart = errors.shownIndication-same
 -- the exchange, and the simulated meter
 pub exchange-apart : Apart exchanges.shownStep
 exchange-apart = steps.shownStep-same
+
+pub exchange-record-apart : Apart shownBench
+exchange-record-apart (refusal m) (refusal n) e = cc
+exchange-record-apart (refusal m) (reads b) e = cc
+exchange-record-apart (reads a) (refusal n) e = cc
+exchange-record-apart (reads a) (reads b) e = cc
 
 pub set-up-apart : Apart shownSetup
 set-up-apart = deeds.shownSetup-same

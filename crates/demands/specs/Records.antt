@@ -1,22 +1,25 @@
 -- The records that C keeps between two calls: what is written is read back as the same value, over whole histories; and bytes are taken only where
 -- some history gives them.
-use Prim.Native.Nat.{ℕ, _^_, _<_}
+use Prim.Native.Nat.{ℕ, _^_, _≤_, _<_}
 use mathlib.Core.List.{List, [], _∷_}
 use mathlib.Core.Path.{_≡_, refl}
-use lib.ListN.{length, take}
+use lib.ListN.{length, take, replicate}
 use Rattle.bench_clock.specs.declared.Clock.{Clock}
-use Rattle.mbus_rules.specs.declared.Request.{Request}
 use Rattle.mbus_rules.specs.declared.Telegram.{Telegram}
 use Rattle.mbus_rules.specs.Answers.{Answer, reads, refusal}
 use Rattle.bytes_lent.specs.Lent.{stored}
-use Rattle.host_records.specs.Telegrams.{telegramBytes, telegramFrom}
+use Rattle.host_records.specs.Telegrams.{telegramSize, telegramBytes, telegramFrom}
 use Rattle.host_records.proofs.Laws.TelegramLaws as telegrams
-use Rattle.exchange_steps.specs.declared.Exchange.{Exchange}
-use Rattle.exchange_steps.specs.Histories.{Step, after}
-use Rattle.exchange_record.specs.Exchanges.{exchangeBytes, exchangeFrom}
-use Rattle.exchange_record.proofs.Laws.ExchangeLaws.{exchange-written}
+use Rattle.exchange_steps.specs.declared.Bench.{Bench}
+use Rattle.exchange_steps.specs.declared.Bench.the-variants.{Idle}
+use Rattle.exchange_steps.specs.Histories.{Step, heard, after}
+use Rattle.exchange_record.specs.Exchanges.{benchBytes, benchFrom}
+use Rattle.exchange_record.proofs.Laws.ExchangeLaws.{none-read, bench-written}
 use Rattle.exchange_record.proofs.Laws.Runs as runs
-use Rattle.exchange_record.proofs.Laws.Runs.{Asked, TimesFit}
+use Rattle.exchange_record.proofs.Laws.Runs.{AskedBy, TimesFit}
+use Rattle.host_exchange.specs.Calls as exchanges
+use Rattle.host_exchange.specs.Calls.{stepFor, recordAfter}
+use Rattle.host_exchange.proofs.Laws.Lives as lives
 use Rattle.meter_steps.specs.declared.Meter.{Meter}
 use Rattle.meter_steps.specs.Meters.{Deed, begunMeter, setUp, shownMeterStep}
 use Rattle.meter_steps.specs.Histories.{Event, hear, measure, timeOf, stepOf, runMeter}
@@ -38,17 +41,28 @@ telegram-read-back = telegrams.telegram-read
 pub telegram-taken : (b : List ℕ) (t : Telegram) → telegramFrom b ≡ reads t → telegramBytes t ≡ b
 telegram-taken = telegrams.telegram-written
 
--- ---- an exchange
+-- ---- an exchange, or none
 
--- After every history of steps from a start, at times of 64 bits.
-pub exchange-read-back : (request : Request) (t : Clock) (h : List Step) → t .0 < 256 ^ 8 → TimesFit h
-    → exchangeFrom (exchangeBytes (after request t h)) ≡ reads (after request t h)
+-- None is 24 bytes of 0.
+pub none-is-zeros : benchFrom (replicate 24 0) ≡ reads Idle
+none-is-zeros = none-read
+
+-- After every history of steps from none, at times of 64 bits.
+pub exchange-read-back : (h : List Step) → TimesFit h → benchFrom (benchBytes (after h)) ≡ reads (after h)
 exchange-read-back = runs.run-read-back
 
--- An exchange that is taken stands so after some history from a start of its request (at an address that is a byte).
-pub exchange-taken : (b : List ℕ) (x : Exchange) → exchangeFrom b ≡ reads x → Asked (x .request)
-    → (exchangeBytes x ≡ b) × ((t : Clock) × (h : List Step) × (after (x .request) t h ≡ x))
-exchange-taken b x e a = let r = exchange-written b x e in (r .bytes, runs.reached-by-run x a (r .so))
+-- An exchange that is taken stands so after some history from none (of a request at an address that is a byte), and so does none.
+pub exchange-taken : (b : List ℕ) (w : Bench) → benchFrom b ≡ reads w → AskedBy w → (benchBytes w ≡ b) × ((h : List Step) × (after h ≡ w))
+exchange-taken b w e a = (bench-written b w e, runs.taken-by-run b w e a)
+
+-- So from zeros the record is, after any calls, that of what their steps lead to, one exchange after another;
+pub record-follows : (h : List Step) → TimesFit h → recordAfter (replicate 24 0) h ≡ benchBytes (after h)
+record-follows = lives.record-follows
+
+-- and a line heard is such a step wherever there is room for the reply.
+pub heard-steps : (b line : List ℕ) (t : ℕ) (reply : List ℕ) → telegramSize ≤ length reply
+    → exchanges.heardFor b line t reply ≡ stepFor b (heard line (record { 0 = t }))
+heard-steps = lives.heard-steps
 
 -- ---- a simulated meter
 

@@ -30,15 +30,17 @@ use Rattle.mbus_rules.specs.Entries.{entryOf, entryWidth, unfit, wrongDigit, wr
 use Rattle.mbus_rules.specs.Telegrams.{ack, readOf, dataOf, bare}
 use Rattle.mbus_rules.specs.Lines.{isAck, isShort, field, isCommand, isData, commandOf, readBody, readLine}
 use Rattle.mbus_rules.specs.Lines.{wrongStart, wrongCount, wrongLengths, wrongEnd, wrongSum}
-use Rattle.mbus_rules.specs.Views.{viewOf, viewed}
+use Rattle.mbus_rules.specs.Views.{viewed}
 use Rattle.mbus_rules.specs.Writing.{lineOf, unwritable, writeLine}
 use Rattle.mbus_rules.proofs.Laws.Seven.{never-15}
 use Rattle.bench_indication.specs.Errors.{indicationOf}
 use Rattle.bench_indication.specs.Errors as errors
 use Rattle.mbus_search.specs.Searching.{Spot, lengthHere, further, orElse, findIn}
 use Rattle.exchange_steps.specs.declared.Exchange.{Exchange}
-use Rattle.exchange_steps.specs.Steps.{afterLine, afterTick, waits, asksResend, sending, moved, past, step, startWith, startOf}
-use Rattle.exchange_steps.specs.Histories.{Step, heard, tick, sent, answer}
+use Rattle.exchange_steps.specs.declared.Bench.{Bench}
+use Rattle.exchange_steps.specs.declared.Bench.the-variants.{Idle, Busy}
+use Rattle.exchange_steps.specs.Steps.{afterLine, afterTick, waits, asksResend, inProgress, asksFor, sending, moved, past, step, sentIn, startWith, sendEndedIn}
+use Rattle.exchange_steps.specs.Histories.{sendEnded, heard, tick, answer}
 use Rattle.meter_template.specs.Templates as templates
 use Rattle.meter_steps.specs.declared.Meter.{Meter}
 use Rattle.meter_steps.specs.declared.Core.{Core}
@@ -60,13 +62,13 @@ use Rattle.host_words.specs.Words.{text}
 use Rattle.host_words.specs.Saying.{fitted}
 use Rattle.host_records.specs.Recorded.{noRecord, recorded}
 use Rattle.host_records.specs.Telegrams.{telegramSize, telegramBytes, telegramIn, telegramFrom}
-use Rattle.exchange_record.specs.Exchanges.{exchangeSize, exchangeBytes, exchangeIn, reached, exchangeFrom}
+use Rattle.exchange_record.specs.Exchanges.{exchangeBytes, exchangeIn, reached, exchangeFrom, noneBytes, benchFrom}
 use Rattle.meter_record.specs.MeterRecords.{meterSize, meterBytes, meterIn, unreached, meterFrom}
 use Rattle.host_lines.specs.Calls.{readFor, writeFor, requestFor}
 use Rattle.host_search.specs.Finding.{findFor}
 use Rattle.host_bench.specs.Calls.{errorFor}
 use Rattle.host_exchange.specs.Calls as exchanges
-use Rattle.host_exchange.specs.Calls.{startFor, tickFor, sentFor}
+use Rattle.host_exchange.specs.Calls.{sendEndedFor, tickFor}
 use Rattle.host_meter.specs.Calls as meters
 use Rattle.host_meter.specs.Calls.{setUpFor, measureFor}
 use Rattle.host_bundle.specs.Rows.{rowInto, keptInto}
@@ -254,26 +256,45 @@ unfolding any
 error-by m1 m2 s1 s2 =
     refuse-by _ 60 (errors.countOver m1 m2 s1 s2) _ refl (refuse-by _ 61 (ltb m2 m1) _ refl (refuse-by _ 62 (leb s2 s1) _ refl (reads-by _ _)))
 
--- ---- the exchange: start, and each step
+-- ---- the exchange: each step
 
-pub start-by : (t : Telegram) (at : Clock) → By (42 ∷ []) (startOf t at)
+start-by : (v : View) (t : Clock) → By (42 ∷ []) (startWith v t)
 unfolding By any
-start-by t at = go (viewOf (t .kind) (t .address) (t .method))
-  where
-    go : (v : View) → By (42 ∷ []) (startWith v at)
-    go (views.Refused n) = refl
-    go views.Ack = refl
-    go (views.Asks q) = tt
-    go (views.Data a) = refl
+start-by (views.Refused n) t = refl
+start-by views.Ack t = refl
+start-by (views.Asks q) t = tt
+start-by (views.Data a) t = refl
 
 called-by : (x : Exchange) (t : Clock) (called : Bool) (y : Exchange) → By (40 ∷ 41 ∷ []) (step x t called y)
 unfolding any
 called-by x t called y = refuse-by _ 40 (earlier (x .last .0) (t .0)) _ refl (refuse-by _ 41 (not called) _ refl (reads-by _ y))
 
-pub exchange-by : (x : Exchange) (s : Step) → By (40 ∷ 41 ∷ []) (answer x s)
-exchange-by x (heard line t) = called-by x t (waits (x .state)) (moved x (afterLine (x .request) (x .sends) (past x t) (viewed (readLine line))) t)
-exchange-by x (tick t) = called-by x t (waits (x .state)) (moved x (afterTick (x .sends) (past x t)) t)
-exchange-by x (sent t) = called-by x t (asksResend (x .state) (x .sends)) (sending (x .request) (x .sends + 1) t)
+sending-by : (b : Bench) (v : View) (t : Clock) → By (40 ∷ 41 ∷ 42 ∷ 43 ∷ []) (sendEndedIn b v t)
+unfolding any
+sending-by Idle v t = more (42 ∷ []) _ _ refl (start-by v t)
+sending-by (Busy x) v t =
+    follow-by _ (sentIn x t) _
+    (more (40 ∷ 41 ∷ []) _ _ refl (called-by x t (asksResend (x .state) (x .sends)) (sending (x .request) (x .sends + 1) t)))
+    (λ y. refuse-by _ 43 (not (asksFor (x .request) v)) (reads y) refl (reads-by _ y))
+
+-- The end of a send: 42 where there is none, and of what there is else 40, 41 and 43 too.
+module _ (telegram : Telegram) (t : Clock) where
+  pub begin-by : By (42 ∷ []) (answer Idle (sendEnded telegram t))
+  begin-by = start-by (viewed (reads telegram)) t
+
+  pub send-by : (b : Bench) → By (40 ∷ 41 ∷ 42 ∷ 43 ∷ []) (answer b (sendEnded telegram t))
+  send-by b = sending-by (inProgress b) (viewed (reads telegram)) t
+
+-- Lines and ticks: 40 and 41, and of none 41.
+pub line-by : (b : Bench) (line : List ℕ) (t : Clock) → By (40 ∷ 41 ∷ []) (answer b (heard line t))
+unfolding any
+line-by Idle line t = refusal-by Exchange _ 41 refl
+line-by (Busy x) line t = called-by x t (waits (x .state)) (moved x (afterLine (x .request) (x .sends) (past x t) (viewed (readLine line))) t)
+
+pub tick-by : (b : Bench) (t : Clock) → By (40 ∷ 41 ∷ []) (answer b (tick t))
+unfolding any
+tick-by Idle t = refusal-by Exchange _ 41 refl
+tick-by (Busy x) t = called-by x t (waits (x .state)) (moved x (afterTick (x .sends) (past x t)) t)
 
 -- ---- the simulated meter: set-up, and each step
 
@@ -396,11 +417,13 @@ recorded-by written taken b = refuse-by _ noRecord (not (same b (written (taken 
 pub telegram-record-by : (b : List ℕ) → By (101 ∷ []) (telegramFrom b)
 telegram-record-by b = recorded-by telegramBytes telegramIn b
 
-pub exchange-record-by : (b : List ℕ) → By (101 ∷ []) (exchangeFrom b)
+pub exchange-record-by : (b : List ℕ) → By (101 ∷ []) (benchFrom b)
 unfolding any
 exchange-record-by b =
-    follow-by _ (recorded exchangeBytes exchangeIn b) _ (recorded-by exchangeBytes exchangeIn b)
-    (λ x. refuse-by _ 101 (not (reached x)) _ refl (reads-by _ _))
+    cond-by _ (same b noneBytes) _ _ (reads-by _ Idle)
+    (within-by _ Busy (exchangeFrom b)
+    (follow-by _ (recorded exchangeBytes exchangeIn b) _ (recorded-by exchangeBytes exchangeIn b)
+    (λ x. refuse-by _ 101 (not (reached x)) _ refl (reads-by _ _))))
 
 pub meter-record-by : (b : List ℕ) → By (101 ∷ []) (meterFrom b)
 unfolding any
@@ -446,35 +469,29 @@ pub error-for-by : (m1 m2 s1 s2 : ℕ) (out : List ℤ) → By (21 ∷ 60 ∷ 61
 unfolding any
 error-for-by m1 m2 s1 s2 out = needs-by _ 1 out (indicationOf m1 m2 s1 s2) refl (more (60 ∷ 61 ∷ 62 ∷ []) _ _ refl (error-by m1 m2 s1 s2))
 
-pub start-for-by : (out : List ℕ) (kind address method t : ℕ) → By (21 ∷ 42 ∷ []) (startFor out kind address method t)
-unfolding any
-start-for-by out kind address method t =
-    let x = bare (kindIn kind) address method in
-    let at : Clock = record { 0 = t } in
-    needs-by _ exchangeSize out (startOf x at) refl (more (42 ∷ []) _ _ refl (start-by x at))
-
--- the steps of an exchange that is kept in a record
+-- the steps of an exchange that is kept in a record, or of none
 module _ (b : List ℕ) (t : ℕ) where
   abbrev time : Clock
   time = record { 0 = t }
 
+  stood-by : (ns : List ℕ) → less (101 ∷ []) ns ≡ true → By ns (benchFrom b)
+  stood-by ns l = more (101 ∷ []) ns _ l (exchange-record-by b)
+
+  pub send-ended-for-by : (kind address method : ℕ) → By (101 ∷ 40 ∷ 41 ∷ 42 ∷ 43 ∷ []) (sendEndedFor b kind address method t)
+  unfolding any
+  send-ended-for-by kind address method =
+      follow-by _ (benchFrom b) _ (stood-by _ refl)
+      (λ x. more (40 ∷ 41 ∷ 42 ∷ 43 ∷ []) _ _ refl (send-by (bare (kindIn kind) address method) time x))
+
   pub tick-for-by : By (101 ∷ 40 ∷ 41 ∷ []) (tickFor b t)
   unfolding any
-  tick-for-by =
-      follow-by _ (exchangeFrom b) _ (more (101 ∷ []) _ _ refl (exchange-record-by b))
-      (λ x. more (40 ∷ 41 ∷ []) _ _ refl (exchange-by x (tick time)))
-
-  pub sent-for-by : By (101 ∷ 40 ∷ 41 ∷ []) (sentFor b t)
-  unfolding any
-  sent-for-by =
-      follow-by _ (exchangeFrom b) _ (more (101 ∷ []) _ _ refl (exchange-record-by b))
-      (λ x. more (40 ∷ 41 ∷ []) _ _ refl (exchange-by x (sent time)))
+  tick-for-by = follow-by _ (benchFrom b) _ (stood-by _ refl) (λ x. more (40 ∷ 41 ∷ []) _ _ refl (tick-by x time))
 
   pub heard-for-by : (line reply : List ℕ) → By (101 ∷ 21 ∷ 40 ∷ 41 ∷ []) (exchanges.heardFor b line t reply)
   unfolding any
   heard-for-by line reply =
-      follow-by _ (exchangeFrom b) _ (more (101 ∷ []) _ _ refl (exchange-record-by b))
-      (λ x. needs-by _ telegramSize reply _ refl (more (40 ∷ 41 ∷ []) _ _ refl (exchange-by x (heard line time))))
+      follow-by _ (benchFrom b) _ (stood-by _ refl)
+      (λ x. needs-by _ telegramSize reply _ refl (more (40 ∷ 41 ∷ []) _ _ refl (line-by x line time)))
 
 -- and of a meter
 pub set-up-for-by : (out : List ℕ) (own : ℕ) (template : List ℕ) → By (101 ∷ 21 ∷ 72 ∷ []) (setUpFor out own template)

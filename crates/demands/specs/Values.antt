@@ -26,7 +26,7 @@ use Rattle.bench_indication.specs.Errors.{errorOf, indicationOf}
 use Rattle.exchange_steps.specs.declared.Cause.the-variants.{Silent}
 use Rattle.exchange_steps.specs.declared.State.the-variants.{Resend, Well}
 use Rattle.exchange_steps.specs.Histories.{run}
-use Rattle.exchange_steps.specs.Values.{heardAfter}
+use Rattle.exchange_steps.specs.Values.{heardAfter, enteredBy}
 
 -- every statement of a list holds
 abbrev pub Hold : List (Type 0) → Type 0
@@ -78,7 +78,7 @@ thirteen =
     ∷ ((indicationOf 0 10005 0 10000 ≡ reads (pos 1)) × (indicationOf 0 9995 0 10000 ≡ reads (negℤ (pos 1)))
     × (indicationOf 0 10004 0 10000 ≡ reads (pos 0)) × (indicationOf 0 0 0 10000 ≡ reads (negℤ (pos 1000))))
     -- 13: a fitting line at 450 is taken; at 451 it is silence
-    ∷ ((heardAfter 450 ≡ Well) × (heardAfter 451 ≡ Resend Silent))
+    ∷ ((heardAfter 450 ≡ enteredBy Well 450) × (heardAfter 451 ≡ enteredBy (Resend Silent) 451))
     ∷ []
 
 pub thirteen-hold : Hold thirteen

@@ -1,22 +1,27 @@
--- The record of an exchange: `struct skarrowith_exchange` of include/skarrowith.h, 24 bytes, numbers low byte first.
+-- The record of an exchange, or of none: `struct skarrowith_exchange` of include/skarrowith.h, 24 bytes, numbers low byte first.
 use Prim.Native.Nat.{ℕ}
 use mathlib.Core.Bool.{Bool, not, cond, _&&_}
 use mathlib.Core.List.{List, [], _∷_, _++_}
 use lib.Dec.{eqb, ltb, leb}
-use lib.ListN.{take, drop}
+use lib.ListN.{take, drop, replicate}
 use Rattle.mbus_rules.specs.declared.Request.{Request}
 use Rattle.mbus_rules.specs.declared.Request.the-variants.{Read, Enter, Leave}
-use Rattle.mbus_rules.specs.Answers.{Answer, reads, refuse, follow}
+use Rattle.mbus_rules.specs.Answers.{Answer, reads, refusal, refuse, within, follow}
 use Rattle.mbus_rules.specs.Lists.{at}
 use Rattle.exchange_steps.specs.declared.Cause.{Cause}
 use Rattle.exchange_steps.specs.declared.Cause.the-variants.{Silent, Damaged, WrongKind}
 use Rattle.exchange_steps.specs.declared.State.{State}
 use Rattle.exchange_steps.specs.declared.State.the-variants.{Waiting, Resend, Well, Failed}
 use Rattle.exchange_steps.specs.declared.Exchange.{Exchange}
+use Rattle.exchange_steps.specs.declared.Bench.{Bench}
+use Rattle.exchange_steps.specs.declared.Bench.the-variants.{Idle, Busy}
 use Rattle.exchange_steps.specs.Steps.{mostSends, past}
+use Rattle.bytes_lent.specs.Same.{same}
 use Rattle.bytes_numbers.specs.Numbers.{number}
 use Rattle.bytes_numbers.specs.Records.{recordOf}
 use Rattle.host_records.specs.Recorded.{noRecord, recorded}
+use Rattle.exchange_record.specs.declared.Taken.{Taken}
+use Rattle.exchange_record.specs.declared.Taken.the-variants.{Is, Refused}
 
 abbrev pub exchangeSize : ℕ
 exchangeSize = 24
@@ -101,3 +106,21 @@ reached x =
 -- The exchange whose record the bytes are, or 101 where they are none's that a run reaches.
 abbrev pub exchangeFrom : List ℕ → Answer Exchange
 exchangeFrom b = follow (recorded exchangeBytes exchangeIn b) (λ x. refuse noRecord (not (reached x)) (reads x))
+
+-- ---- none or an exchange
+
+-- 02, 2026-09: none is a record of zeros.
+abbrev pub noneBytes : List ℕ
+noneBytes = replicate exchangeSize 0
+
+abbrev pub benchBytes : Bench → List ℕ
+benchBytes Idle = noneBytes
+benchBytes (Busy x) = exchangeBytes x
+
+abbrev pub benchFrom : List ℕ → Answer Bench
+benchFrom b = cond (same b noneBytes) (reads Idle) (within Busy (exchangeFrom b))
+
+-- The program's case for each answer.
+abbrev pub shownBench : Answer Bench → Taken
+shownBench (refusal n) = Refused n
+shownBench (reads b) = Is b

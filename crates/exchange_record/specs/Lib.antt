@@ -1,2 +1,2 @@
--- The record of an exchange, and which exchanges have one.
+-- The record of an exchange, which exchanges have one, and the record of none.
 pub mod Exchanges

@@ -1,13 +1,15 @@
-// The record of an exchange: bytes of a fixed size, numbers low byte first.
+// The record of an exchange, or of none: bytes of a fixed size, numbers low byte first.
 ghost use mathlib.Core.Path.{_≡_};
 ghost use lib.ListN.{length};
 ghost use Rattle.exchange_steps.specs.Steps.{shownStep};
 ghost use Rattle.exchange_record.specs.Exchanges.{requestBytes, causeNumber, stateNumber, causeIn, exchangeHead, exchangeBytes, requestOf};
 ghost use Rattle.exchange_record.specs.Exchanges.{causeOfNumber, stateOf, exchangeIn, failsBy, standsAt, reached, exchangeFrom};
+ghost use Rattle.exchange_record.specs.Exchanges.{benchFrom, shownBench};
 use bench_clock::Clock;
 use bytes_lent::is_same;
 use bytes_numbers::number_at;
 use bytes_numbers::put_record;
+use exchange_steps::Bench;
 use exchange_steps::Cause;
 use exchange_steps::Exchange;
 use exchange_steps::State;
@@ -16,6 +18,12 @@ use mbus_rules::Request;
 
 // The bytes of an exchange's record.
 pub const SIZE: usize = 24;
+
+// None or the exchange whose record the bytes are, or the number by which they are refused.
+pub enum Taken {
+    Is(Bench),
+    Refused(u16),
+}
 
 fn request_bytes(request: Request) -> [u8; 3]
     ensures { λ r. ⌜ r ≡ requestBytes request ⌝ }
@@ -183,7 +191,7 @@ fn is_reached(x: Exchange) -> bool
 }
 
 // The exchange whose record the bytes are, or refused by 101.
-pub fn exchange_from(b: &[u8]) -> Stepped
+fn exchange_from(b: &[u8]) -> Stepped
     ensures { λ r. ⌜ r ≡ shownStep (exchangeFrom (now (b .entry))) ⌝ }
 {
     if b.len() != SIZE {
@@ -199,4 +207,20 @@ pub fn exchange_from(b: &[u8]) -> Stepped
         }
     }
     Stepped::Refused(101)
+}
+
+// None, where the bytes are zeros, or the exchange whose record they are, or refused by 101.
+pub fn bench_from(b: &[u8]) -> Taken
+    ensures { λ r. ⌜ r ≡ shownBench (benchFrom (now (b .entry))) ⌝ }
+{
+    let none = [0u8; 24];
+    let idle = is_same(b, &none);
+    if idle {
+        return Taken::Is(Bench::Idle);
+    }
+    let stood = exchange_from(b);
+    match stood {
+        Stepped::Refused(n) => Taken::Refused(n),
+        Stepped::To(x) => Taken::Is(Bench::Busy(x)),
+    }
 }

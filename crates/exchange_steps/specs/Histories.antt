@@ -1,6 +1,6 @@
--- Histories of an exchange: any list of steps, those that are refused included, and the account of sends that a host keeps beside it.
+-- Histories of a bench, one exchange after another: any list of steps, those that are refused included, and the account of sends that a host keeps beside it.
 use Prim.Native.Nat.{ℕ, _+_, _≤_, _<_}
-use mathlib.Core.Bool.{Bool, true, false}
+use mathlib.Core.Bool.{true}
 use mathlib.Core.List.{List, [], _∷_, _++_}
 use mathlib.Core.Path.{_≡_}
 use lib.ListN.{length}
@@ -8,86 +8,110 @@ use Rattle.bench_clock.specs.declared.Clock.{Clock}
 use Rattle.bench_clock.specs.Times.{replyTime}
 use Rattle.mbus_rules.specs.declared.Request.{Request}
 use Rattle.mbus_rules.specs.declared.Telegram.{Telegram}
+use Rattle.mbus_rules.specs.declared.View.the-variants.{Asks}
 use Rattle.mbus_rules.specs.Answers.{Answer, reads, refusal}
 use Rattle.mbus_rules.specs.Lines.{readLine}
 use Rattle.mbus_rules.specs.Views.{viewed}
 use Rattle.exchange_steps.specs.declared.Cause.{Cause}
-use Rattle.exchange_steps.specs.declared.State.{State}
 use Rattle.exchange_steps.specs.declared.State.the-variants.{Waiting, Resend, Well, Failed}
 use Rattle.exchange_steps.specs.declared.Exchange.{Exchange}
+use Rattle.exchange_steps.specs.declared.Bench.{Bench}
+use Rattle.exchange_steps.specs.declared.Bench.the-variants.{Idle, Busy}
 use Rattle.exchange_replies.specs.Fits.{fits}
-use Rattle.exchange_steps.specs.Steps.{begun, moved, heardIn, tickIn, sentIn}
+use Rattle.exchange_steps.specs.Steps.{inProgress, begun, moved, sendEndedOn, heardOn, tickOn}
 
 -- A step as a host takes it.
 pub data Step : Type 0 where
+  sendEnded : Telegram → Clock → Step
   heard : List ℕ → Clock → Step
   tick : Clock → Step
-  sent : Clock → Step
 
--- What the exchange answers to a step.
-abbrev pub answer : Exchange → Step → Answer Exchange
-answer x (heard line t) = heardIn x (viewed (readLine line)) t
-answer x (tick t) = tickIn x t
-answer x (sent t) = sentIn x t
+-- What is answered to a step.
+abbrev pub answer : Bench → Step → Answer Exchange
+answer b (sendEnded telegram t) = sendEndedOn b (viewed (reads telegram)) t
+answer b (heard line t) = heardOn b (viewed (readLine line)) t
+answer b (tick t) = tickOn b t
 
--- The exchange as it then stands; a refused step leaves it as it stood.
-abbrev pub stands : Exchange → Answer Exchange → Exchange
-stands x (refusal n) = x
-stands x (reads y) = y
+-- The exchange as it then stands; a refused step leaves it, or none, as it stood.
+abbrev pub stands : Bench → Answer Exchange → Bench
+stands b (refusal n) = b
+stands b (reads x) = Busy x
 
-abbrev pub next : Exchange → Step → Exchange
-next x s = stands x (answer x s)
+abbrev pub next : Bench → Step → Bench
+next b s = stands b (answer b s)
 
-unfoldable pub run : Exchange → List Step → Exchange
-run x [] = x
-run x (s ∷ h) = run (next x s) h
+unfoldable pub run : Bench → List Step → Bench
+run b [] = b
+run b (s ∷ h) = run (next b s) h
 
--- A send is made by a sent step that is accepted, and by nothing else.
-abbrev pub noted : Step → Answer Exchange → List Clock → List Clock
-noted (heard line t) a ends = ends
-noted (tick t) a ends = ends
-noted (sent t) (refusal n) ends = ends
-noted (sent t) (reads x) ends = t ∷ ends
+-- A send that was made: what was sent, and when that had ended.
+pub record Send : Type 0 where
+  pub telegram : Telegram
+  pub end : Clock
 
--- The ends of the sends made, the last one first.
-unfoldable pub sendsMade : Exchange → List Clock → List Step → List Clock
-sendsMade x ends [] = ends
-sendsMade x ends (s ∷ h) = sendsMade (next x s) (noted s (answer x s) ends) h
+-- A new exchange begins with no sends; one in progress has those made so far.
+abbrev pub madeIn : Bench → List Send → List Send
+madeIn Idle sends = []
+madeIn (Busy x) sends = sends
 
--- From a start at t: the exchange after a history, and the sends made by then, the start's included.
-abbrev pub after : Request → Clock → List Step → Exchange
-after request t h = run (begun request t) h
+-- A send is made by a send's end that is accepted, and by nothing else.
+abbrev pub noted : Bench → Step → Answer Exchange → List Send → List Send
+noted b (sendEnded telegram t) (refusal n) sends = sends
+noted b (sendEnded telegram t) (reads x) sends = record { telegram = telegram; end = t } ∷ madeIn (inProgress b) sends
+noted b (heard line t) a sends = sends
+noted b (tick t) a sends = sends
 
-abbrev pub made : Request → Clock → List Step → List Clock
-made request t h = sendsMade (begun request t) (t ∷ []) h
+-- The sends made of the exchange that there then is, the last one first.
+unfoldable pub sendsMade : Bench → List Send → List Step → List Send
+sendsMade b sends [] = sends
+sendsMade b sends (s ∷ h) = sendsMade (next b s) (noted b s (answer b s) sends) h
 
--- An exchange that has ended, well or by a cause.
-abbrev pub ended : State → Bool
-ended Waiting = false
-ended (Resend cause) = false
-ended Well = true
-ended (Failed cause) = true
+-- From none: how it stands after a history, and the sends made.
+abbrev pub after : List Step → Bench
+after h = run Idle h
+
+abbrev pub made : List Step → List Send
+made h = sendsMade Idle [] h
+
+-- Every send was one of the request.
+unfoldable pub Ask : Request → List Send → Type 0
+Ask request [] = Unit {0}
+Ask request (s ∷ sends) = (viewed (reads (s .telegram)) ≡ Asks request) × Ask request sends
 
 -- How an exchange ended well: a line was heard while a send was outstanding, it began at most 450 after that send's end, and
 -- it reads as a telegram that fits the request.
-pub record EndedWell (x : Exchange) (ends : List Clock) (h : List Step) : Type 0 where
+pub record EndedWell (b : Bench) (sends : List Send) (h : List Step) (x : Exchange) : Type 0 where
   pub before : List Step
   pub line : List ℕ
   pub at : Clock
   pub later : List Step
   pub history : h ≡ before ++ (heard line at ∷ later)
-  pub outstanding : run x before .state ≡ Waiting
-  pub send : Clock
-  pub others : List Clock
-  pub sends : sendsMade x ends before ≡ send ∷ others
-  pub not-before : send .0 ≤ at .0
-  pub in-time : at .0 ≤ send .0 + replyTime
+  pub stood : Exchange
+  pub outstanding : (run b before ≡ Busy stood) × (stood .state ≡ Waiting)
+  pub send : Send
+  pub others : List Send
+  pub last-send : sendsMade b sends before ≡ send ∷ others
+  pub not-before : send .end .0 ≤ at .0
+  pub in-time : at .0 ≤ send .end .0 + replyTime
   pub telegram : Telegram
   pub accepted : readLine line ≡ reads telegram
   pub fitting : fits (x .request) (viewed (reads telegram)) ≡ true
+  pub ends : x ≡ moved stood Well at
 
 -- What a failed send leaves, by the sends made: if it was the first or second, it asks for a resend; if it was the third, the exchange ends with
 -- that cause.
-pub record SendFails (request : Request) (start : Clock) (h : List Step) (cause : Cause) (t : Clock) (a : Answer Exchange) : Type 0 where
-  pub before-third : length (made request start h) < 3 → a ≡ reads (moved (after request start h) (Resend cause) t)
-  pub third : length (made request start h) ≡ 3 → a ≡ reads (moved (after request start h) (Failed cause) t)
+pub record SendFails (h : List Step) (x : Exchange) (cause : Cause) (t : Clock) (a : Answer Exchange) : Type 0 where
+  pub before-third : length (made h) < 3 → a ≡ reads (moved x (Resend cause) t)
+  pub third : length (made h) ≡ 3 → a ≡ reads (moved x (Failed cause) t)
+
+-- How an exchange that has ended gives way to the next: by the end of a send of a request, up to which it stayed as it was.
+pub record GivesWay (x : Exchange) (h : List Step) : Type 0 where
+  pub before : List Step
+  pub telegram : Telegram
+  pub request : Request
+  pub at : Clock
+  pub later : List Step
+  pub history : h ≡ before ++ (sendEnded telegram at ∷ later)
+  pub stayed : run (Busy x) before ≡ Busy x
+  pub asks : viewed (reads telegram) ≡ Asks request
+  pub begins : next (Busy x) (sendEnded telegram at) ≡ Busy (begun request at)

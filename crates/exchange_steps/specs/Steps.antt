@@ -1,21 +1,25 @@
--- 01, "The exchange": start and the three steps. Each takes the exchange as it stood and gives the exchange as it then stands.
+-- 01, "The exchange", and 02, 2026-09: the one way to say that a send has ended, lines and ticks. Each takes the exchange as it stood, or none, and gives
+-- the exchange as it then stands.
 use Prim.Native.Nat.{ℕ, _+_}
-use mathlib.Core.Bool.{Bool, true, false, cond, not}
-use lib.Dec.{ltb}
+use mathlib.Core.Bool.{Bool, true, false, cond, not, _&&_}
+use lib.Dec.{eqb, ltb}
 use Rattle.bench_clock.specs.declared.Clock.{Clock}
 use Rattle.bench_clock.specs.Times.{late, earlier}
 use Rattle.mbus_rules.specs.declared.Request.{Request}
+use Rattle.mbus_rules.specs.declared.Request.the-variants.{Read, Enter, Leave}
 use Rattle.mbus_rules.specs.declared.Telegram.{Telegram}
 use Rattle.mbus_rules.specs.declared.View.{View}
 use Rattle.mbus_rules.specs.declared.View.the-variants as views
-use Rattle.mbus_rules.specs.Answers.{Answer, reads, refusal, refuse}
+use Rattle.mbus_rules.specs.Answers.{Answer, reads, refusal, refuse, follow}
 use Rattle.mbus_rules.specs.Telegrams.{blank, shown}
-use Rattle.mbus_rules.specs.Views.{viewOf, viewed}
+use Rattle.mbus_rules.specs.Views.{viewed}
 use Rattle.exchange_steps.specs.declared.Cause.{Cause}
 use Rattle.exchange_steps.specs.declared.Cause.the-variants.{Silent, Damaged, WrongKind}
 use Rattle.exchange_steps.specs.declared.State.{State}
 use Rattle.exchange_steps.specs.declared.State.the-variants.{Waiting, Resend, Well, Failed}
 use Rattle.exchange_steps.specs.declared.Exchange.{Exchange}
+use Rattle.exchange_steps.specs.declared.Bench.{Bench}
+use Rattle.exchange_steps.specs.declared.Bench.the-variants.{Idle, Busy}
 use Rattle.exchange_steps.specs.declared.Stepped.{Stepped}
 use Rattle.exchange_steps.specs.declared.Stepped.the-variants.{To, Refused}
 use Rattle.exchange_steps.specs.declared.Heard.{Heard}
@@ -62,6 +66,39 @@ asksResend (Resend cause) sends = ltb sends mostSends
 asksResend Well sends = false
 asksResend (Failed cause) sends = false
 
+-- An exchange that has ended, well or by a cause.
+abbrev pub ended : State → Bool
+ended Waiting = false
+ended (Resend cause) = false
+ended Well = true
+ended (Failed cause) = true
+
+-- 02, 2026-09: an exchange that has ended counts as none.
+abbrev pub inProgress : Bench → Bench
+inProgress Idle = Idle
+inProgress (Busy x) = cond (ended (x .state)) Idle (Busy x)
+
+-- ---- which request a resend may carry
+
+-- The method counts only for an enter.
+abbrev pub sameRequest : Request → Request → Bool
+sameRequest (Read a) (Read b) = eqb a b
+sameRequest (Read a) (Enter b n) = false
+sameRequest (Read a) (Leave b) = false
+sameRequest (Enter a m) (Read b) = false
+sameRequest (Enter a m) (Enter b n) = eqb a b && eqb m n
+sameRequest (Enter a m) (Leave b) = false
+sameRequest (Leave a) (Read b) = false
+sameRequest (Leave a) (Enter b n) = false
+sameRequest (Leave a) (Leave b) = eqb a b
+
+-- 02, 2026-09: the request given with a resend must be the one the exchange was begun with; an ack and data are none.
+abbrev pub asksFor : Request → View → Bool
+asksFor request (views.Refused n) = false
+asksFor request views.Ack = false
+asksFor request (views.Asks other) = sameRequest request other
+asksFor request (views.Data answers) = false
+
 -- ---- the exchange that comes next
 
 -- A send of the request has ended at t, and it was so many sends with this one.
@@ -94,15 +131,36 @@ tickIn x t = step x t (waits (x .state)) (moved x (afterTick (x .sends) (past x 
 abbrev pub sentIn : Exchange → Clock → Answer Exchange
 sentIn x t = step x t (asksResend (x .state) (x .sends)) (sending (x .request) (x .sends + 1) t)
 
--- Start: 42 with ack or data.
+-- 02, 2026-09: a different request at a resend is 43, after 40 and 41.
+abbrev pub resentIn : Exchange → View → Clock → Answer Exchange
+resentIn x view t = follow (sentIn x t) (λ y. refuse 43 (not (asksFor (x .request) view)) (reads y))
+
+-- A new exchange: 42 with ack or data.
 abbrev pub startWith : View → Clock → Answer Exchange
 startWith (views.Refused n) t = refusal 42
 startWith views.Ack t = refusal 42
 startWith (views.Asks request) t = reads (begun request t)
 startWith (views.Data answers) t = refusal 42
 
-abbrev pub startOf : Telegram → Clock → Answer Exchange
-startOf telegram t = startWith (viewOf (telegram .kind) (telegram .address) (telegram .method)) t
+-- ---- none or an exchange
+
+-- 02, 2026-09: given no exchange in progress it begins one, given an exchange that asks for a resend it records the next send.
+abbrev pub sendEndedIn : Bench → View → Clock → Answer Exchange
+sendEndedIn Idle view t = startWith view t
+sendEndedIn (Busy x) view t = resentIn x view t
+
+-- The last time of an exchange that has ended no longer binds.
+abbrev pub sendEndedOn : Bench → View → Clock → Answer Exchange
+sendEndedOn b view t = sendEndedIn (inProgress b) view t
+
+-- Lines and ticks are not called for where there is none.
+abbrev pub heardOn : Bench → View → Clock → Answer Exchange
+heardOn Idle view t = refusal 41
+heardOn (Busy x) view t = heardIn x view t
+
+abbrev pub tickOn : Bench → Clock → Answer Exchange
+tickOn Idle t = refusal 41
+tickOn (Busy x) t = tickIn x t
 
 -- ---- what the program answers
 
@@ -124,8 +182,8 @@ endsWell (To x) = isWell (x .state)
 
 -- The whole answer for a line heard, by what reading the line answers. The reply is the telegram of the line by which the
 -- exchange ended well; where it did not, it is blank.
-abbrev pub heardOf : Exchange → Answer Telegram → Clock → Heard
-heardOf x reading t = record {
-  stepped = shownStep (heardIn x (viewed reading) t);
-  reply = cond (endsWell (shownStep (heardIn x (viewed reading) t))) (shown reading .telegram) blank;
+abbrev pub heardOf : Bench → Answer Telegram → Clock → Heard
+heardOf b reading t = record {
+  stepped = shownStep (heardOn b (viewed reading) t);
+  reply = cond (endsWell (shownStep (heardOn b (viewed reading) t))) (shown reading .telegram) blank;
 }

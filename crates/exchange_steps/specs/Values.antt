@@ -1,10 +1,22 @@
 -- 01, "Values to hold against the rules", 13.
 use Prim.Native.Nat.{ℕ}
 use mathlib.Core.List.{[], _∷_}
+use Rattle.bench_clock.specs.declared.Clock.{Clock}
 use Rattle.mbus_rules.specs.declared.Request.the-variants.{Enter}
+use Rattle.mbus_rules.specs.Telegrams.{enterOf}
 use Rattle.exchange_steps.specs.declared.State.{State}
-use Rattle.exchange_steps.specs.Histories.{heard, after}
+use Rattle.exchange_steps.specs.declared.Bench.{Bench}
+use Rattle.exchange_steps.specs.declared.Bench.the-variants.{Busy}
+use Rattle.exchange_steps.specs.Steps.{begun, moved}
+use Rattle.exchange_steps.specs.Histories.{sendEnded, heard, after}
 
--- The state after an ack that is heard so long after the send of an enter.
-abbrev pub heardAfter : ℕ → State
-heardAfter n = after (Enter 0xFE 0x90) (record { 0 = 0 }) (heard (0x1E5 ∷ []) (record { 0 = n }) ∷ []) .state
+abbrev pub clockAt : ℕ → Clock
+clockAt n = record { 0 = n }
+
+-- After the send of an enter, and an ack that is heard so long after its end.
+abbrev pub heardAfter : ℕ → Bench
+heardAfter n = after (sendEnded (enterOf 0xFE 0x90) (clockAt 0) ∷ heard (0x1E5 ∷ []) (clockAt n) ∷ [])
+
+-- The exchange of that enter, its only send made, with its last step so long after.
+abbrev pub enteredBy : State → ℕ → Bench
+enteredBy state n = Busy (moved (begun (Enter 0xFE 0x90) (clockAt 0)) state (clockAt n))

@@ -1,9 +1,12 @@
-// One exchange of document 01: a request, at most three sends of it, and how it ends.
+// The exchange of document 01: a request, at most three sends of it, and how it ends; and one after another, as 2026-09 of document 02 has it.
 ghost use mathlib.Core.Bool.{cond};
 ghost use mathlib.Core.Path.{_≡_};
+ghost use Rattle.mbus_rules.specs.Answers.{reads};
 ghost use Rattle.mbus_rules.specs.Lines.{readLine};
 ghost use Rattle.mbus_rules.specs.Telegrams.{blank};
-ghost use Rattle.exchange_steps.specs.Steps.{endsWell, heardIn, heardOf, moved, sending, sentIn, shownStep, startOf, step, tickIn};
+ghost use Rattle.mbus_rules.specs.Views.{viewed};
+ghost use Rattle.exchange_steps.specs.Steps.{endsWell, heardIn, heardOf, heardOn, inProgress, moved, resentIn, sendEndedOn, sending, sentIn, shownStep};
+ghost use Rattle.exchange_steps.specs.Steps.{startWith, step, tickIn, tickOn};
 use bench_clock::Clock;
 use mbus_reading::read_line;
 use mbus_reading::view_of;
@@ -14,11 +17,15 @@ use mbus_rules::Request;
 use mbus_rules::Telegram;
 use mbus_rules::View;
 use mbus_telegrams::plain;
+use progress::has_ended;
+use requests::asks_for;
 use states::after_line;
 use states::after_tick;
 use states::asks_resend;
 use states::waits;
 
+mod progress;
+mod requests;
 mod states;
 
 // Why a send failed: no line in time, a refused line, or an accepted line that does not fit.
@@ -51,7 +58,13 @@ pub struct Exchange {
     pub last: Clock,
 }
 
-// The exchange as it then stands, or the number by which the step is refused; the exchange is then as it was.
+// Whether there is an exchange, in progress or ended: at first there is none.
+pub enum Bench {
+    Idle,
+    Busy(Exchange),
+}
+
+// The exchange as it then stands, or the number by which the step is refused; what there was is then as it was.
 pub enum Stepped {
     To(Exchange),
     Refused(u16),
@@ -103,24 +116,19 @@ fn reply_of(reading: Reading, well: bool) -> Telegram
     none.telegram
 }
 
-impl Exchange {
-    // A request's send has ended at t. Only the telegram's kind, address and method are looked at: whether it can be written
-    // is the writer's to say.
-    pub fn start(telegram: Telegram, t: Clock) -> Stepped
-        ensures { λ r. ⌜ r ≡ shownStep (startOf telegram t) ⌝ }
-    {
-        let view = view_of(Reading {
-            outcome: Outcome::Accepted,
-            telegram,
-        });
-        match view {
-            View::Refused(_) => Stepped::Refused(42),
-            View::Ack => Stepped::Refused(42),
-            View::Asks(request) => Stepped::To(sending(request, 1, t)),
-            View::Data(_) => Stepped::Refused(42),
-        }
+// A new exchange, by what was sent.
+fn start_with(view: View, t: Clock) -> Stepped
+    ensures { λ r. ⌜ r ≡ shownStep (startWith view t) ⌝ }
+{
+    match view {
+        View::Refused(_) => Stepped::Refused(42),
+        View::Ack => Stepped::Refused(42),
+        View::Asks(request) => Stepped::To(sending(request, 1, t)),
+        View::Data(_) => Stepped::Refused(42),
     }
+}
 
+impl Exchange {
     // The exchange after a line or a tick at t.
     fn moved(self, state: State, t: Clock) -> Exchange
         ensures { λ r. ⌜ r ≡ moved self state t ⌝ }
@@ -161,6 +169,95 @@ impl Exchange {
         self.step(t, called, next)
     }
 
+    // No line has begun up to t.
+    fn tick(self, t: Clock) -> Stepped
+        ensures { λ r. ⌜ r ≡ shownStep (tickIn self t) ⌝ }
+    {
+        let stood = self.state;
+        let called = waits(stood);
+        let began = self.began;
+        let silent = began.late(t);
+        let state = after_tick(self.sends, silent);
+        let next = self.moved(state, t);
+        self.step(t, called, next)
+    }
+
+    // A resend of the request has ended at t.
+    fn sent(self, t: Clock) -> Stepped
+        ensures { λ r. ⌜ r ≡ shownStep (sentIn self t) ⌝ }
+    {
+        let request = self.request;
+        let stood = self.state;
+        let sends = self.sends;
+        let called = asks_resend(stood, sends);
+        if called {
+            let next = sending(request, sends + 1, t);
+            return self.step(t, true, next);
+        }
+        self.step(t, false, self)
+    }
+
+    // A resend of what the view is has ended at t; a different request is 43.
+    fn resent(self, view: View, t: Clock) -> Stepped
+        ensures { λ r. ⌜ r ≡ shownStep (resentIn self view t) ⌝ }
+    {
+        let request = self.request;
+        let stepped = self.sent(t);
+        let same = asks_for(request, view);
+        if same {
+            return stepped;
+        }
+        match stepped {
+            Stepped::Refused(n) => Stepped::Refused(n),
+            Stepped::To(_) => Stepped::Refused(43),
+        }
+    }
+}
+
+impl Bench {
+    // An exchange that has ended counts as none.
+    fn in_progress(self) -> Bench
+        ensures { λ r. ⌜ r ≡ inProgress self ⌝ }
+    {
+        match self {
+            Bench::Idle => Bench::Idle,
+            Bench::Busy(x) => {
+                let state = x.state;
+                let done = has_ended(state);
+                if done {
+                    return Bench::Idle;
+                }
+                Bench::Busy(x)
+            }
+        }
+    }
+
+    // A send has ended at t: it begins an exchange where none is in progress, and is the next send of one that asks for a resend. Only the
+    // telegram's kind, address and method are looked at: whether it can be written is the writer's to say.
+    pub fn send_ended(self, telegram: Telegram, t: Clock) -> Stepped
+        ensures { λ r. ⌜ r ≡ shownStep (sendEndedOn self (viewed (reads telegram)) t) ⌝ }
+    {
+        let view = view_of(Reading {
+            outcome: Outcome::Accepted,
+            telegram,
+        });
+        let bench = self.in_progress();
+        match bench {
+            Bench::Idle => start_with(view, t),
+            Bench::Busy(x) => x.resent(view, t),
+        }
+    }
+
+    // A line of this view heard at t.
+    fn seen(self, view: View, t: Clock) -> Stepped
+        ensures { λ r. ⌜ r ≡ shownStep (heardOn self view t) ⌝ }
+    {
+        match self {
+            Bench::Idle => Stepped::Refused(41),
+            Bench::Busy(x) => x.seen(view, t),
+        }
+    }
+
     // A line heard at t, the start of its first character. That time becomes the last one, so a host must not tick past the
     // window while a line that began inside it is still coming in.
     pub fn heard(self, line: &[u16], t: Clock) -> Heard
@@ -176,29 +273,11 @@ impl Exchange {
 
     // No line has begun up to t.
     pub fn tick(self, t: Clock) -> Stepped
-        ensures { λ r. ⌜ r ≡ shownStep (tickIn self t) ⌝ }
+        ensures { λ r. ⌜ r ≡ shownStep (tickOn self t) ⌝ }
     {
-        let stood = self.state;
-        let called = waits(stood);
-        let began = self.began;
-        let silent = began.late(t);
-        let state = after_tick(self.sends, silent);
-        let next = self.moved(state, t);
-        self.step(t, called, next)
-    }
-
-    // A resend of the request has ended at t.
-    pub fn sent(self, t: Clock) -> Stepped
-        ensures { λ r. ⌜ r ≡ shownStep (sentIn self t) ⌝ }
-    {
-        let request = self.request;
-        let stood = self.state;
-        let sends = self.sends;
-        let called = asks_resend(stood, sends);
-        if called {
-            let next = sending(request, sends + 1, t);
-            return self.step(t, true, next);
+        match self {
+            Bench::Idle => Stepped::Refused(41),
+            Bench::Busy(x) => x.tick(t),
         }
-        self.step(t, false, self)
     }
 }

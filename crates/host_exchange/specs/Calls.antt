@@ -1,41 +1,37 @@
--- 01, "The exchange", as C calls it: what start and the three steps answer, and what they leave in the records lent to them.
+-- 01, "The exchange", and 02, 2026-09, as C calls them: what the three steps answer, and what they leave in the records lent to them.
 use Prim.Native.Nat.{ℕ}
-use mathlib.Core.Bool.{Bool, true, false, cond}
-use mathlib.Core.List.{List}
+use mathlib.Core.Bool.{cond}
+use mathlib.Core.List.{List, [], _∷_}
 use mathlib.Core.Path.{_≡_}
 use Rattle.mbus_rules.specs.declared.Telegram.{Telegram}
 use Rattle.mbus_rules.specs.Answers.{Answer, reads, refusal, follow}
-use Rattle.mbus_rules.specs.Lines.{readLine}
 use Rattle.mbus_rules.specs.Telegrams.{bare}
-use Rattle.mbus_rules.specs.Views.{viewed}
 use Rattle.exchange_steps.specs.declared.Exchange.{Exchange}
 use Rattle.exchange_steps.specs.declared.Stepped.{Stepped}
 use Rattle.exchange_steps.specs.declared.Stepped.the-variants.{To, Refused}
-use Rattle.exchange_steps.specs.Steps.{isWell, startOf, heardIn, tickIn, sentIn}
+use Rattle.exchange_steps.specs.Steps.{isWell}
+use Rattle.exchange_steps.specs.Histories.{Step, sendEnded, heard, tick, answer}
 use Rattle.bytes_lent.specs.Lent.{Leaves, stored, needs}
 use Rattle.mbus_telegrams.specs.Kinds.{kindIn}
 use Rattle.host_records.specs.Telegrams.{telegramSize, telegramBytes}
-use Rattle.exchange_record.specs.Exchanges.{stateNumber, exchangeSize, exchangeBytes, exchangeFrom}
+use Rattle.exchange_record.specs.Exchanges.{stateNumber, exchangeBytes, benchFrom}
 
 -- ---- what each call answers
 
--- Start: 21 where the record is too short, then 42.
-abbrev pub startFor : List ℕ → ℕ → ℕ → ℕ → ℕ → Answer Exchange
-startFor out kind address method t = needs exchangeSize out (startOf (bare (kindIn kind) address method) (record { 0 = t }))
+-- A step: 101 for the record, and then what the step answers.
+abbrev pub stepFor : List ℕ → Step → Answer Exchange
+stepFor b s = follow (benchFrom b) (λ x. answer x s)
 
--- A step, a resend's end or no line begun: 101 for the record, and then what the step answers.
-abbrev pub stepFor : Bool → List ℕ → ℕ → Answer Exchange
-stepFor sent b t = follow (exchangeFrom b) (λ x. cond sent (sentIn x (record { 0 = t })) (tickIn x (record { 0 = t })))
+-- The end of a send, of a request by its kind's number with address and method.
+abbrev pub sendEndedFor : List ℕ → ℕ → ℕ → ℕ → ℕ → Answer Exchange
+sendEndedFor b kind address method t = stepFor b (sendEnded (bare (kindIn kind) address method) (record { 0 = t }))
 
 abbrev pub tickFor : List ℕ → ℕ → Answer Exchange
-tickFor b t = stepFor false b t
-
-abbrev pub sentFor : List ℕ → ℕ → Answer Exchange
-sentFor b t = stepFor true b t
+tickFor b t = stepFor b (tick (record { 0 = t }))
 
 -- A line heard: 101, then 21 where the reply's record is too short, then what the step answers.
 abbrev pub heardFor : List ℕ → List ℕ → ℕ → List ℕ → Answer Exchange
-heardFor b line t reply = follow (exchangeFrom b) (λ x. needs telegramSize reply (heardIn x (viewed (readLine line)) (record { 0 = t })))
+heardFor b line t reply = follow (benchFrom b) (λ x. needs telegramSize reply (answer x (heard line (record { 0 = t }))))
 
 -- ---- what is left
 
@@ -51,6 +47,11 @@ replied (reads x) telegram out = cond (isWell (x .state)) (stored telegramBytes 
 pub record HearsReply (a : Answer Exchange) (telegram : Telegram) (before after out then : List ℕ) (r : ℕ) : Type 0 where
   pub step : Answers a before after r
   pub reply : then ≡ replied a telegram out
+
+-- The record after calls for these steps, one after another.
+unfoldable pub recordAfter : List ℕ → List Step → List ℕ
+recordAfter b [] = b
+recordAfter b (s ∷ h) = recordAfter (stored exchangeBytes b (stepFor b s)) h
 
 -- the answer that a program's case shows
 abbrev pub answerOf : Stepped → Answer Exchange

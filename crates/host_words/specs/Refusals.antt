@@ -15,7 +15,7 @@ pub record Row : Type 0 where
 abbrev row : ℕ → String → Row
 row n s = record { number = n; words = s }
 
--- 01's words in 01's order, 02's behind them, and the library's own numbers. Where 01 joins numbers in one row, the words that they share are said again;
+-- 01's words and 02's in the order of the numbers, and the library's own. Where 01 joins numbers in one row, the words that they share are said again;
 -- ≥ and – are written in ASCII; those of the run bundle are told by its name; 21 is said of every output, a record's too.
 abbrev pub refusalTexts : List Row
 refusalTexts =
@@ -52,6 +52,7 @@ refusalTexts =
     ∷ row 40 "exchange: time earlier than the last step's"
     ∷ row 41 "exchange: step not called for in this state"
     ∷ row 42 "start with ack or data"
+    ∷ row 43 "a different request at a resend"
     ∷ row 50 "command begins less than 33 after the wake-up's end, or before it"
     ∷ row 51 "command begins more than 330 after the wake-up's end"
     ∷ row 52 "wake-up count outside 459-502"

@@ -104,7 +104,7 @@ fn say_of_lines(out: &mut [u8], number: u32) -> u32
     )
 }
 
-// The words for 30 to 42.
+// The words for 30 to 43.
 fn say_of_bundles(out: &mut [u8], number: u32) -> u32
     requires { ⌜ (30 ≤ number) × (number < 50) ⌝ }
     ensures { λ r. ⌜ Says (textOf number) (now (out .entry)) r (now (out .exit)) ⌝ }
@@ -123,7 +123,8 @@ fn say_of_bundles(out: &mut [u8], number: u32) -> u32
         bundle: no such row\n\
         exchange: time earlier than the last step's\n\
         exchange: step not called for in this state\n\
-        start with ack or data\n",
+        start with ack or data\n\
+        a different request at a resend\n",
         number - 30,
     )
 }

@@ -1,6 +1,6 @@
--- Laws about the record of an exchange.
+-- Laws about the record of an exchange, or of none.
 use Prim.Native.Nat.{ℕ, _+_, _^_, _<_}
-use mathlib.Core.Bool.{Bool, true, false, not}
+use mathlib.Core.Bool.{Bool, true, false, not, cond}
 use mathlib.Core.List.{List, [], _∷_, _++_}
 use mathlib.Core.Path.{_≡_, refl, sym, ap, _∙_}
 use native.Mathlib.Omega.{arith}
@@ -8,7 +8,7 @@ use borrow.Author.Tests.{not-false}
 use lib.ListN.{length, length-append}
 use Rattle.mbus_rules.specs.declared.Request.{Request}
 use Rattle.mbus_rules.specs.declared.Request.the-variants.{Read, Enter, Leave}
-use Rattle.mbus_rules.specs.Answers.{Answer, reads, refusal, refuse, follow}
+use Rattle.mbus_rules.specs.Answers.{Answer, reads, refusal, refuse, within, follow}
 use Rattle.mbus_rules.specs.Lists.{at}
 use Rattle.mbus_rules.proofs.Laws.Tests.{passed}
 use Rattle.exchange_steps.specs.declared.Cause.{Cause}
@@ -16,14 +16,21 @@ use Rattle.exchange_steps.specs.declared.Cause.the-variants.{Silent, Damaged, W
 use Rattle.exchange_steps.specs.declared.State.{State}
 use Rattle.exchange_steps.specs.declared.State.the-variants.{Waiting, Resend, Well, Failed}
 use Rattle.exchange_steps.specs.declared.Exchange.{Exchange}
+use Rattle.exchange_steps.specs.declared.Bench.{Bench}
+use Rattle.exchange_steps.specs.declared.Bench.the-variants.{Idle, Busy}
+use Rattle.exchange_steps.specs.declared.Stepped.{Stepped}
+use Rattle.exchange_steps.specs.declared.Stepped.the-variants as steps
+use Rattle.exchange_steps.specs.Steps.{shownStep}
 use Rattle.bytes_numbers.specs.Numbers.{bytesOf}
 use Rattle.bytes_numbers.proofs.Laws.Numbers.{number-bytes}
 use Rattle.bytes_numbers.specs.Records.{recordOf}
 use Rattle.host_records.specs.Recorded.{noRecord, recorded}
 use Rattle.host_records.proofs.Laws.Recorded.{record-read, record-written, record-same, record-differs, wrong-size}
 use Rattle.bytes_lent.specs.Same.{same}
+use Rattle.bytes_lent.proofs.Laws.Same.{same-equal, same-itself, same-not}
+use Rattle.exchange_record.specs.declared.Taken.the-variants.{Is, Refused}
 use Rattle.exchange_record.specs.Exchanges.{requestBytes, causeNumber, stateNumber, causeIn, exchangeHead, exchangeBytes, causeOfNumber, stateOf}
-use Rattle.exchange_record.specs.Exchanges.{exchangeIn, reached, exchangeFrom}
+use Rattle.exchange_record.specs.Exchanges.{exchangeIn, reached, exchangeFrom, noneBytes, benchBytes, benchFrom, shownBench}
 
 -- ---- sizes
 
@@ -128,3 +135,76 @@ module _ (b : List ℕ) {x : Exchange} {w : List ℕ} {r s : Bool} (t : x ≡ ex
 
   pub unlike : r ≡ false → exchangeFrom b ≡ refusal noRecord
   unlike y = then (record-differs exchangeBytes exchangeIn b t n e y)
+
+-- ---- none or an exchange
+
+-- no exchange's record begins with 0, so that none is told from all of them
+no-zeros : (x : Exchange) → at (exchangeBytes x) 0 ≡ 0 → ⊥
+unfolding exchangeBytes
+no-zeros x e = go (x .request) e
+  where
+    go : (r : Request) → at (recordOf (exchangeHead r (x .state) (x .sends)) (x .began .0 ∷ x .last .0 ∷ []) []) 0 ≡ 0 → ⊥
+    go (Read a) e = omega arith
+    go (Enter a m) e = omega arith
+    go (Leave a) e = omega arith
+
+not-none : (x : Exchange) → same (exchangeBytes x) noneBytes ≡ false
+not-none x = same-not (exchangeBytes x) noneBytes (λ e. no-zeros x (ap (λ (b : List ℕ). at b 0) e))
+
+-- What is written is read: of none, and of an exchange that a run reaches;
+pub none-read : benchFrom (benchBytes Idle) ≡ reads Idle
+none-read = rw (same-itself noneBytes)
+
+pub busy-read : (x : Exchange) → Fits x → reached x ≡ true → benchFrom (benchBytes (Busy x)) ≡ reads (Busy x)
+busy-read x f r = rw (not-none x, exchange-read x f r)
+
+-- and what is read was written.
+pub busy-from : (b : List ℕ) (x : Exchange) → benchFrom b ≡ reads (Busy x) → exchangeFrom b ≡ reads x
+busy-from b x e = go (same b noneBytes) (exchangeFrom b) e
+  where
+    go : (s : Bool) (a : Answer Exchange) → _≡_ {A = Answer Bench} (cond s (reads Idle) (within Busy a)) (reads (Busy x)) → a ≡ reads x
+    go true a e = cc
+    go false (refusal n) e = cc
+    go false (reads y) e = cc
+
+none-from : (b : List ℕ) → benchFrom b ≡ reads Idle → b ≡ noneBytes
+none-from b e = same-equal b noneBytes (go (same b noneBytes) (exchangeFrom b) e)
+  where
+    go : (s : Bool) (a : Answer Exchange) → _≡_ {A = Answer Bench} (cond s (reads Idle) (within Busy a)) (reads Idle) → s ≡ true
+    go true a e = refl
+    go false (refusal n) e = cc
+    go false (reads y) e = cc
+
+pub bench-written : (b : List ℕ) (w : Bench) → benchFrom b ≡ reads w → benchBytes w ≡ b
+bench-written b Idle e = sym (none-from b e)
+bench-written b (Busy x) e = exchange-written b x (busy-from b x e) .bytes
+
+pub bench-length : (w : Bench) → length (benchBytes w) ≡ 24
+bench-length Idle = refl
+bench-length (Busy x) = exchange-length x
+
+pub bench-size : (b : List ℕ) (w : Bench) → benchFrom b ≡ reads w → length b ≡ 24
+bench-size b w e = ap length (sym (bench-written b w e)) ∙ bench-length w
+
+-- as the code finds them
+module _ (b : List ℕ) {idle : Bool} (e : idle ≡ same b noneBytes) where
+  pub zeros-taken : idle ≡ true → Is Idle ≡ shownBench (benchFrom b)
+  zeros-taken y = rw (sym e ∙ y)
+
+  module _ {s : Stepped} (f : s ≡ shownStep (exchangeFrom b)) (n : idle ≡ false) where
+    others : (a : Answer Exchange) → exchangeFrom b ≡ a → benchFrom b ≡ within Busy a
+    others a q = rw (sym e ∙ n, q)
+
+    pub exchange-taken : {x : Exchange} → s ≡ steps.To x → Is (Busy x) ≡ shownBench (benchFrom b)
+    exchange-taken {x} r = go (exchangeFrom b) refl (sym f ∙ r)
+      where
+        go : (a : Answer Exchange) → exchangeFrom b ≡ a → shownStep a ≡ steps.To x → Is (Busy x) ≡ shownBench (benchFrom b)
+        go (refusal m) q r = cc
+        go (reads y) q r = let same : y ≡ x = cc in sym (ap shownBench (others (reads y) q) ∙ ap (λ (z : Exchange). Is (Busy z)) same)
+
+    pub exchange-refused : {m : ℕ} → s ≡ steps.Refused m → Refused m ≡ shownBench (benchFrom b)
+    exchange-refused {m} r = go (exchangeFrom b) refl (sym f ∙ r)
+      where
+        go : (a : Answer Exchange) → exchangeFrom b ≡ a → shownStep a ≡ steps.Refused m → Refused m ≡ shownBench (benchFrom b)
+        go (refusal k) q r = let same : k ≡ m = cc in sym (ap shownBench (others (refusal k) q) ∙ ap Refused same)
+        go (reads y) q r = cc

@@ -1,7 +1,7 @@
--- Start and every step give an exchange that is reached, so what a step writes is read back as the same exchange.
+-- Every step gives an exchange that is reached, so that its record is read back as the same exchange.
 use Prim.Native.Nat.{ℕ, _+_, _^_, _≤_, _<_}
 use mathlib.Core.Bool.{Bool, true, false, not, cond, and-eq-true-iff}
-use mathlib.Core.Path.{_≡_, refl, ap, subst}
+use mathlib.Core.Path.{_≡_, refl, ap}
 use native.Mathlib.Nat.{le-refl, le-trans}
 use native.Mathlib.Omega.{arith}
 use borrow.Author.Tests.{ltb-true, ltb-false, leb-true, lt-ltb, le-leb, eq-eqb}
@@ -9,22 +9,22 @@ use lib.Dec.{ltb, leb}
 use Rattle.bench_clock.specs.declared.Clock.{Clock}
 use Rattle.bench_clock.proofs.Laws.Times.{le-late}
 use Rattle.mbus_rules.specs.declared.Request.{Request}
-use Rattle.mbus_rules.specs.declared.Telegram.{Telegram}
 use Rattle.mbus_rules.specs.declared.View.{View}
 use Rattle.mbus_rules.specs.declared.View.the-variants as views
 use Rattle.mbus_rules.specs.Answers.{Answer, reads, refusal}
-use Rattle.mbus_rules.specs.Views.{viewOf}
 use Rattle.exchange_steps.specs.declared.Cause.{Cause}
 use Rattle.exchange_steps.specs.declared.Cause.the-variants.{Silent}
 use Rattle.exchange_steps.specs.declared.State.{State}
 use Rattle.exchange_steps.specs.declared.State.the-variants.{Resend, Well, Failed}
 use Rattle.exchange_steps.specs.declared.Exchange.{Exchange}
+use Rattle.exchange_steps.specs.declared.Bench.{Bench}
+use Rattle.exchange_steps.specs.declared.Bench.the-variants.{Idle, Busy}
 use Rattle.exchange_replies.specs.Fits.{fits}
-use Rattle.exchange_steps.specs.Steps.{mostSends, failed, causeOf, afterLine, afterTick, waits, asksResend, sending, begun, moved, past, heardIn, tickIn}
-use Rattle.exchange_steps.specs.Steps.{sentIn, startOf, startWith}
-use Rattle.exchange_steps.proofs.Laws.Steps.{asks-few, step-cases}
-use Rattle.exchange_record.specs.Exchanges.{failsBy, standsAt, reached, exchangeBytes, exchangeFrom}
-use Rattle.exchange_record.proofs.Laws.ExchangeLaws.{Fits, exchange-read}
+use Rattle.exchange_steps.specs.Steps.{mostSends, failed, causeOf, afterLine, afterTick, waits, sending, moved, past, heardOn, tickOn}
+use Rattle.exchange_steps.specs.Steps.{sendEndedOn}
+use Rattle.exchange_steps.proofs.Laws.Steps.{asks-few, step-cases, send-cases}
+use Rattle.exchange_record.specs.Exchanges.{failsBy, standsAt, reached}
+use Rattle.exchange_record.proofs.Laws.ExchangeLaws.{Fits}
 
 -- ---- the state that comes next goes with the sends and the time
 
@@ -76,7 +76,7 @@ parts x e =
 whole : (x : Exchange) → Parts x → reached x ≡ true
 whole x p = rw (lt-ltb 0 (x .sends) (p .some), le-leb (x .sends) mostSends (p .few), le-leb (x .began .0) (x .last .0) (p .in-order)) (p .stands)
 
--- ---- kept by start and every step
+-- ---- kept by every step
 
 sending-reached : (request : Request) (sends : ℕ) (t : Clock) → 0 < sends → sends ≤ mostSends → reached (sending request sends t) ≡ true
 sending-reached request sends t some few =
@@ -106,40 +106,28 @@ moved-good : (x : Exchange) (state : State) (t : Clock) → Good x → t .0 < 25
     → Good (moved x state t)
 moved-good x state t g f l s = record { fits = record { began = g .fits .began; last = f }; so = moved-reached x state t (g .so) l s }
 
-pub begun-good : (request : Request) (t : Clock) → t .0 < 256 ^ 8 → Good (begun request t)
-begun-good request t f = sending-good request 1 t f (omega arith) (omega arith)
+-- The exchange that there is, if there is one, is good.
+abbrev pub GoodBy : Bench → Type 0
+GoodBy Idle = Unit {0}
+GoodBy (Busy x) = Good x
 
-pub start-good : (telegram : Telegram) (t : Clock) → t .0 < 256 ^ 8 → Keeps (startOf telegram t)
-start-good telegram t f = go (viewOf (telegram .kind) (telegram .address) (telegram .method))
-  where
-    go : (v : View) → Keeps (startWith v t)
-    go (views.Refused n) = tt
-    go views.Ack = tt
-    go (views.Asks request) = begun-good request t f
-    go (views.Data answers) = tt
+module _ (t : Clock) (f : t .0 < 256 ^ 8) where
+  pub send-good : (b : Bench) → GoodBy b → (view : View) → Keeps (sendEndedOn b view t)
+  send-good b g view =
+      send-cases b view t Keeps (λ n. tt) (λ i request v. sending-good request 1 t f (omega arith) (omega arith))
+      (λ x i v l c. let few = asks-few (x .state) (x .sends) c in
+      sending-good (x .request) (x .sends + 1) t f (omega arith) (omega arith))
 
-module _ (x : Exchange) (g : Good x) (t : Clock) (f : t .0 < 256 ^ 8) where
-  pub heard-good : (view : View) → Keeps (heardIn x view t)
-  heard-good view =
+  pub heard-good : (b : Bench) → GoodBy b → (view : View) → Keeps (heardOn b view t)
+  heard-good Idle g view = tt
+  heard-good (Busy x) g view =
       let state : State = afterLine (x .request) (x .sends) (past x t) view in
       step-cases x t Keeps (waits (x .state)) (moved x state t) (λ n. tt)
       (λ l c. moved-good x state t g f l (line-stands (x .request) (x .sends) (past x t) view (parts x (g .so) .few)))
 
-  pub tick-good : Keeps (tickIn x t)
-  tick-good =
+  pub tick-good : (b : Bench) → GoodBy b → Keeps (tickOn b t)
+  tick-good Idle g = tt
+  tick-good (Busy x) g =
       let state : State = afterTick (x .sends) (past x t) in
       step-cases x t Keeps (waits (x .state)) (moved x state t) (λ n. tt)
       (λ l c. moved-good x state t g f l (tick-stands (x .sends) (past x t) (parts x (g .so) .few)))
-
-  pub sent-good : Keeps (sentIn x t)
-  sent-good =
-      step-cases x t Keeps (asksResend (x .state) (x .sends)) (sending (x .request) (x .sends + 1) t) (λ n. tt)
-      (λ l c. let few = asks-few (x .state) (x .sends) c in
-      sending-good (x .request) (x .sends + 1) t f (omega arith) (omega arith))
-
--- What start or a step writes is read back as the same exchange.
-pub read-back : (a : Answer Exchange) → Keeps a → (y : Exchange) → a ≡ reads y → exchangeFrom (exchangeBytes y) ≡ reads y
-read-back (refusal n) k y e = let z : _≡_ {A = ℕ} 0 1 = cc in absurd (omega arith)
-read-back (reads x) k y e =
-    let same : x ≡ y = cc in
-    subst (λ (w : Exchange). exchangeFrom (exchangeBytes w) ≡ reads w) same (exchange-read x (k .fits) (k .so))

@@ -1,4 +1,4 @@
--- `reached` is exactly what runs of steps reach: so 101 is given only for bytes that no run gives, and what a run gives is read back.
+-- `reached` is exactly what runs of steps from none reach: so 101 is given only for bytes that no run gives, and what a run gives is read back.
 use Prim.Native.Nat.{ℕ, zero, suc, _+_, _^_, _≤_, _<_}
 use mathlib.Core.Bool.{Bool, true, false, or-true, true≢false, and-eq-true-iff}
 use mathlib.Core.List.{List, [], _∷_}
@@ -15,6 +15,7 @@ use Rattle.mbus_rules.specs.declared.Request.{Request}
 use Rattle.mbus_rules.specs.declared.Request.the-variants.{Read, Enter, Leave}
 use Rattle.mbus_rules.specs.declared.Telegram.{Telegram}
 use Rattle.mbus_rules.specs.declared.Value.the-variants.{Number, Time}
+use Rattle.mbus_rules.specs.declared.View.{View}
 use Rattle.mbus_rules.specs.declared.View.the-variants as views
 use Rattle.mbus_rules.specs.declared.Entry.{Entry}
 use Rattle.mbus_rules.specs.Answers.{Answer, reads, refusal}
@@ -23,7 +24,7 @@ use Rattle.mbus_rules.specs.Lines.{readLine, readBody}
 use Rattle.mbus_rules.specs.Lists.{any, total}
 use Rattle.mbus_rules.specs.Quantities.{quantityOf, widthOf, paired}
 use Rattle.mbus_rules.proofs.Laws.RoundTrip.{write-then-read}
-use Rattle.mbus_rules.specs.Telegrams.{dataOf}
+use Rattle.mbus_rules.specs.Telegrams.{readOf, enterOf, leaveOf, dataOf}
 use Rattle.mbus_rules.specs.Views.{viewed}
 use Rattle.mbus_rules.specs.Writing.{lineOf, unwritable, repeats}
 use Rattle.exchange_steps.specs.declared.Cause.{Cause}
@@ -31,14 +32,17 @@ use Rattle.exchange_steps.specs.declared.Cause.the-variants.{Silent, Damaged, W
 use Rattle.exchange_steps.specs.declared.State.{State}
 use Rattle.exchange_steps.specs.declared.State.the-variants.{Waiting, Resend, Well, Failed}
 use Rattle.exchange_steps.specs.declared.Exchange.{Exchange}
+use Rattle.exchange_steps.specs.declared.Bench.{Bench}
+use Rattle.exchange_steps.specs.declared.Bench.the-variants.{Idle, Busy}
 use Rattle.exchange_replies.specs.Fits.{fits}
-use Rattle.exchange_steps.specs.Histories.{Step, heard, tick, sent, answer, stands, next, run, after}
+use Rattle.exchange_steps.specs.Histories.{Step, sendEnded, heard, tick, answer, stands, next, run, after}
 use Rattle.exchange_steps.proofs.Laws.Histories.{timeOf}
-use Rattle.exchange_steps.specs.Steps.{mostSends, failed, afterLine, afterTick, sending, begun, moved}
+use Rattle.exchange_steps.specs.Steps.{mostSends, failed, afterLine, afterTick, sending, begun, moved, startWith}
 use Rattle.exchange_steps.proofs.Laws.Steps.{step-taken}
-use Rattle.exchange_record.specs.Exchanges.{failsBy, standsAt, reached, exchangeBytes, exchangeFrom}
-use Rattle.exchange_record.proofs.Laws.ExchangeLaws.{exchange-read}
-use Rattle.exchange_record.proofs.Laws.Reached.{Parts, parts, Good, Keeps, begun-good, heard-good, tick-good, sent-good}
+use Rattle.exchange_steps.proofs.Laws.Theorems.{same-as-sent}
+use Rattle.exchange_record.specs.Exchanges.{failsBy, standsAt, reached, benchBytes, benchFrom}
+use Rattle.exchange_record.proofs.Laws.ExchangeLaws.{exchange-written, none-read, busy-read, busy-from}
+use Rattle.exchange_record.proofs.Laws.Reached.{Parts, parts, GoodBy, Keeps, send-good, heard-good, tick-good}
 
 -- ---- three lines: one that is refused, one that fits nothing, and one that fits the request
 
@@ -100,45 +104,68 @@ fitting-fits (Leave a) h = refl
 
 -- ---- the step that comes next
 
+requested : Request → Telegram
+requested (Read a) = readOf a
+requested (Enter a m) = enterOf a m
+requested (Leave a) = leaveOf a
+
+requested-view : (q : Request) → viewed (reads (requested q)) ≡ views.Asks q
+unfolding requested
+requested-view (Read a) = refl
+requested-view (Enter a m) = refl
+requested-view (Leave a) = refl
+
+begun-next : (q : Request) (b : Clock) → next Idle (sendEnded (requested q) b) ≡ Busy (begun q b)
+begun-next q b = ap (λ (v : View). stands Idle (startWith v b)) (requested-view q)
+
 module _ (q : Request) (n : ℕ) (b : Clock) where
+  abbrev sends : Bench
+  sends = Busy (sending q n b)
+
   -- a line or a tick while waiting, at a time that does not go back
   heard-next : (line : List ℕ) (t : Clock) → b .0 ≤ t .0
-      → next (sending q n b) (heard line t) ≡ moved (sending q n b) (afterLine q n (late (b .0) (t .0)) (viewed (readLine line))) t
-  heard-next line t h = ap (stands (sending q n b)) (step-taken (sending q n b) t true _ h refl)
+      → next sends (heard line t) ≡ Busy (moved (sending q n b) (afterLine q n (late (b .0) (t .0)) (viewed (readLine line))) t)
+  heard-next line t h = ap (stands sends) (step-taken (sending q n b) t true _ h refl)
 
-  tick-next : (t : Clock) → b .0 ≤ t .0 → next (sending q n b) (tick t) ≡ moved (sending q n b) (afterTick n (late (b .0) (t .0))) t
-  tick-next t h = ap (stands (sending q n b)) (step-taken (sending q n b) t true _ h refl)
+  tick-next : (t : Clock) → b .0 ≤ t .0 → next sends (tick t) ≡ Busy (moved (sending q n b) (afterTick n (late (b .0) (t .0))) t)
+  tick-next t h = ap (stands sends) (step-taken (sending q n b) t true _ h refl)
 
   -- a refused line and a resend, all at one time, make one send more
-  resent : (h : List Step) → n < mostSends → run (sending q n b) (heard refusedLine b ∷ sent b ∷ h) ≡ run (sending q (n + 1) b) h
+  resent : (h : List Step) → n < mostSends
+      → run sends (heard refusedLine b ∷ sendEnded (requested q) b ∷ h) ≡ run (Busy (sending q (n + 1) b)) h
   unfolding run
   resent h few =
       let more : ltb n mostSends ≡ true = lt-ltb n mostSends few in
       let inside : late (b .0) (b .0) ≡ false = le-late (b .0) (b .0) (omega arith) in
       let asks : Exchange = moved (sending q n b) (Resend Damaged) b in
-      let failed : next (sending q n b) (heard refusedLine b) ≡ asks = heard-next refusedLine b (le-refl (b .0)) ∙ rw (inside, refused-view, more) in
-      let again : next asks (sent b) ≡ sending q (n + 1) b = ap (stands asks) (step-taken asks b (ltb n mostSends) _ (le-refl (b .0)) more) in
-      ap (λ (y : Exchange). run (next y (sent b)) h) failed ∙ ap (λ (y : Exchange). run y h) again
+      let failed : next sends (heard refusedLine b) ≡ Busy asks = heard-next refusedLine b (le-refl (b .0)) ∙ rw (inside, refused-view, more) in
+      let again : next (Busy asks) (sendEnded (requested q) b) ≡ Busy (sending q (n + 1) b) =
+      ap (stands (Busy asks)) (same-as-sent asks (requested q) b refl (requested-view q)
+      ∙ step-taken asks b (ltb n mostSends) _ (le-refl (b .0)) more) in
+      ap (λ (y : Bench). run (next y (sendEnded (requested q) b)) h) failed ∙ ap (λ (y : Bench). run y h) again
 
 -- the steps up to the third send
 leads : (q : Request) (b : Clock) (n : ℕ) → 0 < n → n ≤ mostSends → (s : Step)
-    → (h : List Step) × (run (begun q b) h ≡ next (sending q n b) s)
+    → (h : List Step) × (after h ≡ next (Busy (sending q n b)) s)
 unfolding run
 leads q b zero some few s = absurd (omega arith)
-leads q b (suc zero) some few s = (s ∷ [], refl)
-leads q b (suc (suc zero)) some few s = (heard refusedLine b ∷ sent b ∷ s ∷ [], resent q 1 b (s ∷ []) (omega arith))
-leads q b (suc (suc (suc zero))) some few s = (
-  heard refusedLine b ∷ sent b ∷ heard refusedLine b ∷ sent b ∷ s ∷ [],
-  resent q 1 b (heard refusedLine b ∷ sent b ∷ s ∷ []) (omega arith)
-      ∙ resent q 2 b (s ∷ []) (omega arith),
-)
+leads q b (suc zero) some few s = (sendEnded (requested q) b ∷ s ∷ [], ap (λ (y : Bench). next y s) (begun-next q b))
+leads q b (suc (suc zero)) some few s =
+    let once : List Step = heard refusedLine b ∷ sendEnded (requested q) b ∷ s ∷ [] in
+    (sendEnded (requested q) b ∷ once, ap (λ (y : Bench). run y once) (begun-next q b) ∙ resent q 1 b (s ∷ []) (omega arith))
+leads q b (suc (suc (suc zero))) some few s =
+    let once : List Step = heard refusedLine b ∷ sendEnded (requested q) b ∷ s ∷ [] in
+    let twice : List Step = heard refusedLine b ∷ sendEnded (requested q) b ∷ once in (
+      sendEnded (requested q) b ∷ twice,
+      ap (λ (y : Bench). run y twice) (begun-next q b) ∙ resent q 1 b once (omega arith) ∙ resent q 2 b (s ∷ []) (omega arith),
+    )
 leads q b (suc (suc (suc (suc n)))) some few s = absurd (omega arith)
 
 -- ---- the step that gives a state
 
 module _ (q : Request) (a : Asked q) (n : ℕ) (b t : Clock) (h : b .0 ≤ t .0) where
   abbrev Last : State → Type 0
-  Last state = (s : Step) × (next (sending q n b) s ≡ moved (sending q n b) state t)
+  Last state = (s : Step) × (next (Busy (sending q n b)) s ≡ Busy (moved (sending q n b) state t))
 
   failing : (cause : Cause) (l : Bool) → late (b .0) (t .0) ≡ l → failsBy cause l ≡ true → Last (failed n cause)
   failing Silent true e f = (tick t, tick-next q n b t h ∙ rw e)
@@ -165,13 +192,23 @@ module _ (q : Request) (a : Asked q) (n : ℕ) (b t : Clock) (h : b .0 ≤ t .0)
       let s = failing cause (late (b .0) (t .0)) refl (both .1) in
       (s .0, s .1 ∙ rw third)
 
--- An exchange that is reached stands so after a run of steps from the start of its request.
-pub reached-by-run : (x : Exchange) → Asked (x .request) → reached x ≡ true → (t : Clock) × (h : List Step) × (after (x .request) t h ≡ x)
+-- An exchange that is reached stands so after a run of steps from none.
+reached-by-run : (x : Exchange) → Asked (x .request) → reached x ≡ true → (h : List Step) × (after h ≡ Busy x)
 reached-by-run x a r =
     let p : Parts x = parts x r in
     let s = last-step (x .request) a (x .sends) (x .began) (x .last) (p .in-order) (x .state) (p .stands) in
     let l = leads (x .request) (x .began) (x .sends) (p .some) (p .few) (s .0) in
-    (x .began, l .0, l .1 ∙ s .1)
+    (l .0, l .1 ∙ s .1)
+
+-- So does what is read from a record.
+abbrev pub AskedBy : Bench → Type 0
+AskedBy Idle = Unit {0}
+AskedBy (Busy x) = Asked (x .request)
+
+pub taken-by-run : (b : List ℕ) (w : Bench) → benchFrom b ≡ reads w → AskedBy w → (h : List Step) × (after h ≡ w)
+unfolding run
+taken-by-run b Idle e a = ([], refl)
+taken-by-run b (Busy x) e a = reached-by-run x a (exchange-written b x (busy-from b x e) .so)
 
 -- ---- and every run stays among them
 
@@ -180,23 +217,24 @@ unfoldable pub TimesFit : List Step → Type 0
 TimesFit [] = Unit {0}
 TimesFit (s ∷ h) = (timeOf s .0 < 256 ^ 8) × TimesFit h
 
-stands-good : (x : Exchange) (a : Answer Exchange) → Good x → Keeps a → Good (stands x a)
-stands-good x (refusal n) g k = g
-stands-good x (reads y) g k = k
+stands-good : (b : Bench) (a : Answer Exchange) → GoodBy b → Keeps a → GoodBy (stands b a)
+stands-good b (refusal n) g k = g
+stands-good b (reads y) g k = k
 
-next-good : (x : Exchange) (s : Step) → Good x → timeOf s .0 < 256 ^ 8 → Good (next x s)
-next-good x (heard line t) g f = stands-good x (answer x (heard line t)) g (heard-good x g t f (viewed (readLine line)))
-next-good x (tick t) g f = stands-good x (answer x (tick t)) g (tick-good x g t f)
-next-good x (sent t) g f = stands-good x (answer x (sent t)) g (sent-good x g t f)
+pub next-good : (b : Bench) (s : Step) → GoodBy b → timeOf s .0 < 256 ^ 8 → GoodBy (next b s)
+next-good b (sendEnded telegram t) g f = stands-good b (answer b (sendEnded telegram t)) g (send-good t f b g (viewed (reads telegram)))
+next-good b (heard line t) g f = stands-good b (answer b (heard line t)) g (heard-good t f b g (viewed (readLine line)))
+next-good b (tick t) g f = stands-good b (answer b (tick t)) g (tick-good t f b g)
 
-run-good : (x : Exchange) → Good x → (h : List Step) → TimesFit h → Good (run x h)
+run-good : (b : Bench) → GoodBy b → (h : List Step) → TimesFit h → GoodBy (run b h)
 unfolding run TimesFit
-run-good x g [] f = g
-run-good x g (s ∷ h) f = run-good (next x s) (next-good x s g (f .0)) h (f .1)
+run-good b g [] f = g
+run-good b g (s ∷ h) f = run-good (next b s) (next-good b s g (f .0)) h (f .1)
 
--- The record of every exchange that a run gives is read back as that exchange.
-pub run-read-back : (request : Request) (t : Clock) (h : List Step) → t .0 < 256 ^ 8 → TimesFit h
-    → exchangeFrom (exchangeBytes (after request t h)) ≡ reads (after request t h)
-run-read-back request t h f g =
-    let good : Good (after request t h) = run-good (begun request t) (begun-good request t f) h g in
-    exchange-read (after request t h) (good .fits) (good .so)
+pub good-read : (b : Bench) → GoodBy b → benchFrom (benchBytes b) ≡ reads b
+good-read Idle g = none-read
+good-read (Busy x) g = busy-read x (g .fits) (g .so)
+
+-- The record of what every run gives is read back as the same.
+pub run-read-back : (h : List Step) → TimesFit h → benchFrom (benchBytes (after h)) ≡ reads (after h)
+run-read-back h f = good-read (after h) (run-good Idle tt h f)

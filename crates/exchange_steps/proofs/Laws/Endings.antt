@@ -1,13 +1,14 @@
--- How an exchange ends: well, only by a line in time that fits; and once it has ended, it stays as it is.
-use Prim.Native.Nat.{ℕ, _+_}
+-- How an exchange ends well: only by a line in time that fits.
+use Prim.Native.Nat.{ℕ, _+_, _≤_}
 use native.Mathlib.Nat.{le-trans}
 use native.Mathlib.Omega.{arith}
 use mathlib.Core.Bool.{Bool, true, false, cond}
 use mathlib.Core.List.{List, [], _∷_}
 use mathlib.Core.Logic.{_⊎_, inl, inr, ⊎-elim}
-use mathlib.Core.Path.{_≡_, refl, ap, _∙_}
+use mathlib.Core.Path.{_≡_, refl, sym, ap, subst, _∙_}
 use lib.Dec.{ltb}
 use Rattle.bench_clock.specs.declared.Clock.{Clock}
+use Rattle.bench_clock.specs.Times.{replyTime}
 use Rattle.bench_clock.proofs.Laws.Times.{late-false}
 use Rattle.mbus_rules.specs.declared.Request.{Request}
 use Rattle.mbus_rules.specs.declared.Telegram.{Telegram}
@@ -20,11 +21,13 @@ use Rattle.exchange_steps.specs.declared.Cause.the-variants.{Silent}
 use Rattle.exchange_steps.specs.declared.State.{State}
 use Rattle.exchange_steps.specs.declared.State.the-variants.{Waiting, Resend, Well, Failed}
 use Rattle.exchange_steps.specs.declared.Exchange.{Exchange}
+use Rattle.exchange_steps.specs.declared.Bench.{Bench}
+use Rattle.exchange_steps.specs.declared.Bench.the-variants.{Idle, Busy}
 use Rattle.exchange_replies.specs.Fits.{fits}
-use Rattle.exchange_steps.specs.Steps.{mostSends, failed, causeOf, afterLine, afterTick, waits, asksResend, sending, moved, past}
-use Rattle.exchange_steps.proofs.Laws.Steps.{step-cases}
-use Rattle.exchange_steps.specs.Histories.{Step, heard, tick, sent, answer, stands, next, run, noted, sendsMade, EndedWell}
-use Rattle.exchange_steps.proofs.Laws.Kept.{Kept, kept-step}
+use Rattle.exchange_steps.specs.Steps.{mostSends, failed, causeOf, afterLine, afterTick, waits, sending, begun, moved, past}
+use Rattle.exchange_steps.proofs.Laws.Steps.{step-cases, send-cases}
+use Rattle.exchange_steps.specs.Histories.{Step, sendEnded, heard, tick, answer, stands, next, run, Send, noted, sendsMade, EndedWell}
+use Rattle.exchange_steps.proofs.Laws.Kept.{Kept, KeptBy, kept-step}
 
 -- ---- which states come next
 
@@ -60,84 +63,102 @@ fitting-reads : (request : Request) (a : Answer Telegram) → fits request (view
 fitting-reads request (refusal n) e = let z : _≡_ {A = ℕ} 0 1 = cc in absurd (omega arith)
 fitting-reads request (reads telegram) e = (telegram, refl, e)
 
+-- an exchange that waits has not ended well
+waiting-not-well : {X : Type 0} (y x : Exchange) → y .state ≡ Waiting → Busy y ≡ Busy x → x .state ≡ Well → X
+waiting-not-well y x n e w =
+    let same : y ≡ x = cc in
+    let both : Waiting ≡ Well = sym n ∙ ap (λ (z : Exchange). z .state) same ∙ w in
+    let z : _≡_ {A = ℕ} 0 1 = cc in
+    absurd (omega arith)
+
 -- ---- ending well
 
-module _ (x : Exchange) (ends : List Clock) (k : Kept x ends) where
-  abbrev Told : Step → List Step → Answer Exchange → Type 0
-  Told s h a = stands x a .state ≡ Well → (x .state ≡ Well) ⊎ EndedWell x ends (s ∷ h)
+-- what a step's answer tells of an exchange that then stands as ended well: it stood so, or the step ended it as it should
+abbrev Told : Bench → List Send → Step → List Step → Exchange → Answer Exchange → Type 0
+Told b sends s h x a = stands b a ≡ Busy x → x .state ≡ Well → (b ≡ Busy x) ⊎ EndedWell b sends (s ∷ h) x
 
-  -- a line ends an exchange well only as it should
-  by-line : (line : List ℕ) (t : Clock) (h : List Step) → Told (heard line t) h (answer x (heard line t))
+-- a line ends an exchange well only as it should
+module _ (y : Exchange) (sends : List Send) (k : Kept y sends) (line : List ℕ) (t : Clock) (h : List Step) (x : Exchange) where
+  ended-by : y .last .0 ≤ t .0 → waits (y .state) ≡ true
+      → Busy (moved y (afterLine (y .request) (y .sends) (past y t) (viewed (readLine line))) t) ≡ Busy x
+      → x .state ≡ Well → EndedWell (Busy y) sends (heard line t ∷ h) x
   unfolding run sendsMade
-  by-line line t h =
-      let view = viewed (readLine line) in
-      step-cases x t (Told (heard line t) h) (waits (x .state)) (moved x (afterLine (x .request) (x .sends) (past x t) view) t) (λ n w. inl w)
-      (λ l c w. let well = line-well (x .request) (x .sends) (past x t) view w in
-      let reading = fitting-reads (x .request) (readLine line) (well .1) in
-      inr
-      (record {
+  ended-by l c e w =
+      let state : State = afterLine (y .request) (y .sends) (past y t) (viewed (readLine line)) in
+      let same : moved y state t ≡ x = cc in
+      let ends : state ≡ Well = ap (λ (z : Exchange). z .state) same ∙ w in
+      let asked : y .request ≡ x .request = ap (λ (z : Exchange). z .request) same in
+      let well = line-well (y .request) (y .sends) (past y t) (viewed (readLine line)) ends in
+      let reading = fitting-reads (y .request) (readLine line) (well .1) in
+      record {
         before = [];
         line = line;
         at = t;
         later = h;
         history = refl;
-        outstanding = only-waiting (x .state) c;
-        send = x .began;
+        stood = y;
+        outstanding = (refl, only-waiting (y .state) c);
+        send = k .send;
         others = k .others;
-        sends = k .last-send;
-        not-before = le-trans (k .in-order) l;
-        in-time = late-false (x .began .0) (t .0) (well .0);
+        last-send = k .last-send;
+        not-before = subst (λ (z : Clock). z .0 ≤ t .0) (k .began) (le-trans (k .in-order) l);
+        in-time = subst (λ (z : Clock). t .0 ≤ z .0 + replyTime) (k .began) (late-false (y .began .0) (t .0) (well .0));
         telegram = reading .0;
         accepted = reading .1;
-        fitting = reading .2;
-      }))
+        fitting = subst (λ (q : Request). fits q (viewed (reads (reading .0))) ≡ true) asked (reading .2);
+        ends = sym same ∙ ap (λ (z : State). moved y z t) ends;
+      }
 
-  -- and no other step does
-  by-step : (s : Step) (h : List Step) → Told s h (answer x s)
-  by-step (heard line t) h = by-line line t h
-  by-step (tick t) h =
-      step-cases x t (Told (tick t) h) (waits (x .state)) (moved x (afterTick (x .sends) (past x t)) t) (λ n w. inl w)
-      (λ l c w. tick-not-well (x .sends) (past x t) w)
-  by-step (sent t) h =
-      step-cases x t (Told (sent t) h) (asksResend (x .state) (x .sends)) (sending (x .request) (x .sends + 1) t) (λ n w. inl w)
-      (λ l c w. let z : _≡_ {A = ℕ} 0 1 = cc in absurd (omega arith))
+by-line : (b : Bench) (sends : List Send) → KeptBy b sends → (line : List ℕ) (t : Clock) (h : List Step) (x : Exchange)
+    → Told b sends (heard line t) h x (answer b (heard line t))
+by-line Idle sends k line t h x = λ e w. inl e
+by-line (Busy y) sends k line t h x =
+    step-cases y t (Told (Busy y) sends (heard line t) h x) (waits (y .state)) _ (λ n e w. inl e)
+    (λ l c e w. inr (ended-by y sends k line t h x l c e w))
 
--- one step more in front; the request is the same
-earlier-step : (x : Exchange) (ends : List Clock) (s : Step) (h : List Step) → next x s .request ≡ x .request
-    → EndedWell (next x s) (noted s (answer x s) ends) h → EndedWell x ends (s ∷ h)
+-- and no other step does
+by-tick : (b : Bench) (sends : List Send) (t : Clock) (h : List Step) (x : Exchange) → Told b sends (tick t) h x (answer b (tick t))
+by-tick Idle sends t h x = λ e w. inl e
+by-tick (Busy y) sends t h x =
+    step-cases y t (Told (Busy y) sends (tick t) h x) (waits (y .state)) (moved y (afterTick (y .sends) (past y t)) t) (λ n e w. inl e)
+    (λ l c e w. let same : moved y (afterTick (y .sends) (past y t)) t ≡ x = cc in
+    tick-not-well (y .sends) (past y t) (ap (λ (z : Exchange). z .state) same ∙ w))
+
+by-step : (b : Bench) (sends : List Send) → KeptBy b sends → (s : Step) (h : List Step) (x : Exchange) → Told b sends s h x (answer b s)
+by-step b sends k (heard line t) h x = by-line b sends k line t h x
+by-step b sends k (tick t) h x = by-tick b sends t h x
+by-step b sends k (sendEnded telegram t) h x =
+    send-cases b (viewed (reads telegram)) t (Told b sends (sendEnded telegram t) h x) (λ n e w. inl e)
+    (λ i request v e w. waiting-not-well (begun request t) x refl e w)
+    (λ y i v l c e w. waiting-not-well (sending (y .request) (y .sends + 1) t) x refl e w)
+
+-- one step more in front
+earlier-step : (b : Bench) (sends : List Send) (s : Step) (h : List Step) (x : Exchange)
+    → EndedWell (next b s) (noted b s (answer b s) sends) h x → EndedWell b sends (s ∷ h) x
 unfolding run sendsMade
-earlier-step x ends s h q w = record {
+earlier-step b sends s h x w = record {
   before = s ∷ w .before;
   line = w .line;
   at = w .at;
   later = w .later;
   history = ap (λ (l : List Step). s ∷ l) (w .history);
+  stood = w .stood;
   outstanding = w .outstanding;
   send = w .send;
   others = w .others;
-  sends = w .sends;
+  last-send = w .last-send;
   not-before = w .not-before;
   in-time = w .in-time;
   telegram = w .telegram;
   accepted = w .accepted;
-  fitting = rw (← q) (w .fitting);
+  fitting = w .fitting;
+  ends = w .ends;
 }
 
--- the request stays
-request-next : (x : Exchange) (s : Step) → next x s .request ≡ x .request
-request-next x (heard line t) = step-cases x t (λ (a : Answer Exchange). stands x a .request ≡ x .request) (waits (x .state)) _ (λ n. refl) (λ l c. refl)
-request-next x (tick t) = step-cases x t (λ (a : Answer Exchange). stands x a .request ≡ x .request) (waits (x .state)) _ (λ n. refl) (λ l c. refl)
-request-next x (sent t) = step-cases x t (λ (a : Answer Exchange). stands x a .request ≡ x .request) (asksResend (x .state) (x .sends)) _ (λ n. refl)
-    (λ l c. refl)
-
-pub request-stays : (x : Exchange) (h : List Step) → run x h .request ≡ x .request
+pub ended-well : (b : Bench) (sends : List Send) → KeptBy b sends → (x : Exchange) → x .state ≡ Well → (h : List Step) → run b h ≡ Busy x
+    → (b ≡ Busy x) ⊎ EndedWell b sends h x
 unfolding run
-request-stays x [] = refl
-request-stays x (s ∷ h) = request-stays (next x s) h ∙ request-next x s
-
-pub ended-well : (x : Exchange) (ends : List Clock) → Kept x ends → (h : List Step) → run x h .state ≡ Well → (x .state ≡ Well) ⊎ EndedWell x ends h
-unfolding run
-ended-well x ends k [] w = inl w
-ended-well x ends k (s ∷ h) w =
-    ⊎-elim (by-step x ends k s h) (λ e. inr (earlier-step x ends s h (request-next x s) e))
-    (ended-well (next x s) (noted s (answer x s) ends) (kept-step x ends k s) h w)
+ended-well b sends k x w [] e = inl e
+ended-well b sends k x w (s ∷ h) e =
+    ⊎-elim (λ i. by-step b sends k s h x i w) (λ r. inr (earlier-step b sends s h x r))
+    (ended-well (next b s) (noted b s (answer b s) sends) (kept-step b sends k s) x w h e)

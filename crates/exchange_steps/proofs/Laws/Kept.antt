@@ -1,18 +1,20 @@
--- What every history keeps: the exchange's count and times are those of the sends made, and its state goes with the count.
+-- What every history keeps: the exchange's count, times and request are those of the sends made, and its state goes with the count.
 use Prim.Native.Nat.{ℕ, suc, _+_, _≤_, _<_}
 use native.Mathlib.Nat.{le-refl, le-trans}
 use native.Mathlib.Omega.{arith}
 use native.Mathlib.Numerals.{add-one}
 use mathlib.Core.Bool.{Bool, true, false}
 use mathlib.Core.List.{List, [], _∷_}
-use mathlib.Core.Path.{_≡_, refl, ap, _∙_}
+use mathlib.Core.Path.{_≡_, refl, sym, ap, subst, _∙_}
 use lib.Dec.{ltb}
 use lib.ListN.{length}
 use borrow.Author.Tests.{ltb-true, ltb-false}
 use Rattle.bench_clock.specs.declared.Clock.{Clock}
 use Rattle.mbus_rules.specs.declared.Request.{Request}
+use Rattle.mbus_rules.specs.declared.Telegram.{Telegram}
 use Rattle.mbus_rules.specs.declared.View.{View}
-use Rattle.mbus_rules.specs.Answers.{Answer}
+use Rattle.mbus_rules.specs.declared.View.the-variants.{Asks}
+use Rattle.mbus_rules.specs.Answers.{Answer, reads}
 use Rattle.mbus_rules.specs.Lines.{readLine}
 use Rattle.mbus_rules.specs.Views.{viewed}
 use Rattle.exchange_steps.specs.declared.Cause.{Cause}
@@ -20,10 +22,12 @@ use Rattle.exchange_steps.specs.declared.Cause.the-variants.{Silent}
 use Rattle.exchange_steps.specs.declared.State.{State}
 use Rattle.exchange_steps.specs.declared.State.the-variants.{Waiting, Resend, Well, Failed}
 use Rattle.exchange_steps.specs.declared.Exchange.{Exchange}
+use Rattle.exchange_steps.specs.declared.Bench.{Bench}
+use Rattle.exchange_steps.specs.declared.Bench.the-variants.{Idle, Busy}
 use Rattle.exchange_replies.specs.Fits.{fits}
-use Rattle.exchange_steps.specs.Steps.{mostSends, failed, causeOf, afterLine, afterTick, waits, asksResend, sending, begun, moved, past, step, sentIn}
-use Rattle.exchange_steps.proofs.Laws.Steps.{asks-few, by-cond, step-cases}
-use Rattle.exchange_steps.specs.Histories.{Step, heard, tick, sent, answer, stands, next, run, noted, sendsMade}
+use Rattle.exchange_steps.specs.Steps.{mostSends, failed, causeOf, afterLine, afterTick, waits, sending, begun, moved, past, step}
+use Rattle.exchange_steps.proofs.Laws.Steps.{asks-few, by-cond, step-cases, in-progress-is, send-cases}
+use Rattle.exchange_steps.specs.Histories.{Step, sendEnded, heard, tick, answer, stands, next, run, Send, madeIn, noted, sendsMade, Ask}
 
 -- ---- the state and the count
 
@@ -51,54 +55,93 @@ module _ (sends : ℕ) (few : sends ≤ mostSends) where
 
 -- ---- what is kept
 
-pub record Kept (x : Exchange) (ends : List Clock) : Type 0 where
-  pub count : x .sends ≡ length ends
+pub record Kept (x : Exchange) (sends : List Send) : Type 0 where
+  pub count : x .sends ≡ length sends
   pub few : x .sends ≤ mostSends
-  pub others : List Clock
-  pub last-send : ends ≡ x .began ∷ others
+  pub send : Send
+  pub others : List Send
+  pub last-send : sends ≡ send ∷ others
+  pub began : x .began ≡ send .end
   pub in-order : x .began .0 ≤ x .last .0
   pub agrees : Agrees (x .state) (x .sends)
+  pub asked : Ask (x .request) sends
 
-pub kept-begun : (request : Request) (t : Clock) → Kept (begun request t) (t ∷ [])
-kept-begun request t = record { count = refl; few = omega arith; others = []; last-send = refl; in-order = omega arith; agrees = tt }
+-- of an exchange; where there is none, nothing is
+abbrev pub KeptBy : Bench → List Send → Type 0
+KeptBy Idle sends = Unit {0}
+KeptBy (Busy x) sends = Kept x sends
 
-module _ (x : Exchange) (ends : List Clock) (k : Kept x ends) where
+abbrev sendOf : Telegram → Clock → Send
+sendOf telegram t = record { telegram = telegram; end = t }
+
+kept-begun : (telegram : Telegram) (request : Request) (t : Clock) → viewed (reads telegram) ≡ Asks request
+    → Kept (begun request t) (sendOf telegram t ∷ [])
+unfolding Ask
+kept-begun telegram request t v = record {
+  count = refl;
+  few = omega arith;
+  send = sendOf telegram t;
+  others = [];
+  last-send = refl;
+  began = refl;
+  in-order = le-refl (t .0);
+  agrees = tt;
+  asked = (v, tt);
+}
+
+module _ (x : Exchange) (sends : List Send) (k : Kept x sends) where
   -- a line or a tick, accepted or refused
-  kept-moved : (state : State) (t : Clock) (called : Bool) → Agrees state (x .sends) → Kept (stands x (step x t called (moved x state t))) ends
+  kept-moved : (state : State) (t : Clock) (called : Bool) → Agrees state (x .sends) → KeptBy (stands (Busy x) (step x t called (moved x state t))) sends
   kept-moved state t called g =
-      step-cases x t (λ (a : Answer Exchange). Kept (stands x a) ends) called (moved x state t) (λ n. k)
+      step-cases x t (λ (a : Answer Exchange). KeptBy (stands (Busy x) a) sends) called (moved x state t) (λ n. k)
       (λ h c. record {
         count = k .count;
         few = k .few;
+        send = k .send;
         others = k .others;
         last-send = k .last-send;
+        began = k .began;
         in-order = le-trans (k .in-order) h;
         agrees = g;
+        asked = k .asked;
       })
 
-  -- a send, accepted or refused
-  kept-sent : (t : Clock) → Kept (next x (sent t)) (noted (sent t) (sentIn x t) ends)
-  kept-sent t =
-      step-cases x t (λ (a : Answer Exchange). Kept (stands x a) (noted (sent t) a ends)) (asksResend (x .state) (x .sends))
-      (sending (x .request) (x .sends + 1) t) (λ n. k)
-      (λ h c. let fewer = asks-few (x .state) (x .sends) c in
-      record {
-        count = add-one (x .sends) ∙ ap suc (k .count);
-        few = omega arith;
-        others = ends;
-        last-send = refl;
-        in-order = le-refl (t .0);
-        agrees = tt;
-      })
+  -- a resend of the request
+  kept-resent : (telegram : Telegram) (t : Clock) → viewed (reads telegram) ≡ Asks (x .request) → x .sends < mostSends
+      → Kept (sending (x .request) (x .sends + 1) t) (sendOf telegram t ∷ sends)
+  unfolding Ask
+  kept-resent telegram t v fewer = record {
+    count = add-one (x .sends) ∙ ap suc (k .count);
+    few = omega arith;
+    send = sendOf telegram t;
+    others = sends;
+    last-send = refl;
+    began = refl;
+    in-order = le-refl (t .0);
+    agrees = tt;
+    asked = (v, k .asked);
+  }
 
-  pub kept-step : (s : Step) → Kept (next x s) (noted s (answer x s) ends)
-  kept-step (heard line t) =
-      kept-moved _ t (waits (x .state)) (line-agrees (x .sends) (k .few) (x .request) (past x t) (viewed (readLine line)))
-  kept-step (tick t) = kept-moved _ t (waits (x .state)) (tick-agrees (x .sends) (k .few) (past x t))
-  kept-step (sent t) = kept-sent t
+-- the end of a send, accepted or refused
+kept-send : (b : Bench) (sends : List Send) → KeptBy b sends → (telegram : Telegram) (t : Clock)
+    → KeptBy (next b (sendEnded telegram t)) (noted b (sendEnded telegram t) (answer b (sendEnded telegram t)) sends)
+kept-send b sends k telegram t =
+    send-cases b (viewed (reads telegram)) t (λ (a : Answer Exchange). KeptBy (stands b a) (noted b (sendEnded telegram t) a sends)) (λ n. k)
+    (λ i request v. subst (λ (c : Bench). Kept (begun request t) (sendOf telegram t ∷ madeIn c sends)) (sym i) (kept-begun telegram request t v))
+    (λ x i v l c. let stood : Kept x sends = subst (λ (c : Bench). KeptBy c sends) (in-progress-is b x i) k in
+    subst (λ (c : Bench). Kept (sending (x .request) (x .sends + 1) t) (sendOf telegram t ∷ madeIn c sends)) (sym i)
+    (kept-resent x sends stood telegram t v (asks-few (x .state) (x .sends) c)))
+
+pub kept-step : (b : Bench) (sends : List Send) → KeptBy b sends → (s : Step) → KeptBy (next b s) (noted b s (answer b s) sends)
+kept-step b sends k (sendEnded telegram t) = kept-send b sends k telegram t
+kept-step Idle sends k (heard line t) = tt
+kept-step (Busy x) sends k (heard line t) =
+    kept-moved x sends k _ t (waits (x .state)) (line-agrees (x .sends) (k .few) (x .request) (past x t) (viewed (readLine line)))
+kept-step Idle sends k (tick t) = tt
+kept-step (Busy x) sends k (tick t) = kept-moved x sends k _ t (waits (x .state)) (tick-agrees (x .sends) (k .few) (past x t))
 
 -- Every history keeps it.
-pub kept : (x : Exchange) (ends : List Clock) → Kept x ends → (h : List Step) → Kept (run x h) (sendsMade x ends h)
+pub kept : (b : Bench) (sends : List Send) → KeptBy b sends → (h : List Step) → KeptBy (run b h) (sendsMade b sends h)
 unfolding run sendsMade
-kept x ends k [] = k
-kept x ends k (s ∷ h) = kept (next x s) (noted s (answer x s) ends) (kept-step x ends k s) h
+kept b sends k [] = k
+kept b sends k (s ∷ h) = kept (next b s) (noted b s (answer b s) sends) (kept-step b sends k s) h

@@ -1,9 +1,9 @@
--- Theorems about every history of an exchange, from its start: any list of steps, those that are refused included.
+-- Theorems about every history from none: any list of steps, those that are refused included, one exchange after another.
 use Prim.Native.Nat.{ℕ, _+_, _≤_, _<_}
 use native.Mathlib.Omega.{arith}
 use mathlib.Core.Bool.{true, false}
-use mathlib.Core.List.{List, [], _∷_, _++_}
-use mathlib.Core.Logic.{⊎-elim}
+use mathlib.Core.List.{List, [], _∷_}
+use mathlib.Core.Logic.{_⊎_, inl, inr, ⊎-elim}
 use mathlib.Core.Path.{_≡_, refl, sym, ap, subst, _∙_}
 use lib.ListN.{length}
 use borrow.Author.Tests.{lt-ltb}
@@ -11,6 +11,8 @@ use Rattle.bench_clock.specs.declared.Clock.{Clock}
 use Rattle.bench_clock.specs.Times.{replyTime}
 use Rattle.mbus_rules.specs.declared.Request.{Request}
 use Rattle.mbus_rules.specs.declared.Telegram.{Telegram}
+use Rattle.mbus_rules.specs.declared.View.{View}
+use Rattle.mbus_rules.specs.declared.View.the-variants as views
 use Rattle.mbus_rules.specs.Answers.{Answer, reads, refusal}
 use Rattle.mbus_rules.specs.Lines.{readLine}
 use Rattle.mbus_rules.specs.Views.{viewed}
@@ -19,15 +21,76 @@ use Rattle.exchange_steps.specs.declared.Cause.the-variants.{Silent}
 use Rattle.exchange_steps.specs.declared.State.{State}
 use Rattle.exchange_steps.specs.declared.State.the-variants.{Waiting, Resend, Well, Failed}
 use Rattle.exchange_steps.specs.declared.Exchange.{Exchange}
+use Rattle.exchange_steps.specs.declared.Bench.{Bench}
+use Rattle.exchange_steps.specs.declared.Bench.the-variants.{Idle, Busy}
 use Rattle.exchange_replies.specs.Fits.{fits}
-use Rattle.exchange_steps.specs.Steps.{failed, causeOf, waits, asksResend, begun, moved, heardIn, heardOf}
+use Rattle.exchange_steps.specs.Steps.{failed, causeOf, waits, asksResend, ended, sending, begun, moved, sentIn}
+use Rattle.exchange_steps.specs.Steps.{resentIn, startWith, sendEndedIn, heardOn, heardOf}
 use Rattle.exchange_steps.proofs.Laws.Steps.{refusedBy, uncalled, step-taken, open-window, past-window, line-fails, late-fails, tick-fails}
-use Rattle.exchange_steps.specs.Histories.{Step, heard, tick, sent, answer, next, run, after, made, ended, EndedWell, SendFails}
-use Rattle.exchange_steps.proofs.Laws.Histories.{timeOf}
-use Rattle.exchange_steps.proofs.Laws.Kept.{Agrees, Kept, kept-begun, kept}
-use Rattle.exchange_steps.proofs.Laws.Endings.{request-stays, ended-well}
+use Rattle.exchange_steps.proofs.Laws.Steps.{asks-request, asks-another, resent-same, resent-early, resent-uncalled, resent-differs}
+use Rattle.exchange_steps.proofs.Laws.Steps.{ended-none, goes-on}
+use Rattle.exchange_steps.specs.Histories.{Step, sendEnded, heard, tick, answer, stands, next, run, after, Send, made}
+use Rattle.exchange_steps.specs.Histories.{Ask, EndedWell, SendFails, GivesWay}
+use Rattle.exchange_steps.proofs.Laws.Kept.{Agrees, Kept, KeptBy, kept}
+use Rattle.exchange_steps.proofs.Laws.Endings.{ended-well}
 
--- ---- any exchange, one step
+-- ---- one step
+
+-- A line that begins more than 450 after the send is silence, whatever line it is.
+pub late-is-silence : (x : Exchange) (t : Clock) → x .began .0 + replyTime < t .0 → (line : List ℕ) → answer (Busy x) (heard line t) ≡ answer (Busy x) (tick t)
+late-is-silence x t h line = rw (past-window x t h)
+
+-- The reply is the telegram of the line that ended the exchange well.
+pub reply-is : (b : Bench) (y : Exchange) (telegram : Telegram) (t : Clock) → heardOn b (viewed (reads telegram)) t ≡ reads y → y .state ≡ Well
+    → heardOf b (reads telegram) t .reply ≡ telegram
+reply-is b y telegram t e w = rw (e, w)
+
+-- A line that is heard while a resend is awaited changes nothing.
+pub resend-stays : (x : Exchange) (cause : Cause) → x .state ≡ Resend cause → (line : List ℕ) (t : Clock) → next (Busy x) (heard line t) ≡ Busy x
+resend-stays x cause e line t = ap (stands (Busy x)) (uncalled x t (waits (x .state)) _ (rw e))
+
+-- Given none, a send of a request begins its exchange, and anything else is 42.
+module _ (telegram : Telegram) (t : Clock) where
+  pub none-begins : (request : Request) → viewed (reads telegram) ≡ views.Asks request → answer Idle (sendEnded telegram t) ≡ reads (begun request t)
+  none-begins request v = ap (λ (w : View). startWith w t) v
+
+  pub none-refuses : ((request : Request) → viewed (reads telegram) ≡ views.Asks request → ⊥) → answer Idle (sendEnded telegram t) ≡ refusal 42
+  none-refuses other = go (viewed (reads telegram)) refl
+    where
+      go : (v : View) → viewed (reads telegram) ≡ v → answer Idle (sendEnded telegram t) ≡ refusal 42
+      go (views.Refused n) i = ap (λ (w : View). startWith w t) i
+      go views.Ack i = ap (λ (w : View). startWith w t) i
+      go (views.Asks request) i = absurd (other request i)
+      go (views.Data answers) i = ap (λ (w : View). startWith w t) i
+
+module _ (x : Exchange) (telegram : Telegram) (t : Clock) where
+  -- An exchange that has ended counts as none.
+  ended-as-none : ended (x .state) ≡ true → answer (Busy x) (sendEnded telegram t) ≡ answer Idle (sendEnded telegram t)
+  ended-as-none e = ap (λ (b : Bench). sendEndedIn b (viewed (reads telegram)) t) (ended-none x e)
+
+  pub well-as-none : x .state ≡ Well → answer (Busy x) (sendEnded telegram t) ≡ answer Idle (sendEnded telegram t)
+  well-as-none w = ended-as-none (ap ended w)
+
+  pub failed-as-none : (cause : Cause) → x .state ≡ Failed cause → answer (Busy x) (sendEnded telegram t) ≡ answer Idle (sendEnded telegram t)
+  failed-as-none cause w = ended-as-none (ap ended w)
+
+  in-hand : ended (x .state) ≡ false → answer (Busy x) (sendEnded telegram t) ≡ resentIn x (viewed (reads telegram)) t
+  in-hand e = ap (λ (b : Bench). sendEndedIn b (viewed (reads telegram)) t) (goes-on x e)
+
+  -- While one is in progress, a send of its request is the next send or is refused as such;
+  pub same-as-sent : ended (x .state) ≡ false → viewed (reads telegram) ≡ views.Asks (x .request)
+      → answer (Busy x) (sendEnded telegram t) ≡ sentIn x t
+  same-as-sent e v = in-hand e ∙ resent-same x (viewed (reads telegram)) t (asks-request (x .request) (viewed (reads telegram)) v)
+
+  -- while it waits, every send is refused, by 40 or 41;
+  pub waiting-refuses : x .state ≡ Waiting → answer (Busy x) (sendEnded telegram t) ≡ refusal (refusedBy x t)
+  waiting-refuses w = in-hand (ap ended w) ∙ resent-uncalled x (viewed (reads telegram)) t (ap (λ (s : State). asksResend s (x .sends)) w)
+
+  -- and where a resend is asked for, 40 goes before 43, whatever is sent.
+  pub resend-early : (cause : Cause) → x .state ≡ Resend cause → t .0 < x .last .0 → answer (Busy x) (sendEnded telegram t) ≡ refusal 40
+  resend-early cause w l = in-hand (ap ended w) ∙ resent-early x (viewed (reads telegram)) t l
+
+-- ---- once ended
 
 ended-waits : (s : State) → ended s ≡ true → waits s ≡ false
 ended-waits Waiting e = sym e
@@ -35,124 +98,146 @@ ended-waits (Resend cause) e = refl
 ended-waits Well e = refl
 ended-waits (Failed cause) e = refl
 
-ended-asks : (s : State) (sends : ℕ) → ended s ≡ true → asksResend s sends ≡ false
-ended-asks Waiting sends e = refl
-ended-asks (Resend cause) sends e = cc
-ended-asks Well sends e = refl
-ended-asks (Failed cause) sends e = refl
+module _ (x : Exchange) (e : ended (x .state) ≡ true) where
+  -- one step more in front that changes nothing
+  abbrev Stays : List Step → Type 0
+  Stays h = (run (Busy x) h ≡ Busy x) ⊎ GivesWay x h
 
--- Once ended, an exchange refuses every step.
-pub ended-refuses : (x : Exchange) → ended (x .state) ≡ true → (s : Step) → answer x s ≡ refusal (refusedBy x (timeOf s))
-ended-refuses x e (heard line t) = uncalled x t (waits (x .state)) _ (ended-waits (x .state) e)
-ended-refuses x e (tick t) = uncalled x t (waits (x .state)) _ (ended-waits (x .state) e)
-ended-refuses x e (sent t) = uncalled x t (asksResend (x .state) (x .sends)) _ (ended-asks (x .state) (x .sends) e)
+  later : (s : Step) (h : List Step) → next (Busy x) s ≡ Busy x → Stays h → Stays (s ∷ h)
+  unfolding run
+  later s h q (inl r) = inl (ap (λ (b : Bench). run b h) q ∙ r)
+  later s h q (inr g) =
+      inr
+      (record {
+        before = s ∷ g .before;
+        telegram = g .telegram;
+        request = g .request;
+        at = g .at;
+        later = g .later;
+        history = ap (λ (l : List Step). s ∷ l) (g .history);
+        stayed = ap (λ (b : Bench). run b (g .before)) q ∙ g .stayed;
+        asks = g .asks;
+        begins = g .begins;
+      })
 
--- A line that is heard while a resend is awaited is refused.
-pub resend-refuses : (x : Exchange) (cause : Cause) → x .state ≡ Resend cause → (line : List ℕ) (t : Clock)
-    → answer x (heard line t) ≡ refusal (refusedBy x t)
-resend-refuses x cause e line t = uncalled x t (waits (x .state)) _ (rw e)
+  -- the end of a send
+  module _ (telegram : Telegram) (t : Clock) (h : List Step) (rest : Stays h) where
+    told : (v : View) → viewed (reads telegram) ≡ v → next (Busy x) (sendEnded telegram t) ≡ stands (Busy x) (startWith v t)
+    told v i = ap (stands (Busy x)) (ended-as-none x telegram t e ∙ ap (λ (w : View). startWith w t) i)
 
--- A line that begins more than 450 after the send is silence, whatever line it is.
-pub late-is-silence : (x : Exchange) (t : Clock) → x .began .0 + replyTime < t .0 → (line : List ℕ) → answer x (heard line t) ≡ answer x (tick t)
-late-is-silence x t h line = rw (past-window x t h)
+    after-send : (v : View) → viewed (reads telegram) ≡ v → Stays (sendEnded telegram t ∷ h)
+    unfolding run
+    after-send (views.Refused n) i = later (sendEnded telegram t) h (told (views.Refused n) i) rest
+    after-send views.Ack i = later (sendEnded telegram t) h (told views.Ack i) rest
+    after-send (views.Data answers) i = later (sendEnded telegram t) h (told (views.Data answers) i) rest
+    after-send (views.Asks request) i =
+        inr
+        (record {
+          before = [];
+          telegram = telegram;
+          request = request;
+          at = t;
+          later = h;
+          history = refl;
+          stayed = refl;
+          asks = i;
+          begins = told (views.Asks request) i;
+        })
 
--- The reply is the telegram of the line that ended the exchange well.
-pub reply-is : (x y : Exchange) (telegram : Telegram) (t : Clock) → heardIn x (viewed (reads telegram)) t ≡ reads y → y .state ≡ Well
-    → heardOf x (reads telegram) t .reply ≡ telegram
-reply-is x y telegram t e w = rw (e, w)
+  -- It refuses every line and tick, by 40 or 41.
+  pub ended-refuses : (line : List ℕ) (t : Clock)
+      → (answer (Busy x) (heard line t) ≡ refusal (refusedBy x t)) × (answer (Busy x) (tick t) ≡ refusal (refusedBy x t))
+  ended-refuses line t =
+      let over = ended-waits (x .state) e in (uncalled x t (waits (x .state)) _ over, uncalled x t (waits (x .state)) _ over)
+
+  -- It stays as it is, until a send of a request ends: that begins the next exchange.
+  pub ended-stays : (h : List Step) → Stays h
+  unfolding run
+  ended-stays [] = inl refl
+  ended-stays (heard line t ∷ h) = later (heard line t) h (ap (stands (Busy x)) (ended-refuses line t .0)) (ended-stays h)
+  ended-stays (tick t ∷ h) = later (tick t) h (ap (stands (Busy x)) (ended-refuses [] t .1)) (ended-stays h)
+  ended-stays (sendEnded telegram t ∷ h) = after-send telegram t h (ended-stays h) (viewed (reads telegram)) refl
 
 -- ---- any history
 
-run-join : (x : Exchange) (h k : List Step) → run x (h ++ k) ≡ run (run x h) k
-unfolding run
-run-join x [] k = refl
-run-join x (s ∷ h) k = run-join (next x s) h k
-
-ended-run : (x : Exchange) → ended (x .state) ≡ true → (h : List Step) → run x h ≡ x
-unfolding run
-ended-run x e [] = refl
-ended-run x e (s ∷ h) = rw (ended-refuses x e s) (ended-run x e h)
-
-module _ (request : Request) (start : Clock) (h : List Step) where
-  all : Kept (after request start h) (made request start h)
-  all = kept (begun request start) (start ∷ []) (kept-begun request start) h
+module _ (h : List Step) (x : Exchange) (e : after h ≡ Busy x) where
+  all : Kept x (made h)
+  all = subst (λ (b : Bench). KeptBy b (made h)) e (kept Idle [] tt h)
 
   -- The send count that it reports is exactly the sends made,
-  pub sends-reported : after request start h .sends ≡ length (made request start h)
+  pub sends-reported : x .sends ≡ length (made h)
   sends-reported = all .count
 
   -- never more than three,
-  pub three-sends : length (made request start h) ≤ 3
+  pub three-sends : length (made h) ≤ 3
   three-sends = subst (λ (n : ℕ). n ≤ 3) (all .count) (all .few)
 
+  -- all of its request,
+  pub one-request : Ask (x .request) (made h)
+  one-request = all .asked
+
   -- and the time that it reports is the end of the last of them.
-  pub last-reported : (others : List Clock) × (made request start h ≡ after request start h .began ∷ others)
-  last-reported = (all .others, all .last-send)
+  pub last-reported : (send : Send) (others : List Send) → made h ≡ send ∷ others → x .began ≡ send .end
+  last-reported send others m = all .began ∙ ap (λ (s : Send). s .end) same
+    where
+      same : all .send ≡ send
+      same = cc (all .last-send)
 
   -- It asks for a resend only after less than three sends, and it fails only after three.
-  pub asks-again : (cause : Cause) → after request start h .state ≡ Resend cause → length (made request start h) < 3
-  asks-again cause e = rw (← all .count) (subst (λ (s : State). Agrees s (after request start h .sends)) e (all .agrees))
+  pub asks-again : (cause : Cause) → x .state ≡ Resend cause → length (made h) < 3
+  asks-again cause w = subst (λ (n : ℕ). n < 3) (all .count) (subst (λ (s : State). Agrees s (x .sends)) w (all .agrees))
 
-  pub fails-last : (cause : Cause) → after request start h .state ≡ Failed cause → length (made request start h) ≡ 3
-  fails-last cause e = rw (← all .count) (subst (λ (s : State). Agrees s (after request start h .sends)) e (all .agrees))
+  pub fails-last : (cause : Cause) → x .state ≡ Failed cause → length (made h) ≡ 3
+  fails-last cause w = subst (λ (n : ℕ). n ≡ 3) (all .count) (subst (λ (s : State). Agrees s (x .sends)) w (all .agrees))
 
   -- It ends well only by a line that was heard while a send was outstanding, in that send's window, and that fits.
-  pub ends-well : after request start h .state ≡ Well → EndedWell (begun request start) (start ∷ []) h
-  ends-well w =
-      ⊎-elim (λ e. let z : _≡_ {A = ℕ} 0 1 = cc in absurd (omega arith)) (λ e. e)
-      (ended-well (begun request start) (start ∷ []) (kept-begun request start) h w)
+  pub ends-well : x .state ≡ Well → EndedWell Idle [] h x
+  ends-well w = ⊎-elim (λ i. let z : _≡_ {A = ℕ} 0 1 = cc in absurd (omega arith)) (λ r. r) (ended-well Idle [] tt x w h e)
 
   -- And by every such line it does, whichever send is outstanding.
-  pub takes-reply : (send : Clock) (others : List Clock) (line : List ℕ) (t : Clock) (telegram : Telegram)
-      → after request start h .state ≡ Waiting
-      → made request start h ≡ send ∷ others
-      → after request start h .last .0 ≤ t .0
-      → t .0 ≤ send .0 + replyTime
+  pub takes-reply : (send : Send) (others : List Send) (line : List ℕ) (t : Clock) (telegram : Telegram)
+      → x .state ≡ Waiting
+      → made h ≡ send ∷ others
+      → x .last .0 ≤ t .0
+      → t .0 ≤ send .end .0 + replyTime
       → readLine line ≡ reads telegram
-      → fits request (viewed (reads telegram)) ≡ true
-      → answer (after request start h) (heard line t) ≡ reads (moved (after request start h) Well t)
+      → fits (x .request) (viewed (reads telegram)) ≡ true
+      → answer (Busy x) (heard line t) ≡ reads (moved x Well t)
   takes-reply send others line t telegram w m l i r f =
-      let x = after request start h in
-      let same : x .began ≡ send = cc (all .last-send) in
-      let fit : fits (x .request) (viewed (reads telegram)) ≡ true = rw (request-stays (begun request start) h) f in
-      rw (r, open-window x t (rw same i), fit) (step-taken x t (waits (x .state)) (moved x Well t) l (rw w))
+      rw (r, open-window x t (rw (last-reported send others m) i), f) (step-taken x t (waits (x .state)) (moved x Well t) l (rw w))
 
   -- A send that fails asks for a resend, or, as the third, ends the exchange with its cause.
-  sends-fail : (cause : Cause) (t : Clock) (a : Answer Exchange)
-      → a ≡ reads (moved (after request start h) (failed (after request start h .sends) cause) t) → SendFails request start h cause t a
-  sends-fail cause t a e = record {
-    before-third = λ l. e ∙ ap (λ (s : State). reads (moved (after request start h) s t)) (rw (all .count, lt-ltb (length (made request start h)) 3 l));
-    third = λ q. e ∙ ap (λ (s : State). reads (moved (after request start h) s t)) (rw (all .count, q));
+  sends-fail : (cause : Cause) (t : Clock) (a : Answer Exchange) → a ≡ reads (moved x (failed (x .sends) cause) t) → SendFails h x cause t a
+  sends-fail cause t a q = record {
+    before-third = λ l. q ∙ ap (λ (s : State). reads (moved x s t)) (rw (all .count, lt-ltb (length (made h)) 3 l));
+    third = λ n. q ∙ ap (λ (s : State). reads (moved x s t)) (rw (all .count, n));
   }
 
-  module _ (send : Clock) (others : List Clock) (t : Clock) (w : after request start h .state ≡ Waiting) (m : made request start h ≡ send ∷ others)
-      (l : after request start h .last .0 ≤ t .0) where
-    same-send : after request start h .began ≡ send
-    same-send = cc (all .last-send)
-
+  module _ (send : Send) (others : List Send) (t : Clock) (w : x .state ≡ Waiting) (m : made h ≡ send ∷ others) (l : x .last .0 ≤ t .0) where
     -- It fails by a line in time that does not fit: damaged, or of the wrong kind;
-    pub fails-by-line : (line : List ℕ) → t .0 ≤ send .0 + replyTime → fits request (viewed (readLine line)) ≡ false
-        → SendFails request start h (causeOf (viewed (readLine line))) t (answer (after request start h) (heard line t))
+    pub fails-by-line : (line : List ℕ) → t .0 ≤ send .end .0 + replyTime → fits (x .request) (viewed (readLine line)) ≡ false
+        → SendFails h x (causeOf (viewed (readLine line))) t (answer (Busy x) (heard line t))
     fails-by-line line i f =
-        sends-fail (causeOf (viewed (readLine line))) t _
-        (line-fails (after request start h) (viewed (readLine line)) t w l (rw same-send i) (rw (request-stays (begun request start) h) f))
+        sends-fail (causeOf (viewed (readLine line))) t _ (line-fails x (viewed (readLine line)) t w l (rw (last-reported send others m) i) f)
 
     -- and past the window by every line and every tick, as silence.
-    pub fails-by-silence : (line : List ℕ) → send .0 + replyTime < t .0
-        → SendFails request start h Silent t (answer (after request start h) (heard line t))
-        × SendFails request start h Silent t (answer (after request start h) (tick t))
+    pub fails-by-silence : (line : List ℕ) → send .end .0 + replyTime < t .0
+        → SendFails h x Silent t (answer (Busy x) (heard line t)) × SendFails h x Silent t (answer (Busy x) (tick t))
     fails-by-silence line i = (
-      sends-fail Silent t _ (late-fails (after request start h) (viewed (readLine line)) t w l (rw same-send i)),
-      sends-fail Silent t _ (tick-fails (after request start h) t w l (rw same-send i)),
+      sends-fail Silent t _ (late-fails x (viewed (readLine line)) t w l (rw (last-reported send others m) i)),
+      sends-fail Silent t _ (tick-fails x t w l (rw (last-reported send others m) i)),
     )
 
-  -- Once ended, it stays as it is.
-  pub ended-stays : ended (after request start h .state) ≡ true → (k : List Step) → after request start (h ++ k) ≡ after request start h
-  ended-stays e k = run-join (begun request start) h k ∙ ended-run (after request start h) e k
+  -- Where a resend is asked for, the end of a send of the request is the next send, and of anything else it is 43.
+  module _ (cause : Cause) (w : x .state ≡ Resend cause) (telegram : Telegram) (t : Clock) (l : x .last .0 ≤ t .0) where
+    called : asksResend (x .state) (x .sends) ≡ true
+    called = rw (w, all .count) (lt-ltb (length (made h)) 3 (asks-again cause w))
 
-  -- A line that is heard while a resend is awaited changes nothing.
-  pub resend-stays : (cause : Cause) → after request start h .state ≡ Resend cause → (line : List ℕ) (t : Clock)
-      → after request start (h ++ (heard line t ∷ [])) ≡ after request start h
-  unfolding run
-  resend-stays cause e line t =
-      run-join (begun request start) h (heard line t ∷ []) ∙ rw (resend-refuses (after request start h) cause e line t)
+    pub resend-recorded : viewed (reads telegram) ≡ views.Asks (x .request)
+        → answer (Busy x) (sendEnded telegram t) ≡ reads (sending (x .request) (x .sends + 1) t)
+    resend-recorded v = same-as-sent x telegram t (ap ended w) v ∙ step-taken x t (asksResend (x .state) (x .sends)) _ l called
+
+    pub another-refused : (viewed (reads telegram) ≡ views.Asks (x .request) → ⊥) → answer (Busy x) (sendEnded telegram t) ≡ refusal 43
+    another-refused v =
+        in-hand x telegram t (ap ended w)
+        ∙ resent-differs x (viewed (reads telegram)) t (asks-another (x .request) (viewed (reads telegram)) v) l called

@@ -9,29 +9,31 @@ use lib.Dec.{eqb, ltb}
 use lib.ListN.{length}
 use Rattle.bench_clock.specs.declared.Clock.{Clock}
 use Rattle.mbus_rules.specs.declared.Kind.{Kind}
-use Rattle.mbus_rules.specs.declared.Reading.{Reading}
 use Rattle.mbus_rules.specs.declared.Telegram.{Telegram}
-use Rattle.mbus_rules.specs.Answers.{Answer, reads, refusal, follow}
+use Rattle.mbus_rules.specs.Answers.{Answer, reads, refusal}
 use Rattle.mbus_rules.specs.Lines.{readLine}
 use Rattle.mbus_rules.specs.Lists.{at}
 use Rattle.mbus_rules.specs.Telegrams.{bare, blank, shown}
-use Rattle.mbus_rules.specs.Views.{viewed}
 use Rattle.exchange_steps.specs.declared.State.{State}
 use Rattle.exchange_steps.specs.declared.State.the-variants.{Waiting, Resend, Well, Failed}
 use Rattle.exchange_steps.specs.declared.Exchange.{Exchange}
+use Rattle.exchange_steps.specs.declared.Bench.{Bench}
 use Rattle.exchange_steps.specs.declared.Heard.{Heard}
 use Rattle.exchange_steps.specs.declared.Stepped.{Stepped}
 use Rattle.exchange_steps.specs.declared.Stepped.the-variants.{To, Refused}
-use Rattle.exchange_steps.specs.Steps.{shownStep, isWell, endsWell, startOf, heardIn, heardOf}
+use Rattle.exchange_steps.specs.Steps.{shownStep, isWell, endsWell, heardOf}
+use Rattle.exchange_steps.specs.Histories.{Step, sendEnded, heard, answer}
 use Rattle.bytes_lent.proofs.Laws.Copying.{laid-length}
 use Rattle.bytes_lent.specs.Copying.{copied}
 use Rattle.bytes_lent.specs.Lent.{told, stored}
 use Rattle.bytes_lent.proofs.Laws.LentLaws.{all-copied, leaves-all, leaves-copied}
 use Rattle.mbus_telegrams.specs.Kinds.{kindIn}
 use Rattle.host_records.specs.Telegrams.{telegramSize, telegramBytes}
-use Rattle.exchange_record.specs.Exchanges.{stateNumber, exchangeSize, exchangeBytes, exchangeFrom}
-use Rattle.exchange_record.proofs.Laws.ExchangeLaws.{exchange-length, exchange-size, state-told}
-use Rattle.host_exchange.specs.Calls.{startFor, heardFor, Answers, replied, HearsReply, answerOf}
+use Rattle.exchange_record.specs.declared.Taken.{Taken}
+use Rattle.exchange_record.specs.declared.Taken.the-variants as taken
+use Rattle.exchange_record.specs.Exchanges.{stateNumber, exchangeSize, exchangeBytes, benchFrom, shownBench}
+use Rattle.exchange_record.proofs.Laws.ExchangeLaws.{exchange-length, bench-size, state-told}
+use Rattle.host_exchange.specs.Calls.{stepFor, sendEndedFor, heardFor, Answers, replied, HearsReply, answerOf}
 
 pub answer-shown : (a : Answer Exchange) → answerOf (shownStep a) ≡ a
 answer-shown (refusal n) = refl
@@ -71,34 +73,42 @@ kept-length {a} {before} {after} h k = ap length (k .left) ∙ go a
     go (refusal n) = refl
     go (reads x) = laid-length before (exchangeBytes x) 0 (omega (arith, exchange-length x))
 
+-- what the record was read as
+refused-from : (b : List ℕ) {s : Taken} {n : ℕ} → s ≡ shownBench (benchFrom b) → s ≡ taken.Refused n → benchFrom b ≡ refusal n
+refused-from b {s} {n} e f = go (benchFrom b) (sym e ∙ f)
+  where
+    go : (a : Answer Bench) → shownBench a ≡ taken.Refused n → a ≡ refusal n
+    go (refusal m) q = cc
+    go (reads x) q = cc
+
+read-from : (b : List ℕ) {s : Taken} {x : Bench} → s ≡ shownBench (benchFrom b) → s ≡ taken.Is x → benchFrom b ≡ reads x
+read-from b {s} {x} e f = go (benchFrom b) (sym e ∙ f)
+  where
+    go : (a : Answer Bench) → shownBench a ≡ taken.Is x → a ≡ reads x
+    go (refusal m) q = cc
+    go (reads y) q = cc
+
 -- a record that is read has its size
-pub room-read : (b : List ℕ) {s : Stepped} {x : Exchange} → s ≡ shownStep (exchangeFrom b) → s ≡ To x → exchangeSize ≤ length b
-room-read b {s} {x} e f =
-    let a : exchangeFrom b ≡ reads x = sym (shown-as (exchangeFrom b) s e) ∙ ap answerOf f in
-    omega (arith, exchange-size b x a)
+pub room-read : (b : List ℕ) {s : Taken} {x : Bench} → s ≡ shownBench (benchFrom b) → s ≡ taken.Is x → exchangeSize ≤ length b
+room-read b {s} {x} e f = omega (arith, bench-size b x (read-from b e f))
 
 -- a step on a record that is refused, and on one that is read
-module _ (b : List ℕ) {s : Stepped} (e : s ≡ shownStep (exchangeFrom b)) (step : Exchange → Answer Exchange) where
-  pub not-read : {n : ℕ} → s ≡ Refused n → Answers (follow (exchangeFrom b) step) b b (256 + n)
-  not-read {n} f =
-      let a : exchangeFrom b ≡ refusal n = sym (shown-as (exchangeFrom b) s e) ∙ ap answerOf f in
-      rw a (record { answer = refl; left = refl })
+module _ (b : List ℕ) (step : Step) {s : Taken} (e : s ≡ shownBench (benchFrom b)) where
+  pub not-read : {n : ℕ} → s ≡ taken.Refused n → Answers (stepFor b step) b b (256 + n)
+  not-read {n} f = rw (refused-from b e f) (record { answer = refl; left = refl })
 
-  pub was-read : {x : Exchange} {u : Stepped} {after : List ℕ} {r : ℕ} → s ≡ To x → u ≡ shownStep (step x) → Answers (answerOf u) b after r
-      → Answers (follow (exchangeFrom b) step) b after r
-  was-read {x} {u} f g k =
-      let a : exchangeFrom b ≡ reads x = sym (shown-as (exchangeFrom b) s e) ∙ ap answerOf f in
-      rw (a, ← shown-as (step x) u g) k
+  pub was-read : {x : Bench} {u : Stepped} {after : List ℕ} {r : ℕ} → s ≡ taken.Is x → u ≡ shownStep (answer x step) → Answers (answerOf u) b after r
+      → Answers (stepFor b step) b after r
+  was-read {x} {u} f g k = rw (read-from b e f, ← shown-as (answer x step) u g) k
 
-pub start-kept : (out : List ℕ) (kind address method t : ℕ) {k : Kind} {request : Reading} {s : Stepped} {after : List ℕ} {r : ℕ}
-    → ltb (length out) exchangeSize ≡ false
-    → k ≡ kindIn kind → request ≡ shown (reads (bare k address method)) → s ≡ shownStep (startOf (request .telegram) (record { 0 = t }))
-    → Answers (answerOf s) out after r → Answers (startFor out kind address method t) out after r
-start-kept out kind address method t {k} {request} {s} h e f g n =
-    let whole : request ≡ shown (reads (bare (kindIn kind) address method)) = f ∙ ap (λ (q : Kind). shown (reads (bare q address method))) e in
-    let answer : answerOf s ≡ startOf (bare (kindIn kind) address method) (record { 0 = t }) =
-    shown-as (startOf (request .telegram) (record { 0 = t })) s g ∙ ap (λ (q : Reading). startOf (q .telegram) (record { 0 = t })) whole in
-    rw (h, ← answer) n
+-- the end of a send, by the telegram that was made for it
+pub send-was-read : (b : List ℕ) (kind address method t : ℕ) {s : Taken} → s ≡ shownBench (benchFrom b)
+    → {x : Bench} {k : Kind} {m : Telegram} {u : Stepped} {after : List ℕ} {r : ℕ} → s ≡ taken.Is x → k ≡ kindIn kind → m ≡ bare k address method
+    → u ≡ shownStep (answer x (sendEnded m (record { 0 = t }))) → Answers (answerOf u) b after r → Answers (sendEndedFor b kind address method t) b after r
+send-was-read b kind address method t e {x} {k} {m} {u} i made sent g kept =
+    let whole : m ≡ bare (kindIn kind) address method = sent ∙ ap (λ (q : Kind). bare q address method) made in
+    was-read b (sendEnded (bare (kindIn kind) address method) (record { 0 = t })) e i
+    (g ∙ ap (λ (q : Telegram). shownStep (answer x (sendEnded q (record { 0 = t })))) whole) kept
 
 -- the two ways out of keeping what a line gave
 module _ {a : Answer Exchange} {telegram : Telegram} {before after out : List ℕ} {r : ℕ} (k : Answers a before after r) where
@@ -128,37 +138,31 @@ replied-well (reads x) u v out = go (isWell (x .state))
     go true = refl
     go false = refl
 
--- a line on an exchange, by what keeping the answer left
-pub heard-line : (x : Exchange) (line : List ℕ) (t : Clock) {h : Heard} {b after out then : List ℕ} {r : ℕ} → h ≡ heardOf x (readLine line) t
+-- a line, by what keeping the answer left
+pub heard-line : (x : Bench) (line : List ℕ) (t : Clock) {h : Heard} {b after out then : List ℕ} {r : ℕ} → h ≡ heardOf x (readLine line) t
     → HearsReply (answerOf (h .stepped)) (h .reply) b after out then r
-    → HearsReply (heardIn x (viewed (readLine line)) t) (shown (readLine line) .telegram) b after out then r
+    → HearsReply (answer x (heard line t)) (shown (readLine line) .telegram) b after out then r
 heard-line x line t {h} {b} {after} {out} {then} {r} g k =
-    let next : Answer Exchange = heardIn x (viewed (readLine line)) t in
-    let answer : answerOf (h .stepped) ≡ next = shown-as next (h .stepped) (ap (λ (q : Heard). q .stepped) g) in
+    let next : Answer Exchange = answer x (heard line t) in
+    let said : answerOf (h .stepped) ≡ next = shown-as next (h .stepped) (ap (λ (q : Heard). q .stepped) g) in
     let reply : h .reply ≡ cond (endsWell (shownStep next)) (shown (readLine line) .telegram) blank = ap (λ (q : Heard). q .reply) g in
     record {
-      step = subst (λ (q : Answer Exchange). Answers q b after r) answer (k .step);
-      reply = k .reply ∙ ap₂ (λ (q : Answer Exchange) (w : Telegram). replied q w out) answer reply
+      step = subst (λ (q : Answer Exchange). Answers q b after r) said (k .step);
+      reply = k .reply ∙ ap₂ (λ (q : Answer Exchange) (w : Telegram). replied q w out) said reply
           ∙ replied-well next (shown (readLine line) .telegram) blank out;
     }
 
 -- a line on a record that is refused, with a reply's record that is too short, and with one that is not
-module _ (b line : List ℕ) (t : ℕ) (out : List ℕ) {s : Stepped} (e : s ≡ shownStep (exchangeFrom b)) where
+module _ (b line : List ℕ) (t : ℕ) (out : List ℕ) {s : Taken} (e : s ≡ shownBench (benchFrom b)) where
   abbrev Told : List ℕ → List ℕ → ℕ → Type 0
   Told after then r = HearsReply (heardFor b line t out) (shown (readLine line) .telegram) b after out then r
 
-  pub hears-none : {n : ℕ} → s ≡ Refused n → Told b out (256 + n)
-  hears-none {n} f =
-      let a : exchangeFrom b ≡ refusal n = sym (shown-as (exchangeFrom b) s e) ∙ ap answerOf f in
-      rw a (record { step = record { answer = refl; left = refl }; reply = refl })
+  pub hears-none : {n : ℕ} → s ≡ taken.Refused n → Told b out (256 + n)
+  hears-none {n} f = rw (refused-from b e f) (record { step = record { answer = refl; left = refl }; reply = refl })
 
-  pub hears-short : {x : Exchange} → s ≡ To x → ltb (length out) telegramSize ≡ true → Told b out (256 + 21)
-  hears-short {x} f h =
-      let a : exchangeFrom b ≡ reads x = sym (shown-as (exchangeFrom b) s e) ∙ ap answerOf f in
-      rw (a, h) (record { step = record { answer = refl; left = refl }; reply = refl })
+  pub hears-short : {x : Bench} → s ≡ taken.Is x → ltb (length out) telegramSize ≡ true → Told b out (256 + 21)
+  hears-short {x} f h = rw (read-from b e f, h) (record { step = record { answer = refl; left = refl }; reply = refl })
 
-  pub hears-line : {x : Exchange} {after then : List ℕ} {r : ℕ} → s ≡ To x → ltb (length out) telegramSize ≡ false
-      → HearsReply (heardIn x (viewed (readLine line)) (record { 0 = t })) (shown (readLine line) .telegram) b after out then r → Told after then r
-  hears-line {x} f l k =
-      let a : exchangeFrom b ≡ reads x = sym (shown-as (exchangeFrom b) s e) ∙ ap answerOf f in
-      rw (a, l) k
+  pub hears-line : {x : Bench} {after then : List ℕ} {r : ℕ} → s ≡ taken.Is x → ltb (length out) telegramSize ≡ false
+      → HearsReply (answer x (heard line (record { 0 = t }))) (shown (readLine line) .telegram) b after out then r → Told after then r
+  hears-line {x} f l k = rw (read-from b e f, l) k

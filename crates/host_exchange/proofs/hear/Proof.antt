@@ -29,7 +29,7 @@ same-length-2 c = search needs
 returns : tie.Need-returns
 returns c =
     let a = c .before .before .before .before .before .before .before .before .before .before .before .before .before .before .before .args in
-    heard-line (a .x) (now (a .line)) (a .t)
+    heard-line (a .bench) (now (a .line)) (a .t)
     (c .before .before .before .before .before .before .before .before .before .before .before .heard .ensures)
     (heard-well (c .before .before .before .before .before .before .before .before .before .keep .ensures)
     (c .before .before .before .before .before .before .if1 .taken) (c .before .before .before .before .before .telegram-bytes .ensures) (search needs)
@@ -41,7 +41,7 @@ same-length-3 c = search needs
 returns-2 : tie.Need-returns-2
 returns-2 c =
     let a = c .before .before .before .before .before .before .before .before .before .args in
-    heard-line (a .x) (now (a .line)) (a .t) (c .before .before .before .before .before .heard .ensures)
+    heard-line (a .bench) (now (a .line)) (a .t) (c .before .before .before .before .before .heard .ensures)
     (heard-other (c .before .before .before .keep .ensures) (c .if1 .left))
 
 pub hear-spec : {M : Type 1} → statement M

@@ -7,8 +7,8 @@ use borrow.Author.Needs.{needs}
 use Rattle.host_exchange.proofs.skarrowith_exchange_heard.Statement.{statement}
 use Rattle.host_exchange.proofs.skarrowith_exchange_heard.Tie as tie
 
-exchange-from-requires : tie.Need-exchange-from-requires
-exchange-from-requires c κs = search needs
+bench-from-requires : tie.Need-bench-from-requires
+bench-from-requires c κs = search needs
 
 enum-known-stood : tie.Need-enum-known-stood
 enum-known-stood c = search needs
@@ -31,13 +31,13 @@ same-length c = search needs
 returns : tie.Need-returns
 returns c =
     let a = c .before .before .before .before .before .before .before .before .before .args in
-    hears-short (now (a .kept)) (now (a .line)) (a .t) (now (a .reply)) (c .before .before .before .before .exchange-from .ensures)
+    hears-short (now (a .kept)) (now (a .line)) (a .t) (now (a .reply)) (c .before .before .before .before .bench-from .ensures)
     (c .before .before .stood2 .given .1) (c .if1 .taken)
 
 hear-requires : tie.Need-hear-requires
 hear-requires c κs =
     let a = c .before .before .before .before .before .before .before .before .before .before .before .args in (
-      room-read (now (a .kept)) (c .before .before .before .before .before .before .exchange-from .ensures)
+      room-read (now (a .kept)) (c .before .before .before .before .before .before .bench-from .ensures)
           (c .before .before .before .before .stood2 .given .1),
       ltb-false (length (now (a .reply))) 136 (c .before .before .if1 .left),
     )
@@ -48,7 +48,7 @@ same-length-2 c = search needs
 returns-2 : tie.Need-returns-2
 returns-2 c =
     let a = c .before .before .before .before .before .before .before .before .args in
-    hears-none (now (a .kept)) (now (a .line)) (a .t) (now (a .reply)) (c .before .before .before .exchange-from .ensures)
+    hears-none (now (a .kept)) (now (a .line)) (a .t) (now (a .reply)) (c .before .before .before .bench-from .ensures)
     (c .before .stood .given .1)
 
 same-length-3 : tie.Need-same-length-3
@@ -61,7 +61,7 @@ returns-3 : tie.Need-returns-3
 returns-3 c =
     let a = c .before .before .before .before .before .before .before .before .before .before .before .before .before .before .before .before .args in
     hears-line (now (a .kept)) (now (a .line)) (a .t) (now (a .reply))
-    (c .before .before .before .before .before .before .before .before .before .before .before .exchange-from .ensures)
+    (c .before .before .before .before .before .before .before .before .before .before .before .bench-from .ensures)
     (c .before .before .before .before .before .before .before .before .before .stood2 .given .1)
     (c .before .before .before .before .before .before .before .if1 .left) (c .before .before .before .before .hear .ensures)
 
@@ -69,7 +69,7 @@ pub skarrowith-exchange-heard-spec : {M : Type 1} → statement M
 skarrowith-exchange-heard-spec =
     tie.close
     (tie.spec
-    exchange-from-requires
+    bench-from-requires
     enum-known-stood
     cast-result
     add-result

@@ -66,9 +66,9 @@ pub row-of-lines : (n : ℕ) → n < 30 → rowIn (block 0 22) n ≡ textOf n
 unfolding block same alike textOf wordsIn rowsFrom firstRow
 row-of-lines n h = rw sub-zero at (right 0 22 30 refl n (omega arith) (omega arith))
 
-pub row-of-bundles : (n : ℕ) → 30 ≤ n → n < 50 → rowIn (block 30 13) (n - 30) ≡ textOf n
+pub row-of-bundles : (n : ℕ) → 30 ≤ n → n < 50 → rowIn (block 30 14) (n - 30) ≡ textOf n
 unfolding block same alike textOf wordsIn rowsFrom firstRow
-row-of-bundles n g h = right 30 13 20 refl n g (omega arith)
+row-of-bundles n g h = right 30 14 20 refl n g (omega arith)
 
 pub row-of-steps : (n : ℕ) → 50 ≤ n → n < 102 → rowIn (block 50 52) (n - 50) ≡ textOf n
 unfolding block same alike textOf wordsIn rowsFrom firstRow

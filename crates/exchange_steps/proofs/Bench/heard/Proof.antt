@@ -1,4 +1,4 @@
--- `Exchange::heard` meets its contract: reading, view, step and reply put together.
+-- `Bench::heard` meets its contract: reading, view, step and reply put together.
 use mathlib.Core.Path.{_≡_, sym, ap, _∙_}
 use mathlib.Core.Bool.{cond}
 use borrow.Author.Needs.{needs}
@@ -9,10 +9,10 @@ use Rattle.mbus_rules.specs.Telegrams.{blank}
 use Rattle.mbus_rules.specs.declared.View.{View}
 use Rattle.mbus_rules.specs.Views.{viewed, viewIn}
 use Rattle.mbus_rules.proofs.Laws.Views.{view-shown}
-use Rattle.exchange_steps.specs.Steps.{heardIn, shownStep}
+use Rattle.exchange_steps.specs.Steps.{heardOn, shownStep}
 use Rattle.exchange_steps.proofs.Laws.Steps.{heard-parts}
-use Rattle.exchange_steps.proofs.Exchange.heard.Statement.{statement}
-use Rattle.exchange_steps.proofs.Exchange.heard.Tie as tie
+use Rattle.exchange_steps.proofs.Bench.heard.Statement.{statement}
+use Rattle.exchange_steps.proofs.Bench.heard.Tie as tie
 
 read-line-requires : tie.Need-read-line-requires
 read-line-requires c κs = search needs
@@ -29,11 +29,11 @@ ends-well-requires c κs = search needs
 -- the step, from the view of the reading
 step-is : (c : tie.After-seen)
     → c .seen .result
-    ≡ shownStep (heardIn (c .before .before .before .before .args .self) (viewed (readLine (now (c .before .before .before .before .args .line))))
+    ≡ shownStep (heardOn (c .before .before .before .before .args .self) (viewed (readLine (now (c .before .before .before .before .args .line))))
     (c .before .before .before .before .args .t))
 step-is c =
     let a = c .before .before .before .before .args in
-    c .seen .ensures ∙ ap (λ (v : View). shownStep (heardIn (a .self) v (a .t))) (c .before .view-of .ensures
+    c .seen .ensures ∙ ap (λ (v : View). shownStep (heardOn (a .self) v (a .t))) (c .before .view-of .ensures
     ∙ ap (λ (r : Reading). viewIn (r .outcome) (r .telegram)) (c .before .before .read-line .ensures) ∙ view-shown (readLine (now (a .line))))
 
 reply-of-requires : tie.Need-reply-of-requires
