@@ -36,6 +36,8 @@ use Rattle.mbus_rules.proofs.Laws.Seven.{never-15}
 use Rattle.bench_indication.specs.Errors.{indicationOf}
 use Rattle.bench_indication.specs.Errors as errors
 use Rattle.mbus_search.specs.Searching.{Spot, lengthHere, further, orElse, findIn}
+use Rattle.mbus_either.specs.Interfaces.{liveOn, orOptical, findEither}
+use Rattle.mbus_either.specs.declared.Interface.the-variants.{Optical}
 use Rattle.exchange_steps.specs.declared.Exchange.{Exchange}
 use Rattle.exchange_steps.specs.Steps.{afterLine, afterTick, waits, asksResend, sending, moved, past, step, startWith, startOf}
 use Rattle.exchange_steps.specs.Histories.{Step, heard, tick, sent, answer}
@@ -60,7 +62,7 @@ use Rattle.host_records.specs.Telegrams.{telegramSize, telegramBytes, telegramI
 use Rattle.exchange_record.specs.Exchanges.{exchangeSize, exchangeBytes, exchangeIn, reached, exchangeFrom}
 use Rattle.meter_record.specs.MeterRecords.{meterSize, meterBytes, meterIn, unreached, meterFrom}
 use Rattle.host_lines.specs.Calls.{readFor, writeFor, requestFor}
-use Rattle.host_search.specs.Finding.{findFor}
+use Rattle.host_search.specs.Finding.{findFor, eitherFor}
 use Rattle.host_bench.specs.Calls.{errorFor}
 use Rattle.host_exchange.specs.Calls as exchanges
 use Rattle.host_exchange.specs.Calls.{startFor, tickFor, sentFor}
@@ -228,6 +230,13 @@ searching-by (c ∷ s) = go (lengthHere (c ∷ s)) (findIn s) (searching-by s)
     go (refusal n) (refusal m) h = h
     go (refusal n) (reads p) h = tt
 
+pub either-by : (mbus optical : List ℕ) → By (18 ∷ []) (findEither mbus optical)
+either-by mbus optical = go (findIn mbus)
+  where
+    go : (a : Answer Spot) → By (18 ∷ []) (orOptical a (findIn optical))
+    go (reads p) = reads-by _ _
+    go (refusal n) = within-by _ (liveOn Optical) (findIn optical) (searching-by optical)
+
 pub writing-by : (t : Telegram) (places : ℕ) → By (20 ∷ 21 ∷ []) (writeLine t places)
 unfolding any
 writing-by t places = refuse-by _ 20 (unwritable t) _ refl (refuse-by _ 21 (ltb places (length (lineOf t))) _ refl (reads-by _ _))
@@ -392,6 +401,10 @@ module _ (b out : List ℕ) where
   pub find-for-by : By (18 ∷ 21 ∷ []) (findFor b out)
   unfolding any
   find-for-by = placed-by _ 16 out (findIn b) refl (more (18 ∷ []) _ _ refl (searching-by b))
+
+  pub either-for-by : (optical : List ℕ) → By (18 ∷ 21 ∷ []) (eitherFor b optical out)
+  unfolding any
+  either-for-by optical = placed-by _ 16 out (findEither b optical) refl (more (18 ∷ []) _ _ refl (either-by b optical))
 
   pub row-into-by : (i : ℕ) → By (21 ∷ 39 ∷ bundleNumbers) (rowInto b i out)
   unfolding any

@@ -26,8 +26,11 @@ use Rattle.bytes_lent.proofs.Laws.LentLaws.{none-copied, leaves-all, leaves-cop
 use Rattle.host_search.specs.Finding.{spotBytes, Finds, interfaceNumber, lineInterface, lineBytes, FindsEither}
 
 -- the record of a place has 16 bytes
-pub spot-record : (p n : ℕ) → recordOf [] (p ∷ n ∷ []) [] ≡ spotBytes (spotAt p n)
+spot-record : (p n : ℕ) → recordOf [] (p ∷ n ∷ []) [] ≡ spotBytes (spotAt p n)
 spot-record p n = append-nil (wordsOf (p ∷ n ∷ []))
+
+pub spot-copied : (out : List ℕ) (p n : ℕ) {after : List ℕ} → after ≡ copied out 0 (recordOf [] (p ∷ n ∷ []) []) → after ≡ copied out 0 (spotBytes (spotAt p n))
+spot-copied out p n l = l ∙ ap (copied out 0) (spot-record p n)
 
 spot-length : (p : Spot) → length (spotBytes p) ≡ 16
 spot-length p = ap length (sym (spot-record (p .place) (p .length))) ∙ record-length [] (p .place ∷ p .length ∷ []) []

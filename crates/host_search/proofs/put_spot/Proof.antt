@@ -1,8 +1,7 @@
 -- `host_search::put_spot` meets its contract. Assumes nothing.
-use mathlib.Core.Path.{refl, ap, _∙_}
+use mathlib.Core.Path.{refl}
 use denote.Ref.{now}
-use Rattle.bytes_lent.specs.Copying.{copied}
-use Rattle.host_search.proofs.Laws.Finding.{spot-record}
+use Rattle.host_search.proofs.Laws.Finding.{spot-copied}
 use borrow.Author.Needs.{needs}
 use Rattle.host_search.proofs.put_spot.Statement.{statement}
 use Rattle.host_search.proofs.put_spot.Tie as tie
@@ -25,7 +24,7 @@ same-length c = search needs
 returns : tie.Need-returns
 returns c =
     let args = c .before .before .before .before .before .before .before .before .args in
-    (refl, c .before .before .put-record .ensures ∙ ap (copied (now (args .found)) 0) (spot-record (args .place) (args .length)))
+    (refl, spot-copied (now (args .found)) (args .place) (args .length) (c .before .before .put-record .ensures))
 
 pub put-spot-spec : {M : Type 1} → statement M
 put-spot-spec =

@@ -31,10 +31,11 @@ same-length c = search needs
 
 returns : tie.Need-returns
 returns c =
-    let args = c .before .before .before .before .before .before .before .before .before .before .before .before .args in
-    let put = c .before .before .before .put-spot .ensures in
-    either-short (now (args .mbus)) (now (args .optical)) (now (args .found)) (c .before .before .before .before .before .before .before .before .either-at .ensures)
-    (c .before .before .before .before .before .before .search2 .given .1) (put .0) (put .1) (c .if1 .taken)
+    let put = c .before .before .before in
+    let search = put .before .before .before in
+    let args = search .before .before .before .before .before .before .args in
+    either-short (now (args .mbus)) (now (args .optical)) (now (args .found)) (search .before .before .either-at .ensures) (search .search2 .given .1)
+    (put .put-spot .ensures .0) (put .put-spot .ensures .1) (c .if1 .taken)
 
 enum-told : tie.Need-enum-told
 enum-told c = search needs
@@ -52,20 +53,22 @@ same-length-2 c = search needs
 
 returns-3 : tie.Need-returns-3
 returns-3 c =
-    let args = c .before .before .before .before .before .before .before .before .before .before .before .before .before .before .args in
-    let put = c .before .before .before .before .before .put-spot .ensures in
-    either-whole (now (args .mbus)) (now (args .optical)) (now (args .found)) (c .before .before .before .before .before .before .before .before .before .before .either-at .ensures)
-    (c .before .before .before .before .before .before .before .before .search2 .given .1) (put .0) (put .1) (c .before .before .if1 .left) (c .enum-told .given .1)
+    let put = c .before .before .before .before .before in
+    let search = put .before .before .before in
+    let args = search .before .before .before .before .before .before .args in
+    either-whole (now (args .mbus)) (now (args .optical)) (now (args .found)) (search .before .before .either-at .ensures) (search .search2 .given .1)
+    (put .put-spot .ensures .0) (put .put-spot .ensures .1) (c .before .before .if1 .left) (c .enum-told .given .1)
 
 same-length-3 : tie.Need-same-length-3
 same-length-3 c = search needs
 
 returns-4 : tie.Need-returns-4
 returns-4 c =
-    let args = c .before .before .before .before .before .before .before .before .before .before .before .before .before .before .args in
-    let put = c .before .before .before .before .before .put-spot .ensures in
-    either-whole (now (args .mbus)) (now (args .optical)) (now (args .found)) (c .before .before .before .before .before .before .before .before .before .before .either-at .ensures)
-    (c .before .before .before .before .before .before .before .before .search2 .given .1) (put .0) (put .1) (c .before .before .if1 .left) (c .enum-told2 .given .1)
+    let put = c .before .before .before .before .before in
+    let search = put .before .before .before in
+    let args = search .before .before .before .before .before .before .args in
+    either-whole (now (args .mbus)) (now (args .optical)) (now (args .found)) (search .before .before .either-at .ensures) (search .search2 .given .1)
+    (put .put-spot .ensures .0) (put .put-spot .ensures .1) (c .before .before .if1 .left) (c .enum-told2 .given .1)
 
 pub skarrowith-find-either-spec : {M : Type 1} → statement M
 skarrowith-find-either-spec =

@@ -71,16 +71,19 @@ begins-inside s place n b = by-test (ltb (length s) place)
     absurd (false≢true (sym nothing-accepted ∙ ap (λ (l : List ℕ). accepts (readLine l)) (sym none) ∙ b .1)))
     (λ t. omega (arith, ltb-false (length s) place t, length-drop place s, b .0))
 
-pub line-inside : (mbus optical : List ℕ) (l : LiveLine) → findEither mbus optical ≡ reads l
-    → l .spot .place + l .spot .length ≤ length (captureOf (l .interface) mbus optical)
-line-inside mbus optical l = go (findIn mbus) refl (findIn optical) refl
+-- what is found is what the search finds in that capture
+pub live-found : (mbus optical : List ℕ) (l : LiveLine) → findEither mbus optical ≡ reads l
+    → findIn (captureOf (l .interface) mbus optical) ≡ reads (l .spot)
+live-found mbus optical l = go (findIn mbus) refl (findIn optical) refl
   where
     go : (a : Answer Spot) → findIn mbus ≡ a → (b : Answer Spot) → findIn optical ≡ b → orOptical a b ≡ reads l
-        → l .spot .place + l .spot .length ≤ length (captureOf (l .interface) mbus optical)
-    go (reads p) e b f q =
-        let here : liveOn Mbus p ≡ l = cc in
-        rw (← here) (begins-inside mbus (p .place) (p .length) (found-begins mbus p e))
-    go (refusal n) e (reads p) f q =
-        let there : liveOn Optical p ≡ l = cc in
-        rw (← there) (begins-inside optical (p .place) (p .length) (found-begins optical p f))
+        → findIn (captureOf (l .interface) mbus optical) ≡ reads (l .spot)
+    go (reads p) e b f q = let here : liveOn Mbus p ≡ l = cc in rw (← here) e
+    go (refusal n) e (reads p) f q = let there : liveOn Optical p ≡ l = cc in rw (← there) f
     go (refusal n) e (refusal m) f q = let z : _≡_ {A = ℕ} 0 1 = cc in absurd (omega arith)
+
+pub line-inside : (mbus optical : List ℕ) (l : LiveLine) → findEither mbus optical ≡ reads l
+    → l .spot .place + l .spot .length ≤ length (captureOf (l .interface) mbus optical)
+line-inside mbus optical l e =
+    let s = captureOf (l .interface) mbus optical in
+    begins-inside s (l .spot .place) (l .spot .length) (found-begins s (l .spot) (live-found mbus optical l e))
