@@ -29,7 +29,7 @@ use Rattle.bytes_lent.specs.Lent.{stored, told}
 use Rattle.mbus_search.specs.Searching.{accepts, Begins, Spot, findIn}
 use Rattle.mbus_either.specs.declared.Interface.the-variants.{Mbus, Optical}
 use Rattle.mbus_either.specs.Interfaces.{LiveLine, liveOn, findEither}
-use Rattle.host_search.specs.Finding.{lineInterface}
+use Rattle.host_either.specs.Finding.{lineInterface}
 use Rattle.exchange_replies.specs.Fits.{fits}
 use Rattle.exchange_steps.specs.declared.Cause.the-variants.{Silent}
 use Rattle.exchange_steps.specs.declared.State.the-variants.{Waiting, Resend, Well}

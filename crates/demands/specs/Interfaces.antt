@@ -8,11 +8,11 @@ use Rattle.mbus_rules.specs.Lists.{any}
 use Rattle.mbus_rules.specs.Characters.{odd}
 use Rattle.mbus_rules.specs.Answers.{reads, refusal}
 use Rattle.mbus_rules.specs.Lines.{readBody, readLine, Accepted}
-use Rattle.mbus_search.specs.Searching.{Begins, Spot, lengthFrom, findIn}
+use Rattle.mbus_search.specs.Searching.{Begins, Spot, spotAt, lengthFrom, findIn}
 use Rattle.mbus_either.specs.declared.Interface.the-variants.{Mbus, Optical}
 use Rattle.mbus_either.specs.declared.Either.{Either}
 use Rattle.mbus_either.specs.Interfaces.{LiveLine, liveOn, findEither}
-use Rattle.mbus_either.specs.Stretches.{captureOf, spotAt, HandsEither}
+use Rattle.mbus_either.specs.Stretches.{captureOf, HandsEither}
 use Rattle.mbus_either.proofs.Laws.Meaning
 
 -- The stretch that is handed back is an accepted line.

@@ -62,7 +62,8 @@ use Rattle.host_records.specs.Telegrams.{telegramSize, telegramBytes, telegramI
 use Rattle.exchange_record.specs.Exchanges.{exchangeSize, exchangeBytes, exchangeIn, reached, exchangeFrom}
 use Rattle.meter_record.specs.MeterRecords.{meterSize, meterBytes, meterIn, unreached, meterFrom}
 use Rattle.host_lines.specs.Calls.{readFor, writeFor, requestFor}
-use Rattle.host_search.specs.Finding.{findFor, eitherFor}
+use Rattle.host_search.specs.Finding.{findFor}
+use Rattle.host_either.specs.Finding.{eitherFor}
 use Rattle.host_bench.specs.Calls.{errorFor}
 use Rattle.host_exchange.specs.Calls as exchanges
 use Rattle.host_exchange.specs.Calls.{startFor, tickFor, sentFor}

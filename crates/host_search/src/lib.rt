@@ -1,19 +1,16 @@
-// The search of a capture, and of both captures of a position, for C: include/skarrowith.h says how.
+// The search of a capture for C: include/skarrowith.h says how.
 ghost use mathlib.Core.Path.{_≡_};
 ghost use lib.Dec.{ltb};
 ghost use lib.ListN;
 ghost use Rattle.bytes_lent.specs.Copying.{copied};
-ghost use Rattle.mbus_either.specs.Stretches.{spotAt};
-ghost use Rattle.host_search.specs.Finding.{spotBytes, Finds, FindsEither};
+ghost use Rattle.mbus_search.specs.Searching.{spotAt};
+ghost use Rattle.host_search.specs.Finding.{spotBytes, Finds};
 use bytes_numbers::put_record;
-use mbus_either::EitherFound;
-use mbus_either::Interface;
-use mbus_either::either_at;
 use mbus_search::Found;
 use mbus_search::find_line;
 
 // Place and length in the first 16 bytes, and whether there are fewer; then nothing is changed.
-fn put_spot(found: &mut [u8], place: usize, length: usize) -> bool
+pub fn put_spot(found: &mut [u8], place: usize, length: usize) -> bool
     ensures { λ r. ⌜ (r ≡ ltb (ListN.length (now (found .entry))) 16)
         × (now (found .exit) ≡ copied (now (found .entry)) 0 (spotBytes (spotAt place length))) ⌝ }
 {
@@ -34,35 +31,6 @@ pub extern "C" fn skarrowith_find_line(capture: &[u16], found: &mut [u8]) -> u32
         Found::At { place, length } => {
             let short = put_spot(found, place, length);
             if short { 256 + 21 } else { 0 }
-        }
-    }
-}
-
-// Which capture has an accepted line, M-Bus before optical, with the place and the length of the first one in it.
-#[no_mangle]
-pub extern "C" fn skarrowith_find_either<'a>(
-    mbus: &'a [u16],
-    optical: &'a [u16],
-    found: &mut [u8],
-) -> u32
-    ensures { λ r. ⌜ FindsEither (now (mbus .entry)) (now (optical .entry)) (now (found .entry)) (now (found .exit)) r ⌝ }
-{
-    let search = either_at(mbus, optical);
-    match search {
-        EitherFound::Refused(n) => 256 + n as u32,
-        EitherFound::At {
-            interface,
-            place,
-            length,
-        } => {
-            let short = put_spot(found, place, length);
-            if short {
-                return 256 + 21;
-            }
-            match interface {
-                Interface::Mbus => 1,
-                Interface::Optical => 2,
-            }
         }
     }
 }

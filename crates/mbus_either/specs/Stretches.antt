@@ -5,7 +5,7 @@ use mathlib.Core.Path.{_≡_}
 use lib.ListN.{take, drop}
 use denote.Ref.{RefT, now, ptr}
 use Rattle.mbus_rules.specs.Answers.{Answer, reads, refusal}
-use Rattle.mbus_search.specs.Searching.{Spot}
+use Rattle.mbus_search.specs.Searching.{Spot, spotAt}
 use Rattle.mbus_either.specs.declared.Interface.{Interface}
 use Rattle.mbus_either.specs.declared.Interface.the-variants.{Mbus, Optical}
 use Rattle.mbus_either.specs.declared.Either.{Either}
@@ -15,9 +15,6 @@ use Rattle.mbus_either.specs.Interfaces.{LiveLine, liveOn, findEither, e
 abbrev pub captureOf : {A : Type 0} → Interface → A → A → A
 captureOf Mbus mbus optical = mbus
 captureOf Optical mbus optical = optical
-
-abbrev pub spotAt : ℕ → ℕ → Spot
-spotAt place n = record { place = place; length = n }
 
 -- The part has the characters at the spot, and lies there in the memory of the whole. (A character takes two bytes of it.)
 pub record PartAt (p : Spot) (whole part : RefT (List ℕ)) : Type 0 where

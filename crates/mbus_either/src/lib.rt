@@ -2,8 +2,9 @@
 ghost use Prim.Native.Nat.{_+_, _≤_};
 ghost use mathlib.Core.Path.{_≡_};
 ghost use lib.ListN;
+ghost use Rattle.mbus_search.specs.Searching.{spotAt};
 ghost use Rattle.mbus_either.specs.Interfaces.{findEither, eitherShown};
-ghost use Rattle.mbus_either.specs.Stretches.{spotAt, PartAt, StretchOf, HandsEither};
+ghost use Rattle.mbus_either.specs.Stretches.{PartAt, StretchOf, HandsEither};
 use mbus_search::Found;
 use mbus_search::find_line;
 

@@ -10,20 +10,14 @@ use lib.ListN.{length}
 use Rattle.mbus_rules.specs.Answers.{Answer, reads, refusal}
 use Rattle.mbus_search.specs.declared.Found.{Found}
 use Rattle.mbus_search.specs.declared.Found.the-variants as founds
-use Rattle.mbus_search.specs.Searching.{Spot, findIn, foundShown}
+use Rattle.mbus_search.specs.Searching.{Spot, spotAt, findIn, foundShown}
 use Rattle.mbus_search.proofs.Laws.Meaning.{found-same}
-use Rattle.mbus_either.specs.declared.Interface.{Interface}
-use Rattle.mbus_either.specs.declared.EitherFound.{EitherFound}
-use Rattle.mbus_either.specs.declared.EitherFound.the-variants as eithers
-use Rattle.mbus_either.specs.Interfaces.{LiveLine, liveOn, findEither, eitherShown}
-use Rattle.mbus_either.specs.Stretches.{spotAt}
-use Rattle.mbus_either.proofs.Laws.Lines.{none-live, live-on}
 use Rattle.bytes_numbers.specs.Records.{wordsOf, recordOf}
 use Rattle.bytes_numbers.proofs.Laws.RecordLaws.{record-length}
 use Rattle.bytes_lent.specs.Copying.{copied}
 use Rattle.bytes_lent.specs.Lent.{done, placed, Leaves}
 use Rattle.bytes_lent.proofs.Laws.LentLaws.{none-copied, leaves-all, leaves-copied}
-use Rattle.host_search.specs.Finding.{spotBytes, Finds, interfaceNumber, lineInterface, lineBytes, FindsEither}
+use Rattle.host_search.specs.Finding.{spotBytes, Finds}
 
 -- the record of a place has 16 bytes
 spot-record : (p n : ℕ) → recordOf [] (p ∷ n ∷ []) [] ≡ spotBytes (spotAt p n)
@@ -66,19 +60,3 @@ module _ (capture out : List ℕ) {f : Found} (e : f ≡ foundShown (findIn capt
 
     pub found-whole : short ≡ false → Finds capture out after 0
     found-whole h = rw at-spot (spot-kept done (λ x. x) out (spotAt p n) s l h refl)
-
--- ---- both captures
-
-module _ (mbus optical out : List ℕ) {f : EitherFound} (e : f ≡ eitherShown (findEither mbus optical)) where
-  pub neither-found : {n : ℕ} → f ≡ eithers.Refused n → FindsEither mbus optical out out (256 + n)
-  neither-found {n} t = rw (none-live (findEither mbus optical) e t) (leaves-all lineBytes out lineInterface refl)
-
-  module _ {i : Interface} {p n : ℕ} (t : f ≡ eithers.At i p n) {short : Bool} {after : List ℕ} (s : short ≡ ltb (length out) 16)
-      (l : after ≡ copied out 0 (spotBytes (spotAt p n))) where
-    pub either-short : short ≡ true → FindsEither mbus optical out after (256 + 21)
-    either-short h =
-        rw (live-on (findEither mbus optical) e t refl) (spot-short lineInterface (λ x. x .spot) out (liveOn i (spotAt p n)) s l h)
-
-    pub either-whole : short ≡ false → {j : Interface} → i ≡ j → FindsEither mbus optical out after (interfaceNumber j)
-    either-whole h {j} q =
-        rw (live-on (findEither mbus optical) e t q) (spot-kept lineInterface (λ x. x .spot) out (liveOn j (spotAt p n)) s l h refl)

@@ -13,14 +13,14 @@ use Rattle.mbus_rules.specs.Lines.{readLine}
 use Rattle.mbus_rules.proofs.Laws.Tests.{by-test}
 use Rattle.mbus_search.specs.declared.Found.{Found}
 use Rattle.mbus_search.specs.declared.Found.the-variants as founds
-use Rattle.mbus_search.specs.Searching.{accepts, Begins, Spot, findIn, foundShown}
+use Rattle.mbus_search.specs.Searching.{accepts, Begins, Spot, spotAt, findIn, foundShown}
 use Rattle.mbus_search.proofs.Laws.Meaning.{found-same, found-begins}
 use Rattle.mbus_either.specs.declared.Interface.{Interface}
 use Rattle.mbus_either.specs.declared.Interface.the-variants.{Mbus, Optical}
 use Rattle.mbus_either.specs.declared.EitherFound.{EitherFound}
 use Rattle.mbus_either.specs.declared.EitherFound.the-variants.{At, Refused}
 use Rattle.mbus_either.specs.Interfaces.{LiveLine, liveOn, orOptical, findEither, eitherShown}
-use Rattle.mbus_either.specs.Stretches.{captureOf, spotAt}
+use Rattle.mbus_either.specs.Stretches.{captureOf}
 
 -- no two answers are shown alike
 pub either-same : (a b : Answer LiveLine) → eitherShown a ≡ eitherShown b → a ≡ b

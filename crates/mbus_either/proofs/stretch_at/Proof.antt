@@ -3,11 +3,10 @@ use borrow.Author.Needs.{needs}
 use denote.Ref.{now}
 use mathlib.Core.Path.{_≡_}
 use Rattle.mbus_rules.specs.Answers.{reads}
-use Rattle.mbus_search.specs.Searching.{Spot}
+use Rattle.mbus_search.specs.Searching.{Spot, spotAt}
 use Rattle.mbus_either.specs.declared.Interface.{Interface}
 use Rattle.mbus_either.specs.declared.Interface.the-variants.{Mbus, Optical}
 use Rattle.mbus_either.specs.Interfaces.{liveOn, findEither}
-use Rattle.mbus_either.specs.Stretches.{spotAt}
 use Rattle.mbus_either.proofs.Laws.Lines.{none-live, live-on, line-inside}
 use Rattle.mbus_either.proofs.stretch_at.Statement.{statement}
 use Rattle.mbus_either.proofs.stretch_at.Tie as tie

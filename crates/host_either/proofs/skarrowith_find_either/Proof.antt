@@ -1,9 +1,9 @@
--- `host_search::skarrowith_find_either` meets its contract: each way out by its law. Assumes nothing.
+-- `host_either::skarrowith_find_either` meets its contract: each way out by its law. Assumes nothing.
 use denote.Ref.{now}
-use Rattle.host_search.proofs.Laws.Finding.{neither-found, either-short, either-whole}
+use Rattle.host_either.proofs.Laws.Finding.{neither-found, either-short, either-whole}
 use borrow.Author.Needs.{needs}
-use Rattle.host_search.proofs.skarrowith_find_either.Statement.{statement}
-use Rattle.host_search.proofs.skarrowith_find_either.Tie as tie
+use Rattle.host_either.proofs.skarrowith_find_either.Statement.{statement}
+use Rattle.host_either.proofs.skarrowith_find_either.Tie as tie
 
 either-at-requires : tie.Need-either-at-requires
 either-at-requires c κs = search needs
