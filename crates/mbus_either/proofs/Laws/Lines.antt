@@ -1,20 +1,14 @@
 -- Laws of `specs/Interfaces` and `specs/Stretches`: the program's answer tells the rule's, and a line lies inside its capture.
-use Prim.Native.Nat.{ℕ, _+_, _≤_, _<_}
-use mathlib.Core.Bool.{false, false≢true}
-use mathlib.Core.List.{List, []}
+use Prim.Native.Nat.{ℕ, _+_, _≤_}
+use mathlib.Core.List.{List}
 use mathlib.Core.Path.{_≡_, refl, sym, ap, _∙_}
 use native.Mathlib.Omega.{arith}
-use borrow.Author.Tests.{ltb-true, ltb-false}
-use lib.Dec.{ltb}
-use lib.ListN.{length, take, drop, length-drop, drop-of-length-le}
-use lib.Seq.{take-nil}
+use lib.ListN.{length}
 use Rattle.mbus_rules.specs.Answers.{Answer, reads, refusal}
-use Rattle.mbus_rules.specs.Lines.{readLine}
-use Rattle.mbus_rules.proofs.Laws.Tests.{by-test}
 use Rattle.mbus_search.specs.declared.Found.{Found}
 use Rattle.mbus_search.specs.declared.Found.the-variants as founds
-use Rattle.mbus_search.specs.Searching.{accepts, Begins, Spot, spotAt, findIn, foundShown}
-use Rattle.mbus_search.proofs.Laws.Meaning.{found-same, found-begins}
+use Rattle.mbus_search.specs.Searching.{Spot, spotAt, findIn, foundShown}
+use Rattle.mbus_search.proofs.Laws.Meaning.{found-same, found-begins, begins-inside}
 use Rattle.mbus_either.specs.declared.Interface.{Interface}
 use Rattle.mbus_either.specs.declared.Interface.the-variants.{Mbus, Optical}
 use Rattle.mbus_either.specs.declared.EitherFound.{EitherFound}
@@ -58,18 +52,6 @@ pub live-on : (a : Answer LiveLine) {f : EitherFound} {i j : Interface} {p n : �
 live-on a {f} {i} {j} {p} {n} e t q = either-same a (reads (liveOn j (spotAt p n))) (sym e ∙ t ∙ ap (λ (k : Interface). At k p n) q)
 
 -- ---- a line lies inside its capture
-
-nothing-accepted : accepts (readLine []) ≡ false
-unfolding readLine
-nothing-accepted = refl
-
-begins-inside : (s : List ℕ) (place n : ℕ) → Begins s place n → place + n ≤ length s
-begins-inside s place n b = by-test (ltb (length s) place)
-    (λ t. let beyond : length s < place = ltb-true (length s) place t in
-    let over : length s ≤ place = omega arith in
-    let none : take n (drop place s) ≡ [] = ap (take n) (drop-of-length-le s over) ∙ take-nil n in
-    absurd (false≢true (sym nothing-accepted ∙ ap (λ (l : List ℕ). accepts (readLine l)) (sym none) ∙ b .1)))
-    (λ t. omega (arith, ltb-false (length s) place t, length-drop place s, b .0))
 
 -- what is found is what the search finds in that capture
 pub live-found : (mbus optical : List ℕ) (l : LiveLine) → findEither mbus optical ≡ reads l
