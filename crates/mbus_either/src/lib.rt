@@ -14,7 +14,7 @@ pub enum Interface {
     Optical,
 }
 
-// The interface whose capture has an accepted line, with the place and the length of the first one in it.
+// The interface whose capture has an accepted line, with the place and the length of the first one in it, or refused by 18.
 pub enum EitherFound {
     At {
         interface: Interface,
