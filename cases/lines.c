@@ -65,6 +65,20 @@ int answer_find(void)
     return 1;
 }
 
+int answer_either(void)
+{
+    static uint16_t optical[WORDS_MOST];
+    struct second_live live = {0, 0, 0};
+    size_t n, optical_n;
+    if (!take_name("mbus") || !take_characters(characters, &n))
+        return 0;
+    if (!take_name("optical") || !take_characters(optical, &optical_n) || !is_whole())
+        return 0;
+    if (!refused(second_either(characters, n, optical, optical_n, &live)))
+        printf("found %s +%zu +%zu", live.optical ? "optical" : "mbus", live.place, live.length);
+    return 1;
+}
+
 int answer_wake(void)
 {
     uint64_t count, places;

@@ -6,6 +6,7 @@
 int answer_read(void);
 int answer_write(void);
 int answer_find(void);
+int answer_either(void);
 int answer_wake(void);
 int answer_gap(void);
 int answer_error(void);

@@ -20,6 +20,7 @@ static const struct {
     {"check", answer_check}, {"row", answer_row},     {"body", answer_body},         {"add", answer_add},
     {"list", answer_list},   {"kept", answer_kept},   {"next", answer_next},
     {"resistance", answer_resistance}, {"temperature", answer_temperature},
+    {"either", answer_either},
 };
 
 static int answer_case(char **known)

@@ -111,6 +111,15 @@ static void set_box(const char *probe, uint32_t hundredths)
            (unsigned long)milliohm / 1000, (unsigned long)milliohm % 1000);
 }
 
+/* A position with a clip and a head, of which the clip is not live: which capture has the answer, and how much of it is the line. */
+static void say_live(const uint16_t *optical, size_t count)
+{
+    static const uint16_t mbus[] = {0x000, 0x0FF, 0x000}; /* noise */
+    struct skarrowith_found found;
+    uint32_t live = expect("live", skarrowith_find_either(mbus, sizeof mbus / sizeof mbus[0], optical, count, &found, sizeof found));
+    printf("live interface: %s, with a line of %lu characters\n", live == SKARROWITH_MBUS ? "M-Bus" : "optical", (unsigned long)found.length);
+}
+
 /* The volume that an answer gives, a count of its last digit. */
 static uint64_t volume_in(const struct skarrowith_telegram *answer)
 {
@@ -145,6 +154,7 @@ int main(void)
     ask(SKARROWITH_ENTER, START_STOP, 1, NULL, 0, &ack);
     ask(SKARROWITH_READ, 0, 0, NULL, 0, &first);
     size_t left = expect("left over", skarrowith_write_line(&first, sizeof first, left_over, SKARROWITH_LINE_MOST));
+    say_live(left_over, left);
     expect("measure", skarrowith_meter_measure(&meter, sizeof meter, 10005, 40000, now));
     ask(SKARROWITH_READ, 0, 0, left_over, left, &second);
     ask(SKARROWITH_LEAVE, 0, 0, NULL, 0, &ack);

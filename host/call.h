@@ -9,6 +9,7 @@ enum function {
     CHECK_LINE,
     REFUSAL_TEXT,
     FIND_LINE,
+    FIND_EITHER,
     READ_LINE,
     WRITE_LINE,
     WRITE_REQUEST,

@@ -22,7 +22,7 @@
 enum { MOST = SECOND_BUNDLE, ROWS = SECOND_ROWS };
 
 static uint8_t bytes[2 * MOST], text[MOST];
-static uint16_t characters[MOST];
+static uint16_t characters[MOST], other[MOST]; /* the other capture holds zeros, of which none begins a line */
 static size_t count, places = 4096, told;
 static uint32_t number;
 static struct skarrowith_found found;
@@ -38,6 +38,10 @@ static uint32_t words(void) { return skarrowith_refusal_text(9, (char *)text, si
 static uint32_t read_line(void) { return skarrowith_read_line(characters, count, &telegram, sizeof telegram); }
 static uint32_t write_line(void) { return skarrowith_write_line(&telegram, sizeof telegram, characters, MOST); }
 static uint32_t find(void) { return skarrowith_find_line(characters, count, &found, sizeof found); }
+
+/* The line is in the M-Bus capture, beside a long optical one; or in the optical one, and as many characters of M-Bus have none. */
+static uint32_t find_on_mbus(void) { return skarrowith_find_either(characters, count, other, places, &found, sizeof found); }
+static uint32_t find_on_optical(void) { return skarrowith_find_either(other, count, characters, count, &found, sizeof found); }
 
 /* A step from a copy, so that each call finds the same state. */
 static uint32_t exchange_resent(void)
@@ -244,6 +248,8 @@ static const struct {
     {"set-up", put_meter, meter_set_up, NULL},
     {"measure", put_meter, meter_measure, NULL},
     {"search-data", put_data, find, NULL},
+    {"either-mbus", put_data, find_on_mbus, NULL},
+    {"either-optical", put_data, find_on_optical, NULL},
     {"find-noise", put_noise, find, NULL},
     {"find-starts", put_starts, find, NULL},
     {"resistance", put_ack, resistance, resistance_by_second},

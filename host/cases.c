@@ -119,6 +119,16 @@ int second_find(const uint16_t *capture, size_t n, size_t *place, size_t *length
     return refusal_in(answer);
 }
 
+int second_either(const uint16_t *mbus, size_t mbus_n, const uint16_t *optical, size_t optical_n, struct second_live *live)
+{
+    struct skarrowith_found found = {0, 0};
+    uint32_t answer = skarrowith_find_either(mbus, mbus_n, optical, optical_n, &found, sizeof found);
+    live->optical = answer == SKARROWITH_OPTICAL;
+    live->place = (size_t)found.place;
+    live->length = (size_t)found.length;
+    return refusal_in(answer);
+}
+
 int second_wake(uint64_t count, uint16_t *out, size_t places)
 {
     return refusal_in(skarrowith_write_wake((size_t)count, out, places));

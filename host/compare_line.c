@@ -111,6 +111,26 @@ void compare_find(void)
     end(skarrowith_find_line(capture->to, l.n, found->to, size), answer_for(refusal));
 }
 
+void compare_either(void)
+{
+    struct line m = {{0}, 0}, o = {{0}, 0};
+    struct second_live live = {0, 0, 0};
+    size_t size = some_places(16);
+    int refusal;
+    some_two_captures(&m, &o);
+    refusal = second_either(m.c, m.n, o.c, o.n, &live);
+    if (refusal == 0 && size < 16)
+        refusal = 21;
+    begin(FIND_EITHER);
+    struct lent *mbus = lend_line("mbus", &m), *optical = lend_line("optical", &o), *found = lend("found", size, NULL, 0);
+    if (refusal == 0) {
+        const uint64_t both[2] = {live.place, live.length};
+        memcpy(found->second, both, sizeof both);
+    }
+    end(skarrowith_find_either(mbus->to, m.n, optical->to, o.n, found->to, size),
+        refusal == 0 ? (live.optical ? SKARROWITH_OPTICAL : SKARROWITH_MBUS) : answer_for(refusal));
+}
+
 void compare_read(void)
 {
     struct line l = {{0}, 0};

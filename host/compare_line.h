@@ -6,6 +6,7 @@
 void compare_check_line(void);
 void compare_words(void);
 void compare_find(void);
+void compare_either(void);
 void compare_read(void);
 void compare_write(void);
 void compare_request(void);

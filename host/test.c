@@ -76,6 +76,36 @@ static void expect_all_words(void)
     }
 }
 
+/* Both interfaces of a position: which capture has the line, and where; what was lent for it where it is too short or neither has one. */
+static void expect_either(const char *name, uint32_t answer, const uint16_t *mbus, size_t mbus_count, const uint16_t *optical, size_t optical_count,
+                          size_t size, uint64_t place, uint64_t length)
+{
+    struct skarrowith_found found = {99, 99};
+    uint32_t got = skarrowith_find_either(mbus, mbus_count, optical, optical_count, size == 0 ? NULL : &found, size);
+    if (got != answer || found.place != place || found.length != length) {
+        printf("test: %s: %lu, and not %lu, at %lu\n", name, (unsigned long)got, (unsigned long)answer, (unsigned long)found.place);
+        wrong = 1;
+    } else {
+        right++;
+    }
+}
+
+static void expect_both_interfaces(void)
+{
+    static const uint16_t noise[] = {0x000, 0x0FF, 0x0E5}, late[] = {0x000, 0x0FF, 0x1E5}, at_once[] = {0x1E5};
+    const size_t whole = sizeof(struct skarrowith_found);
+    expect_either("M-Bus later, optical at once", SKARROWITH_MBUS, late, 3, at_once, 1, whole, 2, 1);
+    expect_either("M-Bus alone", SKARROWITH_MBUS, at_once, 1, NULL, 0, whole, 0, 1);
+    expect_either("optical alone", SKARROWITH_OPTICAL, noise, 3, late, 3, whole, 2, 1);
+    expect_either("no M-Bus capture", SKARROWITH_OPTICAL, NULL, 0, at_once, 1, whole, 0, 1);
+    expect_either("one capture for both", SKARROWITH_MBUS, late, 3, late, 3, whole, 2, 1);
+    expect_either("neither", SKARROWITH_REFUSED + 18, noise, 3, noise, 3, whole, 99, 99);
+    expect_either("no captures", SKARROWITH_REFUSED + 18, NULL, 0, NULL, 0, whole, 99, 99);
+    expect_either("neither, and no place for it", SKARROWITH_REFUSED + 18, noise, 3, noise, 3, 0, 99, 99);
+    expect_either("fifteen bytes", SKARROWITH_REFUSED + 21, late, 3, at_once, 1, whole - 1, 99, 99);
+    expect_either("no place", SKARROWITH_REFUSED + 21, noise, 3, at_once, 1, 0, 99, 99);
+}
+
 int main(void)
 {
     static const struct value values[] = {
@@ -106,6 +136,7 @@ int main(void)
     expect("the same, four flips", SKARROWITH_DATA, data, sizeof data);
     data[2 * 16] ^= 1;
     expect("the same, five flips", SKARROWITH_REFUSED + 3, data, sizeof data);
+    expect_both_interfaces();
     expect_words(1, 260, 17, "the line is empty");
     expect_words(8, 14, 14, "checksum wrong");
     expect_words(SKARROWITH_REFUSED + 8, 14, 14, "checksum wrong");

@@ -140,6 +140,18 @@ struct skarrowith_found {
  */
 uint32_t skarrowith_find_line(const uint16_t *capture, size_t count, struct skarrowith_found *found, size_t size);
 
+/* The interfaces of a position: which capture has the line. */
+#define SKARROWITH_MBUS 1u
+#define SKARROWITH_OPTICAL 2u
+
+/*
+ * Finds the line of whichever capture of a position has one: the first accepted line of the M-Bus capture, or, only where
+ * that has none, of the optical one, which is not looked at before. The line is found->length characters of the caller's own
+ * capture, from found->place on. Answers SKARROWITH_MBUS or SKARROWITH_OPTICAL, or refuses by 18 where neither has one, or 21.
+ */
+uint32_t skarrowith_find_either(const uint16_t *mbus, size_t mbus_count, const uint16_t *optical, size_t optical_count,
+                                struct skarrowith_found *found, size_t size);
+
 /* Reads a line. Answers SKARROWITH_ACK to SKARROWITH_DATA, or refuses by 1 to 14, 16 or 21. */
 uint32_t skarrowith_read_line(const uint16_t *line, size_t count, struct skarrowith_telegram *telegram, size_t size);
 

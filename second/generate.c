@@ -35,6 +35,16 @@ static void generate_find(void)
     print_characters(&capture);
 }
 
+static void generate_either(void)
+{
+    struct line mbus = {{0}, 0}, optical = {{0}, 0};
+    some_two_captures(&mbus, &optical);
+    printf("either mbus");
+    print_characters(&mbus);
+    printf(" optical");
+    print_characters(&optical);
+}
+
 static void print_entry(const struct second_entry *e)
 {
     printf(" %02X %02X", e->structure, e->unit);
@@ -311,6 +321,7 @@ int main(int argc, char **argv)
         {"check", generate_check}, {"row", generate_row},     {"body", generate_body},         {"add", generate_add},
         {"list", generate_list},   {"kept", generate_kept},   {"next", generate_next},
         {"resistance", generate_resistance}, {"temperature", generate_temperature},
+        {"either", generate_either},
     };
     if (argc != 4)
         return fprintf(stderr, "usage: generate NAME SEED COUNT\n"), 2;

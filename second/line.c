@@ -377,3 +377,14 @@ int second_find(const uint16_t *capture, size_t n, size_t *place, size_t *length
             }
     return 18;
 }
+
+/* Every place of M-Bus, then every place of optical: the first at which a line begins is the answer. */
+int second_either(const uint16_t *mbus, size_t mbus_n, const uint16_t *optical, size_t optical_n, struct second_live *live)
+{
+    const uint16_t *const captures[] = {mbus, optical};
+    const size_t counts[] = {mbus_n, optical_n};
+    for (live->optical = 0; live->optical < 2; live->optical++)
+        if (second_find(captures[live->optical], counts[live->optical], &live->place, &live->length) == 0)
+            return 0;
+    return 18;
+}

@@ -36,4 +36,12 @@ int second_read(const uint16_t *line, size_t n, struct second_telegram *t);
 int second_write(const struct second_telegram *t, uint16_t *out, size_t places, size_t *length);
 int second_find(const uint16_t *capture, size_t n, size_t *place, size_t *length);
 
+/* The line of whichever of two captures has one (document 02, 2026-01): whether it is the optical one, and where in it. */
+struct second_live {
+    int optical;
+    size_t place, length;
+};
+
+int second_either(const uint16_t *mbus, size_t mbus_n, const uint16_t *optical, size_t optical_n, struct second_live *live);
+
 #endif

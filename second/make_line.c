@@ -80,6 +80,22 @@ void some_capture(struct line *capture)
         capture->n = below((unsigned)capture->n + 1);
 }
 
+/* Two captures of one position: any two, the same line or noise in both, or one of them dead. */
+void some_two_captures(struct line *mbus, struct line *optical)
+{
+    some_capture(mbus);
+    if (once_in(4))
+        *optical = *mbus;
+    else
+        some_capture(optical);
+    if (once_in(4))
+        mbus->n = 0;
+    if (once_in(6))
+        optical->n = 0;
+    if (once_in(3) && mbus->n > 0)
+        noise(mbus, (unsigned)mbus->n);
+}
+
 void damaged_line(struct line *l)
 {
     if (once_in(3))

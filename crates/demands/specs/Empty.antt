@@ -28,6 +28,9 @@ use Rattle.mbus_rules.specs.Writing.{lineOf, unwritable, writeLine}
 use Rattle.mbus_rules.specs.Flips.{Place, Places, flips, repeated}
 use Rattle.bytes_lent.specs.Lent.{stored, told}
 use Rattle.mbus_search.specs.Searching.{accepts, Begins, Spot, findIn}
+use Rattle.mbus_either.specs.declared.Interface.the-variants.{Mbus, Optical}
+use Rattle.mbus_either.specs.Interfaces.{LiveLine, liveOn, findEither}
+use Rattle.host_either.specs.Finding.{lineInterface}
 use Rattle.exchange_replies.specs.Fits.{fits}
 use Rattle.exchange_steps.specs.declared.Cause.the-variants.{Silent}
 use Rattle.exchange_steps.specs.declared.State.the-variants.{Waiting, Resend, Well}
@@ -44,6 +47,7 @@ use Rattle.meter_steps.specs.Histories.{Event, hear, stepOf, isEnter, instructs
 use Rattle.demands.specs.Lines as lines
 use Rattle.demands.specs.Writer as writer
 use Rattle.demands.specs.Search as search
+use Rattle.demands.specs.Interfaces as interfaces
 use Rattle.demands.specs.Exchange as exchange
 use Rattle.demands.specs.Meter as meter
 
@@ -119,6 +123,27 @@ rules-find = search.line-is-found
 pub finds-nothing : (number : List ℕ → ℕ) → FindsLines (λ s. refusal (number s)) → ⊥
 finds-nothing number d =
     let r = d (0x1E5 ∷ []) 0 1 (lit≤ tt, ap accepts ack-read) in omega (arith, ap (told (λ (p : Spot). 0)) (r .1))
+
+-- and one of two captures
+abbrev pub FindsLive : (List ℕ → List ℕ → Answer LiveLine) → Type 0
+FindsLive find =
+    (mbus optical : List ℕ) (place n : ℕ) → Begins mbus place n → (p : Spot) × (find mbus optical ≡ reads (liveOn Mbus p)) × (p .place ≤ place)
+
+pub rules-find-live : FindsLive findEither
+rules-find-live = interfaces.mbus-is-found
+
+-- one that finds nothing in either, and one that answers the optical capture whenever it has a line
+pub finds-neither : (number : List ℕ → List ℕ → ℕ) → FindsLive (λ mbus optical. refusal (number mbus optical)) → ⊥
+finds-neither number d =
+    let r = d (0x1E5 ∷ []) [] 0 1 (lit≤ tt, ap accepts ack-read) in omega (arith, ap (told (λ (l : LiveLine). 0)) (r .1))
+
+pub optical-comes-first : (find : List ℕ → List ℕ → Answer LiveLine)
+    → ((mbus optical : List ℕ) (place n : ℕ) → Begins optical place n → (p : Spot) × (find mbus optical ≡ reads (liveOn Optical p))) → FindsLive find → ⊥
+optical-comes-first find first d =
+    let begins : Begins (0x1E5 ∷ []) 0 1 = (lit≤ tt, ap accepts ack-read) in
+    let o = first (0x1E5 ∷ []) (0x1E5 ∷ []) 0 1 begins in
+    let m = d (0x1E5 ∷ []) (0x1E5 ∷ []) 0 1 begins in
+    omega (arith, ap (told lineInterface) (sym (o .1) ∙ m .1))
 
 -- ---- a simulated meter: what it answers to a step
 

@@ -36,6 +36,8 @@ use Rattle.mbus_rules.proofs.Laws.Seven.{never-15}
 use Rattle.bench_indication.specs.Errors.{indicationOf}
 use Rattle.bench_indication.specs.Errors as errors
 use Rattle.mbus_search.specs.Searching.{Spot, lengthHere, further, orElse, findIn}
+use Rattle.mbus_either.specs.Interfaces.{liveOn, orOptical, findEither}
+use Rattle.mbus_either.specs.declared.Interface.the-variants.{Optical}
 use Rattle.exchange_steps.specs.declared.Exchange.{Exchange}
 use Rattle.exchange_steps.specs.declared.Bench.{Bench}
 use Rattle.exchange_steps.specs.declared.Bench.the-variants.{Idle, Busy}
@@ -66,6 +68,7 @@ use Rattle.exchange_record.specs.Exchanges.{exchangeBytes, exchangeIn, reached,
 use Rattle.meter_record.specs.MeterRecords.{meterSize, meterBytes, meterIn, unreached, meterFrom}
 use Rattle.host_lines.specs.Calls.{readFor, writeFor, requestFor}
 use Rattle.host_search.specs.Finding.{findFor}
+use Rattle.host_either.specs.Finding.{eitherFor}
 use Rattle.host_bench.specs.Calls.{errorFor}
 use Rattle.host_exchange.specs.Calls as exchanges
 use Rattle.host_exchange.specs.Calls.{sendEndedFor, tickFor}
@@ -235,6 +238,13 @@ searching-by (c ∷ s) = go (lengthHere (c ∷ s)) (findIn s) (searching-by s)
     go (reads n) b h = tt
     go (refusal n) (refusal m) h = h
     go (refusal n) (reads p) h = tt
+
+pub either-by : (mbus optical : List ℕ) → By (18 ∷ []) (findEither mbus optical)
+either-by mbus optical = go (findIn mbus)
+  where
+    go : (a : Answer Spot) → By (18 ∷ []) (orOptical a (findIn optical))
+    go (reads p) = reads-by _ _
+    go (refusal n) = within-by _ (liveOn Optical) (findIn optical) (searching-by optical)
 
 pub writing-by : (t : Telegram) (places : ℕ) → By (20 ∷ 21 ∷ []) (writeLine t places)
 unfolding any
@@ -457,6 +467,10 @@ module _ (b out : List ℕ) where
   kept-into-by i =
       follow-by _ (columnsFrom b) _ (more (101 ∷ []) _ _ refl (lists-by b))
       (λ c. needs-by _ 12 out (rowKept b i) refl (more (101 ∷ 39 ∷ []) _ _ refl (kept-row-by b i)))
+
+  pub either-for-by : (optical : List ℕ) → By (18 ∷ 21 ∷ []) (eitherFor b optical out)
+  unfolding any
+  either-for-by optical = placed-by _ 16 out (findEither b optical) refl (more (18 ∷ []) _ _ refl (either-by b optical))
 
   pub row-into-by : (i : ℕ) → By (21 ∷ 39 ∷ bundleNumbers) (rowInto b i out)
   unfolding any

@@ -10,6 +10,8 @@ use Rattle.mbus_rules.specs.Answers.{Answer}
 use Rattle.bytes_lent.specs.Lent.{Leaves}
 use Rattle.mbus_writing.specs.declared.Written.{Written}
 use Rattle.mbus_writing.specs.Answering.{WritesLine}
+use Rattle.mbus_either.specs.declared.Either.{Either}
+use Rattle.mbus_either.specs.Stretches.{HandsEither}
 use Rattle.bundle_check.specs.Records.{Recorded}
 use Rattle.bundle_check.specs.Handing.{BodyPlace}
 use Rattle.bundle_check.specs.Stretches.{Handed}
@@ -94,3 +96,12 @@ words-settled said out x y p q = two-equations _ _ x y (p .answer, p .holds) (q 
 
 pub stretch-settled : (a : Answer BodyPlace) (whole x y : RefT (List ℕ)) → Handed a whole x → Handed a whole y → (now x ≡ now y) × (ptr x ≡ ptr y)
 stretch-settled a whole x y p q = (p .bytes ∙ sym (q .bytes), two-equations _ _ (ptr x) (ptr y) (p .block, p .place) (q .block, q .place))
+
+-- the same of one of two captures, beside what was found
+pub either-settled : (mbus optical : RefT (List ℕ)) (x y : Either) → HandsEither mbus optical x → HandsEither mbus optical y
+    → (x .found ≡ y .found) × (now (x .stretch) ≡ now (y .stretch)) × (ptr (x .stretch) ≡ ptr (y .stretch))
+either-settled mbus optical x y p q = (
+  p .answer ∙ sym (q .answer),
+  p .stretch .characters ∙ sym (q .stretch .characters),
+  two-equations _ _ (ptr (x .stretch)) (ptr (y .stretch)) (p .stretch .block, p .stretch .place) (q .stretch .block, q .stretch .place),
+)

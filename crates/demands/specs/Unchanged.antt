@@ -13,6 +13,9 @@ use Rattle.mbus_rules.specs.Writing.{writeLine}
 use Rattle.bytes_lent.specs.Lent.{told, stored, done, Leaves}
 use Rattle.mbus_writing.specs.declared.Written.{Written}
 use Rattle.mbus_writing.specs.Answering.{WritesLine}
+use Rattle.mbus_either.specs.declared.Either.{Either}
+use Rattle.mbus_either.specs.Interfaces.{findEither}
+use Rattle.mbus_either.specs.Stretches.{StretchOf, HandsEither}
 use Rattle.bundle_check.specs.Records.{Recorded}
 use Rattle.bundle_check.specs.Handing.{BodyPlace}
 use Rattle.bundle_check.specs.Stretches.{bytesAt, Handed}
@@ -76,6 +79,10 @@ module _ (n : ℕ) where
   -- Where a stretch of the caller's memory is asked for, a refusal hands out an empty one.
   pub stretch-empty : (a : Answer BodyPlace) (whole part : RefT (List ℕ)) → a ≡ refusal n → Handed a whole part → now part ≡ []
   stretch-empty a whole part e p = by-answer (λ x. bytesAt x (now whole)) [] (λ m. refl) a n (now part) e (p .bytes)
+
+  pub either-empty : (mbus optical : RefT (List ℕ)) (r : Either) → findEither (now mbus) (now optical) ≡ refusal n → HandsEither mbus optical r
+      → now (r .stretch) ≡ []
+  either-empty mbus optical r e p = let q : StretchOf (refusal n) mbus optical (r .stretch) = rw e at (p .stretch) in q .characters
 
   -- ---- for C
 

@@ -33,6 +33,9 @@ pub record Spot : Type 0 where
   pub place : ℕ
   pub length : ℕ
 
+abbrev pub spotAt : ℕ → ℕ → Spot
+spotAt place n = record { place = place; length = n }
+
 -- one place further on
 abbrev pub further : Answer Spot → Answer Spot
 further (refusal n) = refusal n

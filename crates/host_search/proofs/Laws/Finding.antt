@@ -1,8 +1,8 @@
--- Laws of `specs/Finding`.
+-- Laws of `specs/Finding`: the ways out of the calls.
 use Prim.Native.Nat.{ℕ, _+_, _≤_}
-use mathlib.Core.Bool.{true, false}
+use mathlib.Core.Bool.{Bool, true, false}
 use mathlib.Core.List.{List, [], _∷_, append-nil}
-use mathlib.Core.Path.{_≡_, refl, ap₂}
+use mathlib.Core.Path.{_≡_, refl, sym, ap, _∙_}
 use native.Mathlib.Omega.{arith}
 use borrow.Author.Tests.{ltb-false}
 use lib.Dec.{ltb}
@@ -10,36 +10,53 @@ use lib.ListN.{length}
 use Rattle.mbus_rules.specs.Answers.{Answer, reads, refusal}
 use Rattle.mbus_search.specs.declared.Found.{Found}
 use Rattle.mbus_search.specs.declared.Found.the-variants as founds
-use Rattle.mbus_search.specs.Searching.{Spot, findIn, foundShown}
+use Rattle.mbus_search.specs.Searching.{Spot, spotAt, findIn, foundShown}
+use Rattle.mbus_search.proofs.Laws.Meaning.{found-same}
 use Rattle.bytes_numbers.specs.Records.{wordsOf, recordOf}
 use Rattle.bytes_numbers.proofs.Laws.RecordLaws.{record-length}
 use Rattle.bytes_lent.specs.Copying.{copied}
-use Rattle.bytes_lent.specs.Lent.{done}
-use Rattle.bytes_lent.proofs.Laws.LentLaws.{leaves-all, leaves-copied}
+use Rattle.bytes_lent.specs.Lent.{done, placed, Leaves}
+use Rattle.bytes_lent.proofs.Laws.LentLaws.{none-copied, leaves-all, leaves-copied}
 use Rattle.host_search.specs.Finding.{spotBytes, Finds}
 
--- Laws: the ways out of the call.
-found-none : (a : Answer Spot) {s : Found} {n : ℕ} → s ≡ foundShown a → s ≡ founds.Refused n → a ≡ refusal n
-found-none (refusal m) e f = cc
-found-none (reads p) e f = let z : _≡_ {A = ℕ} 0 1 = cc in absurd (omega arith)
+-- the record of a place has 16 bytes
+spot-record : (p n : ℕ) → recordOf [] (p ∷ n ∷ []) [] ≡ spotBytes (spotAt p n)
+spot-record p n = append-nil (wordsOf (p ∷ n ∷ []))
 
-found-at : (a : Answer Spot) {s : Found} {p n : ℕ} → s ≡ foundShown a → s ≡ founds.At p n → a ≡ reads (record { place = p; length = n })
-found-at (refusal m) e f = let z : _≡_ {A = ℕ} 0 1 = cc in absurd (omega arith)
-found-at (reads q) {s} {p} {n} e f =
-    let place : q .place ≡ p = cc in
-    let length : q .length ≡ n = cc in
-    ap₂ (λ (i j : ℕ). reads (record { place = i; length = j })) place length
+pub spot-copied : (out : List ℕ) (p n : ℕ) {after : List ℕ} → after ≡ copied out 0 (recordOf [] (p ∷ n ∷ []) []) → after ≡ copied out 0 (spotBytes (spotAt p n))
+spot-copied out p n l = l ∙ ap (copied out 0) (spot-record p n)
 
-module _ (capture out : List ℕ) {s : Found} (e : s ≡ foundShown (findIn capture)) where
-  pub none-found : {n : ℕ} → s ≡ founds.Refused n → Finds capture out out (256 + n)
-  none-found {n} f = rw (found-none (findIn capture) e f) (leaves-all spotBytes out done refl)
+spot-length : (p : Spot) → length (spotBytes p) ≡ 16
+spot-length p = ap length (sym (spot-record (p .place) (p .length))) ∙ record-length [] (p .place ∷ p .length ∷ []) []
 
-  pub found-short : {p n : ℕ} → s ≡ founds.At p n → ltb (length out) 16 ≡ true → Finds capture out out (256 + 21)
-  found-short f h = rw (found-at (findIn capture) e f, h) (leaves-all spotBytes out done refl)
+-- place and length of an answer, where they were put into 16 bytes or there were fewer
+module _ {A : Type 0} (number : A → ℕ) (spot : A → Spot) (out : List ℕ) (x : A) {short : Bool} {after : List ℕ} (s : short ≡ ltb (length out) 16)
+    (l : after ≡ copied out 0 (spotBytes (spot x))) where
+  pub spot-short : short ≡ true → Leaves number (λ y. spotBytes (spot y)) (placed 16 out (reads x)) out after (256 + 21)
+  spot-short t =
+      let few : ltb (length out) 16 ≡ true = sym s ∙ t in
+      let kept : after ≡ out = l ∙ none-copied out (spotBytes (spot x)) (rw (spot-length (spot x)) few) in
+      rw (kept, few) (leaves-all (λ y. spotBytes (spot y)) out number refl)
 
-  pub found-whole : {p n : ℕ} → s ≡ founds.At p n → ltb (length out) 16 ≡ false → {after : List ℕ} → after ≡ copied out 0 (recordOf [] (p ∷ n ∷ []) [])
-      → Finds capture out after 0
-  found-whole {p} {n} f h l =
-      let words : List ℕ = recordOf [] (p ∷ n ∷ []) [] in
-      let room : length words ≤ length out = omega (arith, record-length [] (p ∷ n ∷ []) [], ltb-false (length out) 16 h) in
-      rw (found-at (findIn capture) e f, h) (leaves-copied spotBytes out done refl (append-nil (wordsOf (p ∷ n ∷ []))) room l refl)
+  pub spot-kept : short ≡ false → {r : ℕ} → r ≡ number x → Leaves number (λ y. spotBytes (spot y)) (placed 16 out (reads x)) out after r
+  spot-kept t n =
+      let many : ltb (length out) 16 ≡ false = sym s ∙ t in
+      let room : length (spotBytes (spot x)) ≤ length out = omega (arith, spot-length (spot x), ltb-false (length out) 16 many) in
+      rw many (leaves-copied (λ y. spotBytes (spot y)) out number refl refl room l n)
+
+-- ---- one capture
+
+module _ (capture out : List ℕ) {f : Found} (e : f ≡ foundShown (findIn capture)) where
+  pub none-found : {n : ℕ} → f ≡ founds.Refused n → Finds capture out out (256 + n)
+  none-found {n} t = rw (found-same (findIn capture) (refusal n) (sym e ∙ t)) (leaves-all spotBytes out done refl)
+
+  module _ {p n : ℕ} (t : f ≡ founds.At p n) {short : Bool} {after : List ℕ} (s : short ≡ ltb (length out) 16)
+      (l : after ≡ copied out 0 (spotBytes (spotAt p n))) where
+    at-spot : findIn capture ≡ reads (spotAt p n)
+    at-spot = found-same (findIn capture) (reads (spotAt p n)) (sym e ∙ t)
+
+    pub found-short : short ≡ true → Finds capture out after (256 + 21)
+    found-short h = rw at-spot (spot-short done (λ x. x) out (spotAt p n) s l h)
+
+    pub found-whole : short ≡ false → Finds capture out after 0
+    found-whole h = rw at-spot (spot-kept done (λ x. x) out (spotAt p n) s l h refl)

@@ -6,9 +6,9 @@ use mathlib.Core.List.{List, [], _∷_}
 use mathlib.Core.Path.{_≡_, refl, sym, ap, ap₂, subst, _∙_}
 use native.Mathlib.Numerals.{add-one}
 use native.Mathlib.Omega.{arith}
-use borrow.Author.Tests.{eqb-true, eqb-false}
-use lib.Dec.{eqb}
-use lib.ListN.{length, take, drop}
+use borrow.Author.Tests.{eqb-true, eqb-false, ltb-true, ltb-false}
+use lib.Dec.{eqb, ltb}
+use lib.ListN.{length, take, drop, length-drop, drop-of-length-le}
 use lib.Seq.{take-nil, drop-nil}
 use Rattle.mbus_rules.specs.Answers.{Answer, reads, refusal}
 use Rattle.mbus_rules.proofs.Laws.Tests.{by-test}
@@ -44,6 +44,15 @@ from-begins (suc k) n m s h e = by-test (accepts (readLine (take n s)))
 nothing-accepted : accepts (readLine []) ≡ false
 unfolding readLine
 nothing-accepted = refl
+
+-- a line lies inside its capture
+pub begins-inside : (s : List ℕ) (place n : ℕ) → Begins s place n → place + n ≤ length s
+begins-inside s place n b = by-test (ltb (length s) place)
+    (λ t. let beyond : length s < place = ltb-true (length s) place t in
+    let over : length s ≤ place = omega arith in
+    let none : take n (drop place s) ≡ [] = ap (take n) (drop-of-length-le s over) ∙ take-nil n in
+    absurd (false≢true (sym nothing-accepted ∙ ap (λ (l : List ℕ). accepts (readLine l)) (sym none) ∙ b .1)))
+    (λ t. omega (arith, ltb-false (length s) place t, length-drop place s, b .0))
 
 -- the line found begins there
 pub found-begins : (s : List ℕ) (p : Spot) → findIn s ≡ reads p → Begins s (p .place) (p .length)

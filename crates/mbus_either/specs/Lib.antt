@@ -1,0 +1,3 @@
+-- 02, 2026-01: both interfaces on one position.
+pub mod Interfaces
+pub mod Stretches
