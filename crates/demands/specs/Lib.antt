@@ -8,6 +8,7 @@ pub mod Bundle
 pub mod Listing
 pub mod Records
 pub mod Refusals
+pub mod Fifteen
 pub mod Unchanged
 pub mod Settled
 pub mod OneToOne
