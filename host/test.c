@@ -58,7 +58,7 @@ static void expect_words(uint32_t number, size_t places, uint32_t answer, const 
 /* Documents 01 and 02 have words for these numbers, and the library for two of its own. */
 static int has_words(uint32_t n)
 {
-    return (n >= 1 && n <= 21 && n != 19) || (n >= 30 && n <= 43) || (n >= 50 && n <= 52) || (n >= 60 && n <= 62) ||
+    return (n >= 1 && n <= 21 && n != 15 && n != 19) || (n >= 30 && n <= 43) || (n >= 50 && n <= 52) || (n >= 60 && n <= 62) ||
            (n >= 70 && n <= 72) || n == 90 || n == 91 || n == 100 || n == 101;
 }
 
@@ -152,6 +152,8 @@ int main(void)
                  "no record: another size, kind or sort, a byte that must be 0, or a state to which no steps lead");
     expect_words(99, 260, SKARROWITH_REFUSED + SKARROWITH_NO_SUCH_NUMBER, "");
     expect_words(102, 260, SKARROWITH_REFUSED + SKARROWITH_NO_SUCH_NUMBER, "");
+    expect_words(15, 260, SKARROWITH_REFUSED + SKARROWITH_NO_SUCH_NUMBER, "");
+    expect_words(SKARROWITH_REFUSED + 15, 260, SKARROWITH_REFUSED + SKARROWITH_NO_SUCH_NUMBER, "");
     expect_words(19, 260, SKARROWITH_REFUSED + SKARROWITH_NO_SUCH_NUMBER, "");
     expect_words(4294967295u, 260, SKARROWITH_REFUSED + SKARROWITH_NO_SUCH_NUMBER, "");
     expect_all_words();

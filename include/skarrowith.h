@@ -70,7 +70,7 @@ extern "C" {
  * len:   the number of bytes. An odd number is refused by 17. Length 0 is the empty line and refused by 1.
  *
  * Answers SKARROWITH_ACK to SKARROWITH_DATA, or SKARROWITH_REFUSED plus 17, or plus 1 to 14 or 16: the lowest that applies,
- * 11 to 14 entry by entry from the left. (15, an eighth entry, is never given: it repeats a quantity, which is 14.)
+ * 11 to 14 entry by entry from the left.
  */
 uint32_t skarrowith_check_line(const uint8_t *bytes, size_t len);
 

@@ -135,10 +135,8 @@ static int entries_from(const unsigned char *body, size_t n, struct second_teleg
         int q = quantity_of(e.unit);
         if (seen[q])
             return 14;
-        if (t->count == SECOND_ENTRIES)
-            return 15;
         seen[q] = 1;
-        t->entries[t->count++] = e;
+        t->entries[t->count++] = e; /* there are as many places as quantities, and this one is new */
     }
     for (int q = 0; q < QUANTITIES; q++)
         if (quantities[q].required && !seen[q])

@@ -203,13 +203,11 @@ static void miss_body(struct bytes *body, unsigned refusal)
         miss_moment(body->b + entry_place(body, 1) + 2);
         break;
     case 14:
+    case 15: /* no refusal any more: so one of an eighth entry more */
         if (once_in(2))
             repeat_entry(body);
         else
             body->b[at + 1] = body->b[entry_place(body, 0) + 1];
-        break;
-    case 15:
-        repeat_entry(body);
         break;
     default:
         drop_entry(body);

@@ -24,7 +24,6 @@ const char *second_words(unsigned long number)
         [12] = "a BCD digit over 9 in an entry",
         [13] = "time rule broken",
         [14] = "quantity already seen",
-        [15] = "this is an eighth entry",
         [16] = "a required quantity missing",
         [17] = "host form only, before 1: odd number of bytes",
         [18] = "search: no accepted line begins anywhere",

@@ -10,6 +10,7 @@ pub mod Columns
 pub mod Listing
 pub mod Records
 pub mod Refusals
+pub mod Fifteen
 pub mod Unchanged
 pub mod Settled
 pub mod OneToOne

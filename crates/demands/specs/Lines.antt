@@ -9,8 +9,7 @@ use lib.ListN.{length}
 use Rattle.mbus_rules.specs.declared.Kind.the-variants.{Data}
 use Rattle.mbus_rules.specs.declared.Telegram.{Telegram}
 use Rattle.mbus_rules.specs.Lists.{at}
-use Rattle.mbus_rules.specs.Answers.{refusal}
-use Rattle.mbus_rules.specs.Lines.{readLine, Accepted}
+use Rattle.mbus_rules.specs.Lines.{Accepted}
 use Rattle.mbus_rules.specs.TelegramSizes.{Sized}
 use Rattle.mbus_rules.specs.Writing.{bytesOfKind, wrongFor, lineOf, unwritable}
 use Rattle.mbus_rules.specs.Flips.{Place, Places, flips}
@@ -18,7 +17,6 @@ use Rattle.mbus_rules.specs.Each.{Each}
 use Rattle.mbus_rules.proofs.Laws.RoundTrip
 use Rattle.mbus_rules.proofs.Laws.RoundTrip.{accepted-lines, data-lengths}
 use Rattle.mbus_rules.proofs.Laws.LineCode
-use Rattle.mbus_rules.proofs.Laws.Seven
 
 -- What is accepted: the lines of the telegrams that can be written, and no others. (`Sized`: each field is in the range of its type.)
 pub what-is-accepted : (s : List ℕ) → Accepted s ↔ ((t : Telegram) × Sized t × (unwritable t ≡ false) × (s ≡ lineOf t))
@@ -35,10 +33,6 @@ no-line-goes-on = LineCode.no-proper-beginning
 -- Accepted lines joined end to end are cut back in exactly one way.
 pub one-cut : (ss ts : List (List ℕ)) → Each Accepted ss → Each Accepted ts → flatten ss ≡ flatten ts → ss ≡ ts
 one-cut = LineCode.one-cut
-
--- Seven different quantities are all there are, so that 15 is never given.
-pub never-15 : (s : List ℕ) → readLine s ≡ refusal 15 → ⊥
-never-15 = Seven.never-15
 
 -- L runs from 39 to 71, and the longest line has 77 characters. (`Values`: both are reached.)
 pub lengths-of-data : (t : Telegram) → wrongFor Data t ≡ false → (39 ≤ at (bytesOfKind Data t) 1) × (at (bytesOfKind Data t) 1 ≤ 71)

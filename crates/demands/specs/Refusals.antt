@@ -25,14 +25,13 @@ use Rattle.mbus_rules.specs.Characters.{over, odd, byteOf}
 use Rattle.mbus_rules.specs.Answers.{Answer, reads, refusal, refuse, within, follow}
 use Rattle.mbus_rules.specs.Headers.{headerOf, wrongHeader}
 use Rattle.mbus_rules.specs.Host.{chars, lineNumber, hostNumber}
-use Rattle.mbus_rules.specs.Quantities.{quantityOf}
-use Rattle.mbus_rules.specs.Entries.{entryOf, entryWidth, unfit, wrongDigit, wrongTime, seen, missing, readEntries}
+use Rattle.mbus_rules.specs.Quantities.{quantityOf, widthOf}
+use Rattle.mbus_rules.specs.Entries.{entryOf, unfit, wrongDigit, wrongTime, seen, missing, readEntries}
 use Rattle.mbus_rules.specs.Telegrams.{ack, readOf, dataOf, bare}
 use Rattle.mbus_rules.specs.Lines.{isAck, isShort, field, isCommand, isData, commandOf, readBody, readLine}
 use Rattle.mbus_rules.specs.Lines.{wrongStart, wrongCount, wrongLengths, wrongEnd, wrongSum}
 use Rattle.mbus_rules.specs.Views.{viewed}
 use Rattle.mbus_rules.specs.Writing.{lineOf, unwritable, writeLine}
-use Rattle.mbus_rules.proofs.Laws.Seven.{never-15}
 use Rattle.bench_indication.specs.Errors.{indicationOf}
 use Rattle.bench_indication.specs.Errors as errors
 use Rattle.mbus_search.specs.Searching.{Spot, lengthHere, further, orElse, findIn}
@@ -141,37 +140,33 @@ needs-by ns n out next h k = refuse-by ns 21 (ltb (length out) n) next h k
 abbrev pub lineNumbers : List ℕ
 lineNumbers = 1 ∷ 2 ∷ 3 ∷ 4 ∷ 5 ∷ 6 ∷ 7 ∷ 8 ∷ 9 ∷ 10 ∷ 11 ∷ 12 ∷ 13 ∷ 14 ∷ 16 ∷ []
 
-abbrev with15 : List ℕ
-with15 = 15 ∷ lineNumbers
-
-entries-by : (left : ℕ) (s : List ℕ) (done : List Entry) → By with15 (readEntries left s done)
+entries-by : (passing : ℕ) (s : List ℕ) (done : List Entry) → By lineNumbers (readEntries passing s done)
 unfolding By readEntries any
-entries-by zero s done = refl
-entries-by (suc left) [] done = refuse-by with15 16 (missing done) (reads done) refl tt
-entries-by (suc left) (b ∷ s) done =
-    chain (unfit (b ∷ s)) (wrongDigit (b ∷ s)) (wrongTime (b ∷ s)) (seen (quantityOf (at (b ∷ s) 1)) done) (eqb (length done) 7) _
-    (entries-by left (drop (entryWidth (b ∷ s)) (b ∷ s)) (done ++ (entryOf (b ∷ s) ∷ [])))
+entries-by passing [] done = refuse-by lineNumbers 16 (missing done) (reads done) refl tt
+entries-by (suc passing) (b ∷ s) done = entries-by passing s done
+entries-by zero (b ∷ s) done =
+    chain (unfit (b ∷ s)) (wrongDigit (b ∷ s)) (wrongTime (b ∷ s)) (seen (quantityOf (at (b ∷ s) 1)) done) _
+    (entries-by (1 + widthOf b) s (done ++ (entryOf (b ∷ s) ∷ [])))
   where
-    chain : (a b c d e : Bool) (next : Answer (List Entry)) → By with15 next
-        → By with15 (refuse 11 a (refuse 12 b (refuse 13 c (refuse 14 d (refuse 15 e next)))))
-    chain true b c d e next k = refl
-    chain false true c d e next k = refl
-    chain false false true d e next k = refl
-    chain false false false true e next k = refl
-    chain false false false false true next k = refl
-    chain false false false false false next k = k
+    chain : (a b c d : Bool) (next : Answer (List Entry)) → By lineNumbers next
+        → By lineNumbers (refuse 11 a (refuse 12 b (refuse 13 c (refuse 14 d next))))
+    chain true b c d next k = refl
+    chain false true c d next k = refl
+    chain false false true d next k = refl
+    chain false false false true next k = refl
+    chain false false false false next k = k
 
-body-by : (b : List ℕ) → By with15 (readBody b)
+body-by : (b : List ℕ) → By lineNumbers (readBody b)
 unfolding By readBody any
 body-by b =
     let f = field b in
     let d = drop 3 f in
     forms (isAck b) (isShort b) (not (eqb (at f 0) 0x5B)) (isCommand f) (not (isData f)) (wrongHeader d) ack (readOf (at f 1)) (commandOf f)
-    (within (dataOf (at f 1) (headerOf d)) (readEntries 8 (drop 12 d) []))
-    (within-by with15 (dataOf (at f 1) (headerOf d)) (readEntries 8 (drop 12 d) []) (entries-by 8 (drop 12 d) []))
+    (within (dataOf (at f 1) (headerOf d)) (readEntries 0 (drop 12 d) []))
+    (within-by lineNumbers (dataOf (at f 1) (headerOf d)) (readEntries 0 (drop 12 d) []) (entries-by 0 (drop 12 d) []))
   where
-    forms : (a b c d e f : Bool) (x y z : Telegram) (next : Answer Telegram) → By with15 next
-        → By with15 (cond a (reads x) (cond b (refuse 9 c (reads y)) (cond d (reads z) (refuse 9 e (refuse 10 f next)))))
+    forms : (a b c d e f : Bool) (x y z : Telegram) (next : Answer Telegram) → By lineNumbers next
+        → By lineNumbers (cond a (reads x) (cond b (refuse 9 c (reads y)) (cond d (reads z) (refuse 9 e (refuse 10 f next)))))
     forms true b c d e f x y z next k = tt
     forms false true true d e f x y z next k = refl
     forms false true false d e f x y z next k = tt
@@ -180,14 +175,15 @@ body-by b =
     forms false false c false false true x y z next k = refl
     forms false false c false false false x y z next k = k
 
-line-with-15 : (s : List ℕ) → By with15 (readLine s)
+-- Reading a line gives 1 to 14 or 16.
+pub reading-by : (s : List ℕ) → By lineNumbers (readLine s)
 unfolding By readLine any
-line-with-15 s =
+reading-by s =
     let b = map byteOf s in
     chain (eqb (length s) 0) (any over s) (any odd s) (wrongStart b) (wrongCount b) (wrongLengths b) (wrongEnd b) (wrongSum b) (readBody b) (body-by b)
   where
-    chain : (a b c d e f g h : Bool) (next : Answer Telegram) → By with15 next
-        → By with15 (refuse 1 a (refuse 2 b (refuse 3 c (refuse 4 d (refuse 5 e (refuse 6 f (refuse 7 g (refuse 8 h next))))))))
+    chain : (a b c d e f g h : Bool) (next : Answer Telegram) → By lineNumbers next
+        → By lineNumbers (refuse 1 a (refuse 2 b (refuse 3 c (refuse 4 d (refuse 5 e (refuse 6 f (refuse 7 g (refuse 8 h next))))))))
     chain true b c d e f g h next k = refl
     chain false true c d e f g h next k = refl
     chain false false true d e f g h next k = refl
@@ -197,20 +193,6 @@ line-with-15 s =
     chain false false false false false false true h next k = refl
     chain false false false false false false false true next k = refl
     chain false false false false false false false false next k = k
-
--- Reading a line gives 1 to 14 or 16.
-pub reading-by : (s : List ℕ) → By lineNumbers (readLine s)
-unfolding By any
-reading-by s = go (readLine s) refl (line-with-15 s)
-  where
-    go : (a : Answer Telegram) → readLine s ≡ a → By with15 a → By lineNumbers a
-    go (reads t) e h = tt
-    go (refusal n) e h =
-        by-first (eqb n 15) (any (eqb n) lineNumbers) h (λ y. never-15 s (e ∙ ap refusal (eqb-true n 15 y)))
-      where
-        by-first : (a b : Bool) → a || b ≡ true → (a ≡ true → ⊥) → b ≡ true
-        by-first true b h k = absurd (k refl)
-        by-first false b h k = h
 
 -- For C: 17, before 1; the number is 256 plus it.
 abbrev hostAnswer : List ℕ → Answer Telegram

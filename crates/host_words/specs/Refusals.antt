@@ -33,7 +33,6 @@ refusalTexts =
     ∷ row 12 "a BCD digit over 9 in an entry"
     ∷ row 13 "time rule broken"
     ∷ row 14 "quantity already seen"
-    ∷ row 15 "this is an eighth entry"
     ∷ row 16 "a required quantity missing"
     ∷ row 17 "host form only, before 1: odd number of bytes"
     ∷ row 18 "search: no accepted line begins anywhere"

@@ -93,7 +93,7 @@ fn say_of_lines(out: &mut [u8], number: u32) -> u32
         a BCD digit over 9 in an entry\n\
         time rule broken\n\
         quantity already seen\n\
-        this is an eighth entry\n\
+        \n\
         a required quantity missing\n\
         host form only, before 1: odd number of bytes\n\
         search: no accepted line begins anywhere\n\

@@ -1,9 +1,8 @@
--- What 11 to 15 say of one entry.
+-- What 11 to 14 say of one entry.
 use Prim.Native.Nat.{ℕ, _≤_}
 use mathlib.Core.Bool.{Bool, true, false, not, _&&_}
 use mathlib.Core.List.{List}
 use mathlib.Core.Path.{_≡_}
-use lib.Dec.{eqb}
 use lib.ListN.{length, getD}
 use Rattle.mbus_rules.specs.declared.Value.{Value}
 use Rattle.mbus_rules.specs.declared.Entry.{Entry}
@@ -42,13 +41,13 @@ takenOf s v = record { quantity = quantityOf (at s 1); width = widthOf (at s 0);
 abbrev pub tried : List ℕ → Answer Taken
 tried s = refuse 11 (unfit s) (within (takenOf s) (valued (at s 1) (valueBytes s)))
 
--- 14 and 15 of an entry that 11 to 13 let pass, where the quantities so far are marked
-abbrev pub unseen : List Bool → ℕ → Taken → Answer Taken
-unseen marks count t = refuse 14 (getD marks (t .quantity) false) (refuse 15 (eqb count 7) (reads t))
+-- 14 of an entry that 11 to 13 let pass, where the quantities so far are marked
+abbrev pub unseen : List Bool → Taken → Answer Taken
+unseen marks t = refuse 14 (getD marks (t .quantity) false) (reads t)
 
--- the next entry, or what 11 to 15 say of it
-abbrev pub nextOf : List ℕ → List Bool → ℕ → Answer Taken
-nextOf s marks count = follow (tried s) (unseen marks count)
+-- the next entry, or what 11 to 14 say of it
+abbrev pub nextOf : List ℕ → List Bool → Answer Taken
+nextOf s marks = follow (tried s) (unseen marks)
 
 -- The program's answer for each answer about one entry.
 abbrev pub triedShown : Answer Taken → Tried

@@ -1,4 +1,4 @@
-// One entry: what 11 to 15 say of it.
+// One entry: what 11 to 14 say of it.
 ghost use mathlib.Core.Path.{_≡_};
 ghost use Rattle.mbus_entries.specs.Trying.{Long, valued, valuedShown, tried, triedShown, nextOf};
 use mbus_fields::digits::packed_of;
@@ -75,9 +75,9 @@ pub fn try_entry(rest: &[u8]) -> Tried
     }
 }
 
-// The entry that the rest begins with, after count entries whose quantities are marked, or what it is refused by.
-pub fn next_entry(rest: &[u8], marks: [bool; 8], count: usize) -> Tried
-    ensures { λ r. ⌜ r ≡ triedShown (nextOf (now (rest .entry)) marks count) ⌝ }
+// The entry that the rest begins with, after entries whose quantities are marked, or what it is refused by.
+pub fn next_entry(rest: &[u8], marks: [bool; 8]) -> Tried
+    ensures { λ r. ⌜ r ≡ triedShown (nextOf (now (rest .entry)) marks) ⌝ }
 {
     let passed = try_entry(rest);
     match passed {
@@ -85,9 +85,6 @@ pub fn next_entry(rest: &[u8], marks: [bool; 8], count: usize) -> Tried
         Tried::Passed(quantity, width, entry) => {
             if marks[quantity] {
                 return Tried::Refused(14);
-            }
-            if count == 7 {
-                return Tried::Refused(15);
             }
             Tried::Passed(quantity, width, entry)
         }

@@ -62,7 +62,7 @@ fn is_refusal(outcome: Outcome) -> bool
 
 // All entries of the rest, from the left.
 pub fn read_entries(rest: &[u8]) -> Entries
-    ensures { λ r. ⌜ r ≡ entriesShown (readEntries 8 (now (rest .entry)) []) ⌝ }
+    ensures { λ r. ⌜ r ≡ entriesShown (readEntries 0 (now (rest .entry)) []) ⌝ }
 {
     let blank = blank_entry();
     let mut entries = [blank; 7];
@@ -71,7 +71,7 @@ pub fn read_entries(rest: &[u8]) -> Entries
     let mut at: usize = 0;
     let mut outcome = Outcome::Accepted;
     while at < rest.len() {
-        let next = next_entry(&rest[at..], marks, count);
+        let next = next_entry(&rest[at..], marks);
         match next {
             Tried::Refused(n) => {
                 outcome = Outcome::Refused(n);

@@ -23,4 +23,4 @@ edge count over odd first =
 
 -- 10 to 16: the header, then the entries
 abbrev pub bodyOf : List ℕ → Answer (List Entry)
-bodyOf d = refuse 10 (wrongHeader d) (readEntries 8 (drop 12 d) [])
+bodyOf d = refuse 10 (wrongHeader d) (readEntries 0 (drop 12 d) [])

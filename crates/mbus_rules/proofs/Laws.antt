@@ -19,10 +19,11 @@ pub mod ByteLaws
 pub mod DigitLaws
 pub mod MomentLaws
 pub mod HeaderLaws
+pub mod Seven
 pub mod EntryLaws
 pub mod LengthLaws
 pub mod FrameLaws
 pub mod TelegramLaws
 pub mod LineLaws
-pub mod Seven
+pub mod Fifteen
 pub mod RoundTrip

@@ -8,7 +8,7 @@ use Rattle.mbus_rules.specs.declared.Value.{Value}
 use Rattle.mbus_rules.specs.declared.Value.the-variants.{Number, Time}
 use Rattle.mbus_rules.specs.declared.Entry.{Entry}
 use Rattle.mbus_rules.specs.Lists.{at, any}
-use Rattle.mbus_rules.specs.Answers.{Answer, reads, refusal, refuse}
+use Rattle.mbus_rules.specs.Answers.{Answer, reads, refuse}
 use Rattle.mbus_rules.specs.Digits.{overNine, digitsOf}
 use Rattle.mbus_rules.specs.Moments.{momentOf, wrongMoment}
 use Rattle.mbus_rules.specs.Quantities.{quantityOf, widthOf, paired, isTime, energy, volume, inlet, outlet, time}
@@ -47,14 +47,14 @@ seen q done = any (λ (e : Entry). eqb (quantityOf (e .unit)) q) done
 abbrev pub missing : List Entry → Bool
 missing done = not (seen energy done) || not (seen volume done) || not (seen inlet done) || not (seen outlet done) || not (seen time done)
 
--- 11 to 15 are tried entry by entry from the left, 16 at the end. `left` entries may still come, of which the last is the eighth.
-unfoldable pub readEntries : (left : ℕ) → List ℕ → (done : List Entry) → Answer (List Entry)
-readEntries zero s done = refusal 15
-readEntries (suc left) [] done = refuse 16 (missing done) (reads done)
-readEntries (suc left) (b ∷ s) done =
+-- 11 to 14 are tried entry by entry from the left, 16 at the end. `passing` bytes of the entry before are still to be passed over.
+-- 02, 2026-05: no 15; an eighth entry repeats a quantity, and is 14 where it is not refused before.
+unfoldable pub readEntries : (passing : ℕ) → List ℕ → (done : List Entry) → Answer (List Entry)
+readEntries passing [] done = refuse 16 (missing done) (reads done)
+readEntries (suc passing) (b ∷ s) done = readEntries passing s done
+readEntries zero (b ∷ s) done =
     refuse 11 (unfit (b ∷ s))
     (refuse 12 (wrongDigit (b ∷ s))
     (refuse 13 (wrongTime (b ∷ s))
     (refuse 14 (seen (quantityOf (at (b ∷ s) 1)) done)
-    (refuse 15 (eqb (length done) 7)
-    (readEntries left (drop (entryWidth (b ∷ s)) (b ∷ s)) (done ++ (entryOf (b ∷ s) ∷ [])))))))
+    (readEntries (1 + widthOf b) s (done ++ (entryOf (b ∷ s) ∷ []))))))

@@ -12,6 +12,8 @@ pub mod Lines
 pub mod Views
 pub mod Writing
 pub mod Host
+-- The chain before 02, 2026-05.
+pub mod Fifteen
 -- Demand 3: flipped bits, beginnings and cuts.
 pub mod Flips
 pub mod Each

@@ -1,4 +1,4 @@
--- 01, "Refusal numbers": line reading returns the lowest that applies, except that 11 to 15 are tried entry by entry.
+-- 01, "Refusal numbers": line reading returns the lowest that applies, except that 11 to 14 are tried entry by entry.
 use Prim.Native.Nat.{ℕ, _+_, _-_, _%_}
 use mathlib.Core.Bool.{Bool, cond, not, _&&_, _||_}
 use mathlib.Core.List.{List, [], map}
@@ -71,9 +71,9 @@ readShort f = refuse 9 (not (eqb (at f 0) 0x5B)) (reads (readOf (at f 1)))
 abbrev pub commandOf : List ℕ → Telegram
 commandOf f = cond (eqb (at f 3) 0x00) (leaveOf (at f 1)) (enterOf (at f 1) (at f 3))
 
--- the header, then the entries; at most seven are accepted, and an eighth has its number
+-- the header, then the entries
 abbrev pub readData : ℕ → List ℕ → Answer Telegram
-readData a d = refuse 10 (wrongHeader d) (within (dataOf a (headerOf d)) (readEntries 8 (drop 12 d) []))
+readData a d = refuse 10 (wrongHeader d) (within (dataOf a (headerOf d)) (readEntries 0 (drop 12 d) []))
 
 abbrev pub readLong : List ℕ → Answer Telegram
 readLong f = cond (isCommand f) (reads (commandOf f)) (refuse 9 (not (isData f)) (readData (at f 1) (drop 3 f)))

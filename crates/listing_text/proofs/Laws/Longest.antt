@@ -15,8 +15,8 @@ use Rattle.mbus_rules.specs.declared.Entry.{Entry}
 use Rattle.mbus_rules.specs.declared.Telegram.{Telegram}
 use Rattle.mbus_rules.specs.Lists.{at, any}
 use Rattle.mbus_rules.specs.Answers.{Answer, reads, refusal, refuse, within}
-use Rattle.mbus_rules.specs.Entries.{entryWidth, entryOf, unfit, wrongDigit, wrongTime, seen, missing, readEntries}
-use Rattle.mbus_rules.specs.Quantities.{quantityOf}
+use Rattle.mbus_rules.specs.Entries.{entryOf, unfit, wrongDigit, wrongTime, seen, missing, readEntries}
+use Rattle.mbus_rules.specs.Quantities.{quantityOf, widthOf}
 use Rattle.mbus_rules.specs.Headers.{headerOf, wrongHeader}
 use Rattle.mbus_rules.specs.Telegrams.{ack, readOf, dataOf}
 use Rattle.mbus_rules.specs.Characters.{over, odd, byteOf}
@@ -78,24 +78,23 @@ made : {A B : Type 0} (f : A → B) {a : Answer A} → Small a → Small (within
 made f (low n h) = low n h
 made f (value a) = value (f a)
 
-entries-small : (left : ℕ) (s : List ℕ) (done : List Entry) → Small (readEntries left s done)
+entries-small : (passing : ℕ) (s : List ℕ) (done : List Entry) → Small (readEntries passing s done)
 unfolding readEntries
-entries-small zero s done = low 15 (omega arith)
-entries-small (suc left) [] done = tried 16 (missing done) (omega arith) (value done)
-entries-small (suc left) (b ∷ s) done =
+entries-small passing [] done = tried 16 (missing done) (omega arith) (value done)
+entries-small (suc passing) (b ∷ s) done = entries-small passing s done
+entries-small zero (b ∷ s) done =
     tried 11 (unfit (b ∷ s)) (omega arith)
     (tried 12 (wrongDigit (b ∷ s)) (omega arith)
     (tried 13 (wrongTime (b ∷ s)) (omega arith)
     (tried 14 (seen (quantityOf (at (b ∷ s) 1)) done) (omega arith)
-    (tried 15 (eqb (length done) 7) (omega arith)
-    (entries-small left (drop (entryWidth (b ∷ s)) (b ∷ s)) (done ++ (entryOf (b ∷ s) ∷ [])))))))
+    (entries-small (1 + widthOf b) s (done ++ (entryOf (b ∷ s) ∷ []))))))
 
 long-small : (f : List ℕ) → Small (readLong f)
 long-small f =
     chosen (isCommand f) (value (commandOf f))
     (tried 9 (not (isData f)) (omega arith)
     (tried 10 (wrongHeader (drop 3 f)) (omega arith)
-    (made (dataOf (at f 1) (headerOf (drop 3 f))) (entries-small 8 (drop 12 (drop 3 f)) []))))
+    (made (dataOf (at f 1) (headerOf (drop 3 f))) (entries-small 0 (drop 12 (drop 3 f)) []))))
 
 line-small : (s : List ℕ) → Small (readLine s)
 unfolding readLine readBody

@@ -162,25 +162,21 @@ tried-reads s {t} e =
     let h = within-reads (takenOf s) (valued (at s 1) (valueBytes s)) (p .1) in
     (p .0, h .0, h .2)
 
-module _ (s : List ℕ) (marks : List Bool) (count : ℕ) {x : Tried} (e : x ≡ triedShown (tried s)) where
-  pub next-refused : {n : ℕ} → x ≡ Tried.Refused n → Tried.Refused n ≡ triedShown (nextOf s marks count)
-  next-refused h = sym (ap (λ (a : Answer Taken). triedShown (follow a (unseen marks count))) (shown-refused (tried s) (sym e ∙ h)))
+module _ (s : List ℕ) (marks : List Bool) {x : Tried} (e : x ≡ triedShown (tried s)) where
+  pub next-refused : {n : ℕ} → x ≡ Tried.Refused n → Tried.Refused n ≡ triedShown (nextOf s marks)
+  next-refused h = sym (ap (λ (a : Answer Taken). triedShown (follow a (unseen marks))) (shown-refused (tried s) (sym e ∙ h)))
 
   module _ {q w : ℕ} {y : Entry} (h : x ≡ Tried.Passed q w y) where
-    next-is : triedShown (nextOf s marks count)
-        ≡ triedShown (unseen marks count (record { quantity = q; width = w; entry = y }))
-    next-is = ap (λ (a : Answer Taken). triedShown (follow a (unseen marks count))) (shown-passed (tried s) (sym e ∙ h))
+    next-is : triedShown (nextOf s marks) ≡ triedShown (unseen marks (record { quantity = q; width = w; entry = y }))
+    next-is = ap (λ (a : Answer Taken). triedShown (follow a (unseen marks))) (shown-passed (tried s) (sym e ∙ h))
 
     pub next-few : q < 8
     next-few =
         let t = tried-reads s (shown-passed (tried s) (sym e ∙ h)) in
         omega (arith, ap (λ (z : Taken). z .quantity) (t .2), quantity-few (at s 1))
 
-    pub next-seen : getD marks q false ≡ true → Tried.Refused 14 ≡ triedShown (nextOf s marks count)
+    pub next-seen : getD marks q false ≡ true → Tried.Refused 14 ≡ triedShown (nextOf s marks)
     next-seen m = sym (next-is ∙ rw m)
 
-    pub next-eighth : getD marks q false ≡ false → count ≡ 7 → Tried.Refused 15 ≡ triedShown (nextOf s marks count)
-    next-eighth m c = sym (next-is ∙ rw (m, eq-eqb count 7 c))
-
-    pub next-passed : getD marks q false ≡ false → (count ≡ 7 → ⊥) → Tried.Passed q w y ≡ triedShown (nextOf s marks count)
-    next-passed m c = sym (next-is ∙ rw (m, ne-eqb count 7 c))
+    pub next-passed : getD marks q false ≡ false → Tried.Passed q w y ≡ triedShown (nextOf s marks)
+    next-passed m = sym (next-is ∙ rw m)

@@ -47,8 +47,8 @@ head-is d =
 data-is : (a : ℕ) (d : List ℕ) → readData a d ≡ within (dataOf a (headerOf d)) (bodyOf d)
 data-is a d = go (wrongHeader d)
   where
-    go : (t : Bool) → refuse 10 t (within (dataOf a (headerOf d)) (readEntries 8 (drop 12 d) [])) ≡ within (dataOf a (headerOf d))
-        (refuse 10 t (readEntries 8 (drop 12 d) []))
+    go : (t : Bool) → refuse 10 t (within (dataOf a (headerOf d)) (readEntries 0 (drop 12 d) [])) ≡ within (dataOf a (headerOf d))
+        (refuse 10 t (readEntries 0 (drop 12 d) []))
     go true = refl
     go false = refl
 

@@ -1,31 +1,31 @@
 -- One entry both ways, and all entries both ways.
-use Prim.Native.Nat.{ℕ, zero, suc, _+_, _^_, _<_, _≤_}
+use Prim.Native.Nat.{ℕ, zero, suc, _+_, _^_, _<_, _≤_, zero-le}
 use mathlib.Core.Bool.{Bool, true, false, not, _&&_, _||_, false≢true, and-false}
 use mathlib.Core.List.{List, [], _∷_, _++_, append-assoc, append-nil}
 use mathlib.Core.Path.{_≡_, refl, sym, ap, ap₂, _∙_}
-use native.Mathlib.Nat.{not-suc-le-zero}
 use native.Mathlib.Omega.{arith}
-use borrow.Author.Tests.{ltb-true, ltb-false, lt-ltb, le-ltb, lt-leb, eqb-true, eqb-false, ne-eqb, not-false}
-use lib.Dec.{ltb, leb, eqb}
-use lib.ListN.{length, take, drop, length-drop, length-append, take-append-drop}
+use borrow.Author.Tests.{ltb-true, ltb-false, lt-ltb, le-ltb, lt-leb, eqb-true, ne-eqb, not-false}
+use lib.Dec.{ltb, leb}
+use lib.ListN.{length, take, drop, length-drop, length-append, take-append-drop, drop-of-length-le}
 use lib.Seq.{length-take-le, take-add, take-at, drop-at, drop-drop}
 use Rattle.mbus_rules.specs.declared.Value.{Value}
 use Rattle.mbus_rules.specs.declared.Value.the-variants.{Number, Time}
 use Rattle.mbus_rules.specs.declared.Entry.{Entry}
 use Rattle.mbus_rules.specs.Lists.{at, any}
-use Rattle.mbus_rules.specs.Answers.{reads}
+use Rattle.mbus_rules.specs.Answers.{reads, refuse}
 use Rattle.mbus_rules.specs.Digits.{overNine, digitsOf}
 use Rattle.mbus_rules.specs.Moments.{dateExists, timeExists, weekdayExists, wrongMoment}
 use Rattle.mbus_rules.specs.Quantities.{quantityOf, widthOf, paired, isTime, isPacked, unknown, between}
 use Rattle.mbus_rules.specs.Entries.{valueBytes, entryWidth, valueOf, entryOf, unfit, wrongDigit, wrongTime, seen, missing, readEntries}
 use Rattle.mbus_rules.specs.Writing.{bytesOfValue, bytesOfEntry, bytesOfEntries, wrongValue, wrongEntry, repeats}
-use Rattle.mbus_rules.proofs.Laws.TestLaws.{none, not-refused, all-passed, all-passing}
+use Rattle.mbus_rules.proofs.Laws.TestLaws.{none, refusals, all-passed, all-passing}
 use Rattle.mbus_rules.proofs.Laws.Tests.{by-test, passed}
 use Rattle.mbus_rules.proofs.Laws.AnswerLaws.{reads-same}
 use Rattle.mbus_rules.specs.Bytes.{Bytes}
 use Rattle.mbus_rules.proofs.Laws.ByteLaws.{bytes-append, bytes-take, bytes-drop, spell}
 use Rattle.mbus_rules.proofs.Laws.DigitLaws.{packed-digits, digits-below, digits-packed, packed-right, length-packed, bytes-packed}
 use Rattle.mbus_rules.proofs.Laws.MomentLaws.{MomentRead, moment-read, MomentWritten, moment-written}
+use Rattle.mbus_rules.proofs.Laws.Seven.{Different, different-last, different-few, fit-known}
 
 -- ---- the value
 
@@ -194,10 +194,28 @@ entry-before s done es o unseen r =
       few = r .few;
     }
 
-pub entries-read : (left : ℕ) (s : List ℕ) (done es : List Entry) → Bytes s → length done ≤ 7 → readEntries left s done ≡ reads es → EntriesRead s done es
-unfolding readEntries bytesOfEntries any repeats
-entries-read zero s done es bytes few e = absurd (not-refused e)
-entries-read (suc left) [] done es bytes few e =
+-- what stands behind an entry
+behind : (b : ℕ) (t : List ℕ) → drop (entryWidth (b ∷ t)) (b ∷ t) ≡ drop (1 + widthOf b) t
+behind b t = let wide : entryWidth (b ∷ t) ≡ suc (1 + widthOf b) = omega arith in ap (λ (n : ℕ). drop n (b ∷ t)) wide
+
+-- the bytes of an entry that are passed over
+entries-passing : (k : ℕ) (s : List ℕ) (done : List Entry) → readEntries k s done ≡ readEntries 0 (drop k s) done
+unfolding readEntries
+entries-passing zero s done = refl
+entries-passing (suc k) [] done = refl
+entries-passing (suc k) (b ∷ s) done = entries-passing k s done
+
+-- the chain of one entry, and then the others from behind it
+pub entries-next : (b : ℕ) (t : List ℕ) (done : List Entry) → let s = b ∷ t in readEntries 0 s done
+    ≡ refusals ((11, unfit s) ∷ (12, wrongDigit s) ∷ (13, wrongTime s) ∷ (14, seen (quantityOf (at s 1)) done) ∷ [])
+    (readEntries 0 (drop (entryWidth s) s) (done ++ (entryOf s ∷ [])))
+unfolding readEntries
+entries-next b t done = rw (entries-passing (1 + widthOf b) t (done ++ (entryOf (b ∷ t) ∷ [])), behind b t)
+
+-- nothing is left
+entries-end : (done es : List Entry) → Different done → refuse 16 (missing done) (reads done) ≡ reads es → EntriesRead [] done es
+unfolding bytesOfEntries any repeats
+entries-end done es d e =
     let k = passed 16 (missing done) (reads done) es e in
     let same : done ≡ es = reads-same (k .1) in
     record {
@@ -207,39 +225,41 @@ entries-read (suc left) [] done es bytes few e =
       right = refl;
       once = refl;
       whole = rw same at (k .0);
-      few = rw same at few;
+      few = rw same at (different-few done d);
     }
-entries-read (suc left) (b ∷ t) done es bytes few e =
+
+pub entries-read : (k : ℕ) (s : List ℕ) (done es : List Entry) → Bytes s → Different done → readEntries k s done ≡ reads es
+    → EntriesRead (drop k s) done es
+unfolding readEntries
+entries-read k [] done es bytes d e = rw (drop-of-length-le {A = ℕ} [] {i = k} zero-le) (entries-end done es d e)
+entries-read (suc k) (b ∷ t) done es bytes d e = entries-read k t done es (bytes .1) d e
+entries-read zero (b ∷ t) done es bytes d e =
     let s : List ℕ = b ∷ t in
     let x : Entry = entryOf s in
     let k =
-    all-passed ((11, unfit s) ∷ (12, wrongDigit s) ∷ (13, wrongTime s) ∷ (14, seen (quantityOf (at s 1)) done) ∷ (15, eqb (length done) 7) ∷ [])
-    (readEntries left (drop (entryWidth s) s) (done ++ (x ∷ []))) e in
+    all-passed ((11, unfit s) ∷ (12, wrongDigit s) ∷ (13, wrongTime s) ∷ (14, seen (quantityOf (at s 1)) done) ∷ [])
+    (readEntries (1 + widthOf b) t (done ++ (x ∷ []))) e in
     let o : EntryRead s = entry-read s bytes (k .0 .0) (k .0 .1 .0) (k .0 .1 .1 .0) in
-    let room : length done ≡ 7 → ⊥ = eqb-false (length done) 7 (k .0 .1 .1 .1 .1 .0) in
-    let r : EntriesRead (drop (entryWidth s) s) (done ++ (x ∷ [])) es =
-    entries-read left (drop (entryWidth s) s) (done ++ (x ∷ [])) es (bytes-drop (entryWidth s) s bytes)
-    (rw (length-append done (x ∷ [])) (omega arith)) (k .1) in
-    entry-before s done es o (k .0 .1 .1 .1 .0) r
+    let new : Different (done ++ (x ∷ [])) = different-last done x d (fit-known s (k .0 .0)) (k .0 .1 .1 .1 .0) in
+    entry-before s done es o (k .0 .1 .1 .1 .0)
+    (rw (behind b t) (entries-read (1 + widthOf b) t (done ++ (x ∷ [])) es (bytes .1) new (k .1)))
 
-pub entries-written : (left : ℕ) (done more : List Entry) → any wrongEntry more ≡ false → repeats done more ≡ false → missing (done ++ more) ≡ false
-    → length done + length more ≤ 7 → length more < left → readEntries left (bytesOfEntries more) done ≡ reads (done ++ more)
+pub entries-written : (done more : List Entry) → any wrongEntry more ≡ false → repeats done more ≡ false → missing (done ++ more) ≡ false
+    → readEntries 0 (bytesOfEntries more) done ≡ reads (done ++ more)
 unfolding readEntries bytesOfEntries any repeats
-entries-written zero done more right once whole few fuel = absurd (not-suc-le-zero fuel)
-entries-written (suc left) done [] right once whole few fuel = rw (append-nil, rw append-nil at whole)
-entries-written (suc left) done (e ∷ more) right once whole few fuel =
+entries-written done [] right once whole = rw (append-nil, rw append-nil at whole)
+entries-written done (e ∷ more) right once whole =
     let r = none (wrongEntry e) (any wrongEntry more ∷ []) right in
     let o = none (seen (quantityOf (e .unit)) done) (repeats (done ++ (e ∷ [])) more ∷ []) once in
     let rest : List ℕ = bytesOfEntries more in
     let s : List ℕ = bytesOfEntry e ++ bytesOfEntries more in
     let w : EntryWritten e rest = entry-written e rest (r .0) in
-    let tail : readEntries left rest (done ++ (e ∷ [])) ≡ reads (done ++ (e ∷ []) ++ more) =
-    entries-written left (done ++ (e ∷ [])) more (r .1 .0) (o .1 .0) (rw append-assoc whole) (rw (length-append done (e ∷ [])) (omega arith)) (omega arith) in
-    all-passing ((11, unfit s) ∷ (12, wrongDigit s) ∷ (13, wrongTime s) ∷ (14, seen (quantityOf (at s 1)) done) ∷ (15, eqb (length done) 7) ∷ [])
-    (readEntries left (drop (entryWidth s) s) (done ++ (entryOf s ∷ [])))
-    (w .fit, (w .digits, (w .moment, (o .0, (ne-eqb (length done) 7 (omega arith), tt)))))
-    ∙ ap₂ (λ (l : List ℕ) (x : Entry). readEntries left l (done ++ (x ∷ []))) (w .after) (w .back)
-    ∙ tail
+    entries-next (e .structure) (drop 1 s) done
+    ∙ all-passing ((11, unfit s) ∷ (12, wrongDigit s) ∷ (13, wrongTime s) ∷ (14, seen (quantityOf (at s 1)) done) ∷ [])
+    (readEntries 0 (drop (entryWidth s) s) (done ++ (entryOf s ∷ [])))
+    (w .fit, (w .digits, (w .moment, (o .0, tt))))
+    ∙ ap₂ (λ (l : List ℕ) (x : Entry). readEntries 0 l (done ++ (x ∷ []))) (w .after) (w .back)
+    ∙ entries-written (done ++ (e ∷ [])) more (r .1 .0) (o .1 .0) (rw append-assoc whole)
     ∙ ap (λ (l : List Entry). reads l) (append-assoc done (e ∷ []) more)
 
 pub entries-bytes : (es : List Entry) → any wrongEntry es ≡ false → Bytes (bytesOfEntries es)

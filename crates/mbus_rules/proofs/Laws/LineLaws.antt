@@ -31,6 +31,7 @@ use Rattle.mbus_rules.specs.Bytes.{Bytes}
 use Rattle.mbus_rules.proofs.Laws.ByteLaws.{byte-at, bytes-append, bytes-take, bytes-drop, spell, spell-whole}
 use Rattle.mbus_rules.proofs.Laws.HeaderLaws.{HeaderRead, header-read, header-fits, header-length, header-written, header-bytes}
 use Rattle.mbus_rules.specs.HeaderSizes.{Fits}
+use Rattle.mbus_rules.proofs.Laws.Seven.{none-yet}
 use Rattle.mbus_rules.proofs.Laws.EntryLaws.{EntriesRead, entries-read, entries-written, entries-bytes}
 use Rattle.mbus_rules.proofs.Laws.LengthLaws.{entries-least, entries-most}
 use Rattle.mbus_rules.proofs.Laws.Frames.{Framed, Short, Long, form}
@@ -124,10 +125,10 @@ data-round b f t e bytes q r =
     let n : 15 ≤ length f = leb-true 15 (length f) (k .0) in
     let d : List ℕ = drop 3 f in
     let first : take 3 f ≡ 0x08 ∷ at f 1 ∷ 0x72 ∷ [] = spell 3 0 f (omega arith) ∙ rw (eqb-true (at f 0) 0x08 (k .1 .0), eqb-true (at f 2) 0x72 (k .1 .1 .0)) in
-    let u = passed 10 (wrongHeader d) (within (dataOf (at f 1) (headerOf d)) (readEntries 8 (drop 12 d) [])) t r in
-    let w = within-reads (dataOf (at f 1) (headerOf d)) (readEntries 8 (drop 12 d) []) (u .1) in
+    let u = passed 10 (wrongHeader d) (within (dataOf (at f 1) (headerOf d)) (readEntries 0 (drop 12 d) [])) t r in
+    let w = within-reads (dataOf (at f 1) (headerOf d)) (readEntries 0 (drop 12 d) []) (u .1) in
     let o : HeaderRead d = header-read d (rw (length-drop 3 f) (omega arith)) (bytes-drop 3 f bytes) (u .0) in
-    let es : EntriesRead (drop 12 d) [] (w .0) = entries-read 8 (drop 12 d) [] (w .0) (bytes-drop 12 d (bytes-drop 3 f bytes)) (lit≤ tt) (w .1) in
+    let es : EntriesRead (drop 12 d) [] (w .0) = entries-read 0 (drop 12 d) [] (w .0) (bytes-drop 12 d (bytes-drop 3 f bytes)) none-yet (w .1) in
     let parts : d ≡ bytesOfHeader (headerOf d) ++ drop 12 d = sym (take-append-drop 12 d) ∙ ap (λ (l : List ℕ). l ++ drop 12 d) (sym (o .back)) in
     let form : f ≡ 0x08 ∷ at f 1 ∷ 0x72 ∷ (bytesOfHeader (headerOf d) ++ drop 12 d) =
     sym (take-append-drop 3 f) ∙ ap₂ (λ (x y : List ℕ). x ++ y) first parts in
@@ -228,9 +229,8 @@ entries-reads a h es g =
     let d : List ℕ = bytesOfHeader h ++ bytesOfEntries es in
     let w = header-written h (bytesOfEntries es) (g .header) in
     let rest : drop 12 d ≡ bytesOfEntries es = drop-at (bytesOfHeader h) (bytesOfEntries es) 12 (header-length h) in
-    let entries : readEntries 8 (drop 12 d) [] ≡ reads es =
-    rw rest (entries-written 8 [] es (g .right) (g .once) (g .whole) (omega (arith, g .few)) (omega (arith, g .few))) in
-    ap (λ (t : Bool). refuse 10 t (within (dataOf a (headerOf d)) (readEntries 8 (drop 12 d) []))) (w .right)
+    let entries : readEntries 0 (drop 12 d) [] ≡ reads es = rw rest (entries-written [] es (g .right) (g .once) (g .whole)) in
+    ap (λ (t : Bool). refuse 10 t (within (dataOf a (headerOf d)) (readEntries 0 (drop 12 d) []))) (w .right)
     ∙ ap₂ (λ (x : Header) (r : Answer (List Entry)). within (dataOf a x) r) (w .back) entries
 
 data-reads : (a : ℕ) (h : Header) (es : List Entry) → a < 256 → Fits h → Good h es → Reads (longFrame (dataBytes a h es)) (dataOf a h es)

@@ -1,8 +1,8 @@
--- `mbus_entries::entry::next_entry` meets its contract: what 11 to 13 said, then the mark and the count. Assumes nothing.
+-- `mbus_entries::entry::next_entry` meets its contract: what 11 to 13 said, then the mark. Assumes nothing.
 use borrow.Author.Needs.{needs}
 use native.Mathlib.Omega.{arith}
 use denote.Ref.{now}
-use Rattle.mbus_entries.proofs.Laws.TryLaws.{next-refused, next-few, next-seen, next-eighth, next-passed}
+use Rattle.mbus_entries.proofs.Laws.TryLaws.{next-refused, next-few, next-seen, next-passed}
 use Rattle.mbus_entries.proofs.entry.next_entry.Statement.{statement}
 use Rattle.mbus_entries.proofs.entry.next_entry.Tie as tie
 
@@ -19,29 +19,22 @@ array-read-if1 : tie.Need-array-read-if1
 array-read-if1 c = omega (
   arith,
   next-few (now (c .before .before .before .before .before .args .rest)) (c .before .before .before .before .before .args .t2)
-      (c .before .before .before .before .before .args .count) (c .before .before .before .try-entry .ensures) (c .before .passed2 .given .1),
+      (c .before .before .before .try-entry .ensures) (c .before .passed2 .given .1),
 )
 
 returns : tie.Need-returns
 returns c = next-seen (now (c .before .before .before .before .before .before .args .rest))
-    (c .before .before .before .before .before .before .args .t2) (c .before .before .before .before .before .before .args .count)
-    (c .before .before .before .before .try-entry .ensures) (c .before .before .passed2 .given .1) (c .if1 .taken)
+    (c .before .before .before .before .before .before .args .t2) (c .before .before .before .before .try-entry .ensures)
+    (c .before .before .passed2 .given .1) (c .if1 .taken)
 
 returns-2 : tie.Need-returns-2
-returns-2 c = next-eighth (now (c .before .before .before .before .before .before .before .args .rest))
-    (c .before .before .before .before .before .before .before .args .t2) (c .before .before .before .before .before .before .before .args .count)
-    (c .before .before .before .before .before .try-entry .ensures) (c .before .before .before .passed2 .given .1) (c .before .if1 .left)
-    (c .if2 .taken)
+returns-2 c = next-refused (now (c .before .before .before .before .before .args .rest)) (c .before .before .before .before .before .args .t2)
+    (c .before .before .before .try-entry .ensures) (c .before .passed .given .1)
 
 returns-3 : tie.Need-returns-3
-returns-3 c = next-refused (now (c .before .before .before .before .before .args .rest)) (c .before .before .before .before .before .args .t2)
-    (c .before .before .before .before .before .args .count) (c .before .before .before .try-entry .ensures) (c .before .passed .given .1)
-
-returns-4 : tie.Need-returns-4
-returns-4 c = next-passed (now (c .before .before .before .before .before .before .before .args .rest))
-    (c .before .before .before .before .before .before .before .args .t2) (c .before .before .before .before .before .before .before .args .count)
-    (c .before .before .before .before .before .try-entry .ensures) (c .before .before .before .passed2 .given .1) (c .before .if1 .left)
-    (c .if2 .left)
+returns-3 c = next-passed (now (c .before .before .before .before .before .before .args .rest))
+    (c .before .before .before .before .before .before .args .t2) (c .before .before .before .before .try-entry .ensures)
+    (c .before .before .passed2 .given .1) (c .if1 .left)
 
 pub next-entry-spec : {M : Type 1} → statement M
 next-entry-spec =
@@ -53,5 +46,4 @@ next-entry-spec =
     array-read-if1
     returns
     returns-2
-    returns-3
-    returns-4)
+    returns-3)
