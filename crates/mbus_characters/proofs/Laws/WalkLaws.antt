@@ -14,6 +14,7 @@ use Rattle.mbus_rules.specs.declared.Outcome.{Outcome}
 use Rattle.mbus_rules.specs.Lists.{at, total}
 use Rattle.mbus_rules.specs.Characters.{byteOf}
 use Rattle.mbus_rules.specs.Telegrams.{outcomeShown}
+use Rattle.mbus_rules.proofs.Laws.Closing.{total-append}
 use Rattle.mbus_rules.proofs.Laws.ListLaws.{at-bytes}
 use Rattle.mbus_rules.proofs.Laws.Tests.{by-test}
 use Rattle.bytes_lent.proofs.Laws.Copying.{Copied, copied-length, copied-whole}
@@ -29,10 +30,9 @@ pub record Walk (s low : List ℕ) (i flags sum : ℕ) (now : List ℕ) : Type 0
   pub summed : sum % 256 ≡ total (map byteOf (take i s)) % 256
   pub stored : Copied low 0 (map byteOf s) i now
 
-total-snoc : (s : List ℕ) (x : ℕ) → total (s ++ (x ∷ [])) ≡ total s + x
+last-is : (x : ℕ) → total (x ∷ []) ≡ x
 unfolding total
-total-snoc [] x = omega arith
-total-snoc (y ∷ s) x = rw (total-snoc s x) (omega arith)
+last-is x = omega arith
 
 -- the whole character is added, of which modulo 256 the byte alone counts
 low-byte : (x : ℕ) → x % 65536 % 256 ≡ x % 256
@@ -57,7 +57,7 @@ module _ {s low : List ℕ} {i flags sum : ℕ} {now : List ℕ} (w : Walk s low
   walk-next h {c} e f = record {
     flagged = flagged-next s (w .flagged) h e f;
     summed =
-        rw (add-one, take-suc s i 0 h, ← e, map-append, total-snoc (map byteOf (take i s)) (byteOf c))
+        rw (add-one, take-suc s i 0 h, ← e, map-append, total-append (map byteOf (take i s)) (byteOf c ∷ []), last-is (byteOf c))
         (carried sum c (total (map byteOf (take i s))) (w .summed));
     stored = stored-next (w .stored) (omega (arith, length-map s byteOf)) (ap byteOf e ∙ sym (at-bytes s i));
   }
