@@ -54,7 +54,7 @@ fn outline_data(address: u8, part: &[u8]) -> View
 }
 
 // The rules 4 to 16 by the bytes and the sum of all of them, without a telegram.
-pub(crate) fn outline_in(bytes: &[u8], sum: u8) -> View
+pub fn outline_in(bytes: &[u8], sum: u8) -> View
     ensures { λ r. ⌜ r ≡ viewed (frameBy sum readBody (now (bytes .entry))) ⌝ }
 {
     let shape = shape_of(bytes, sum);

@@ -22,9 +22,9 @@ use taking::MOST;
 use taking::far_of;
 use taking::near_of;
 
-mod body;
+pub mod body;
 pub mod pairs;
-mod taking;
+pub mod taking;
 
 // Takes a line in by one walk over its characters. The bytes of a line that has at most MOST of them go into the first places.
 fn take_in(line: &[u16], out: &mut [u8]) -> Gathering

@@ -8,7 +8,7 @@ use mbus_rules::Outcome;
 use mbus_shape::wrong_start;
 
 // No line that 5 leaves has more characters.
-pub(crate) const MOST: usize = 261;
+pub const MOST: usize = 261;
 
 // 1, before what was gathered of so many characters.
 pub(crate) fn near_of(count: usize, sound: Outcome) -> Outcome

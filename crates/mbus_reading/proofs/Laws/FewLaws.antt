@@ -23,6 +23,7 @@ use Rattle.mbus_characters.proofs.Laws.StoreLaws.{stored-none, stored-next}
 use Rattle.mbus_shape.specs.Shapes.{shapeBody}
 use Rattle.mbus_shape.proofs.Laws.LeftLaws.{brief-few}
 use Rattle.mbus_reading.specs.Taking.{Taken}
+use Rattle.mbus_reading.proofs.Laws.TakingLaws.{sound-line}
 
 pub record Walked (b : List ℕ) (low : List ℕ) (i : ℕ) (now : List ℕ) : Type 0 where
   pub some : 0 < length (chars b)
@@ -67,9 +68,8 @@ module _ {b low : List ℕ} {i : ℕ} {now : List ℕ} (w : Walked b low i now) 
   }
 
   pub walked-all : length b / 2 ≤ i → Taken (chars b) now Accepted (total (map byteOf (chars b)) % 256)
-  unfolding readLine
   walked-all h = (
-    rw (ne-eqb (length (chars b)) 0 (omega (arith, w .some)), sym (characters-all b (w .in-range) h), sym (characters-all b (w .even) h)),
+    sound-line (chars b) (w .some) (sym (characters-all b (w .in-range) h)) (sym (characters-all b (w .even) h)),
     ap (take (length (chars b))) (copied-all (w .stored) (omega (arith, length-lows b)))
         ∙ take-at (map byteOf (chars b)) (drop (length (map byteOf (chars b))) low) (length (chars b)) (length-map (chars b) byteOf),
     refl,

@@ -65,6 +65,11 @@ module _ (s : List ℕ) (far : 261 < length s) where
 
 -- ---- at most 261
 
+-- what is sound is left to the rules on bytes
+pub sound-line : (s : List ℕ) → 0 < length s → any over s ≡ false → any odd s ≡ false → readLine s ≡ readFrame readBody (map byteOf s)
+unfolding readLine
+sound-line s some in-range even = rw (ne-eqb (length s) 0 (omega arith), in-range, even)
+
 taken-chain : (s low : List ℕ) (sum : ℕ) (none over odd : Bool) (x : Answer Telegram)
     → readLine s ≡ refuse 1 none (refuse 2 over (refuse 3 odd x))
     → (x ≡ readFrame readBody (map byteOf s)) × (take (length s) low ≡ map byteOf s) × (sum ≡ total (map byteOf s) % 256)
