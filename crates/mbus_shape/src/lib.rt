@@ -173,7 +173,11 @@ pub fn brief_shape(bytes: &[u8]) -> View
         return View::Refused(5);
     }
     if first == ACK {
-        return if count == 1 { View::Ack } else { View::Refused(5) };
+        return if count == 1 {
+            View::Ack
+        } else {
+            View::Refused(5)
+        };
     }
     if first != SHORT {
         return View::Refused(4);

@@ -20,19 +20,22 @@ returns : tie.Need-returns
 returns c =
     ap viewed
     (sym
-    (taken-as (now (c .before .before .before .before .before .before .before .args .line)) (c .before .before .before .before .take-in .last .1 .0) (c .before .before .before .before .take-in .result .sum) (c .before .outcome .given .1) (c .before .before .before .before .take-in .ensures)))
+    (taken-as (now (c .before .before .before .before .before .before .before .args .line)) (c .before .before .before .before .take-in .last .1 .0)
+    (c .before .before .before .before .take-in .result .sum) (c .before .outcome .given .1) (c .before .before .before .before .take-in .ensures)))
 
 enum-told : tie.Need-enum-told
 enum-told c = search needs
 
 array-share-prefix-bytes : tie.Need-array-share-prefix-bytes
 array-share-prefix-bytes c =
-    let t = taken-as (now (c .before .before .before .before .before .before .args .line)) (c .before .before .before .take-in .last .1 .0) (c .before .before .before .take-in .result .sum) (c .enum-told .given .1) (c .before .before .before .take-in .ensures) in
+    let t = taken-as (now (c .before .before .before .before .before .before .args .line)) (c .before .before .before .take-in .last .1 .0)
+    (c .before .before .before .take-in .result .sum) (c .enum-told .given .1) (c .before .before .before .take-in .ensures) in
     cut-room (now (c .before .before .before .before .before .before .args .line)) (c .before .before .before .take-in .last .1 .0) refl (t .1)
 
 slice-aggregate-outline-in : tie.Need-slice-aggregate-outline-in
 slice-aggregate-outline-in c =
-    let t = taken-as (now (c .before .before .before .before .before .before .before .args .line)) (c .before .before .before .before .take-in .last .1 .0) (c .before .before .before .before .take-in .result .sum) (c .before .enum-told .given .1) (c .before .before .before .before .take-in .ensures) in
+    let t = taken-as (now (c .before .before .before .before .before .before .before .args .line)) (c .before .before .before .before .take-in .last .1 .0)
+    (c .before .before .before .before .take-in .result .sum) (c .before .enum-told .given .1) (c .before .before .before .before .take-in .ensures) in
     cut-count (now (c .before .before .before .before .before .before .before .args .line)) (c .before .before .before .before .take-in .last .1 .0) refl (t .1)
 
 outline-in-requires : tie.Need-outline-in-requires
@@ -40,8 +43,11 @@ outline-in-requires c κs = search needs
 
 returns-2 : tie.Need-returns-2
 returns-2 c =
-    let t = taken-as (now (c .before .before .before .before .before .before .before .before .args .line)) (c .before .before .before .before .before .take-in .last .1 .0) (c .before .before .before .before .before .take-in .result .sum) (c .before .before .enum-told .given .1) (c .before .before .before .before .before .take-in .ensures) in
-    c .outline-in .ensures ∙ ap viewed (taken-frame (now (c .before .before .before .before .before .before .before .before .args .line)) (c .before .before .before .before .before .take-in .last .1 .0) (c .before .before .before .before .before .take-in .result .sum) refl t)
+    let t = taken-as (now (c .before .before .before .before .before .before .before .before .args .line))
+    (c .before .before .before .before .before .take-in .last .1 .0) (c .before .before .before .before .before .take-in .result .sum)
+    (c .before .before .enum-told .given .1) (c .before .before .before .before .before .take-in .ensures) in
+    c .outline-in .ensures ∙ ap viewed (taken-frame (now (c .before .before .before .before .before .before .before .before .args .line))
+    (c .before .before .before .before .before .take-in .last .1 .0) (c .before .before .before .before .before .take-in .result .sum) refl t)
 
 pub outline-of-spec : {M : Type 1} → statement M
 outline-of-spec =

@@ -24,19 +24,23 @@ returns c =
     c .refused .ensures
     ∙ ap shown
     (sym
-    (taken-as (now (c .before .before .before .before .before .before .before .before .args .line)) (c .before .before .before .before .before .take-in .last .1 .0) (c .before .before .before .before .before .take-in .result .sum) (c .before .before .outcome .given .1) (c .before .before .before .before .before .take-in .ensures)))
+    (taken-as (now (c .before .before .before .before .before .before .before .before .args .line))
+    (c .before .before .before .before .before .take-in .last .1 .0) (c .before .before .before .before .before .take-in .result .sum)
+    (c .before .before .outcome .given .1) (c .before .before .before .before .before .take-in .ensures)))
 
 enum-told : tie.Need-enum-told
 enum-told c = search needs
 
 array-share-prefix-bytes : tie.Need-array-share-prefix-bytes
 array-share-prefix-bytes c =
-    let t = taken-as (now (c .before .before .before .before .before .before .args .line)) (c .before .before .before .take-in .last .1 .0) (c .before .before .before .take-in .result .sum) (c .enum-told .given .1) (c .before .before .before .take-in .ensures) in
+    let t = taken-as (now (c .before .before .before .before .before .before .args .line)) (c .before .before .before .take-in .last .1 .0)
+    (c .before .before .before .take-in .result .sum) (c .enum-told .given .1) (c .before .before .before .take-in .ensures) in
     cut-room (now (c .before .before .before .before .before .before .args .line)) (c .before .before .before .take-in .last .1 .0) refl (t .1)
 
 slice-aggregate-read-in : tie.Need-slice-aggregate-read-in
 slice-aggregate-read-in c =
-    let t = taken-as (now (c .before .before .before .before .before .before .before .args .line)) (c .before .before .before .before .take-in .last .1 .0) (c .before .before .before .before .take-in .result .sum) (c .before .enum-told .given .1) (c .before .before .before .before .take-in .ensures) in
+    let t = taken-as (now (c .before .before .before .before .before .before .before .args .line)) (c .before .before .before .before .take-in .last .1 .0)
+    (c .before .before .before .before .take-in .result .sum) (c .before .enum-told .given .1) (c .before .before .before .before .take-in .ensures) in
     cut-count (now (c .before .before .before .before .before .before .before .args .line)) (c .before .before .before .before .take-in .last .1 .0) refl (t .1)
 
 read-in-requires : tie.Need-read-in-requires
@@ -44,8 +48,11 @@ read-in-requires c κs = search needs
 
 returns-2 : tie.Need-returns-2
 returns-2 c =
-    let t = taken-as (now (c .before .before .before .before .before .before .before .before .args .line)) (c .before .before .before .before .before .take-in .last .1 .0) (c .before .before .before .before .before .take-in .result .sum) (c .before .before .enum-told .given .1) (c .before .before .before .before .before .take-in .ensures) in
-    c .read-in .ensures ∙ ap shown (taken-frame (now (c .before .before .before .before .before .before .before .before .args .line)) (c .before .before .before .before .before .take-in .last .1 .0) (c .before .before .before .before .before .take-in .result .sum) refl t)
+    let t = taken-as (now (c .before .before .before .before .before .before .before .before .args .line))
+    (c .before .before .before .before .before .take-in .last .1 .0) (c .before .before .before .before .before .take-in .result .sum)
+    (c .before .before .enum-told .given .1) (c .before .before .before .before .before .take-in .ensures) in
+    c .read-in .ensures ∙ ap shown (taken-frame (now (c .before .before .before .before .before .before .before .before .args .line))
+    (c .before .before .before .before .before .take-in .last .1 .0) (c .before .before .before .before .before .take-in .result .sum) refl t)
 
 pub read-line-spec : {M : Type 1} → statement M
 read-line-spec =

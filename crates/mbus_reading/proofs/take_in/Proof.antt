@@ -35,8 +35,10 @@ same-length c = search needs
 returns-2 : tie.Need-returns-2
 returns-2 c =
     let a = c .before .before .before .before .before .before .before .before .args in
-    let room : length (now (a .line)) ≤ length (now (a .out)) = omega (arith, c .before .before .before .before .before .before .before .before .pre, c .before .before .before .before .before .if1 .left) in
-    taken-near (now (a .line)) (now (a .out)) _ room (c .before .before .before .gather .ensures .0) (c .before .before .before .gather .ensures .1) refl (c .near-of .ensures)
+    let room : length (now (a .line)) ≤ length (now (a .out)) = omega
+    (arith, c .before .before .before .before .before .before .before .before .pre, c .before .before .before .before .before .if1 .left) in
+    taken-near (now (a .line)) (now (a .out)) _ room (c .before .before .before .gather .ensures .0) (c .before .before .before .gather .ensures .1) refl
+    (c .near-of .ensures)
 
 pub take-in-spec : {M : Type 1} → statement M
 take-in-spec =

@@ -12,8 +12,8 @@ use lib.Seq.{length-take-le}
 use Rattle.mbus_rules.specs.Answers.{refusal}
 use Rattle.mbus_search.specs.declared.Found.the-variants.{Refused}
 use Rattle.mbus_search.specs.Searching.{lengthHere}
-use Rattle.mbus_search.proofs.Laws.Walks.{Searched, searched-none, searched-next, searched-all, searched-hit, Walked, walked-none, walked-next, walked-room}
-use Rattle.mbus_search.proofs.Laws.Walks.{walked-refused, walked-unsound, walked-hit, walked-long, walked-places}
+use Rattle.mbus_search.proofs.Laws.Walks.{Searched, searched-none, searched-next, searched-all, searched-hit, Walked, walked-none, walked-next}
+use Rattle.mbus_search.proofs.Laws.Walks.{walked-room, walked-refused, walked-unsound, walked-hit, walked-long, walked-places}
 use Rattle.mbus_search.proofs.find_line.Statement.{statement}
 use Rattle.mbus_search.proofs.find_line.Tie as tie
 
@@ -73,7 +73,8 @@ allowed-at-requires : tie.Need-allowed-at-requires Inv-loop μ-loop Inv-places �
 allowed-at-requires c κs = search needs
 
 loop-holds : tie.Need-loop-holds Inv-loop μ-loop Inv-places μ-places
-loop-holds c = walked-none (c .before .allowed-at .ensures) (c .if1 .taken) (c .before .before .before .before .places .inv .0 .nothing) (c .before .before .before .before .places .inv .1)
+loop-holds c = walked-none (c .before .allowed-at .ensures) (c .if1 .taken) (c .before .before .before .before .places .inv .0 .nothing)
+    (c .before .before .before .before .places .inv .1)
 
 mul-c : tie.Need-mul-c Inv-loop μ-loop Inv-places μ-places
 mul-c c = search needs
@@ -112,7 +113,10 @@ loop-less c = search needs
 loop-again : tie.Need-loop-again Inv-loop μ-loop Inv-places μ-places
 loop-again c =
     rw (c .before .before .before .before .wrapping-add-u8 .ensures)
-    (walked-refused (c .before .before .before .before .before .before .before .before .before .loop .inv) (c .before .before .before .before .before .before .before .before .loop-test .taken) refl (c .before .before .before .before .before .before .counts-odd .ensures) (c .before .before .before .before .before .if2 .left) (c .before .before .before .if3 .taken)
+    (walked-refused (c .before .before .before .before .before .before .before .before .before .loop .inv)
+    (c .before .before .before .before .before .before .before .before .loop-test .taken) refl
+    (c .before .before .before .before .before .before .counts-odd .ensures) (c .before .before .before .before .before .if2 .left)
+    (c .before .before .before .if3 .taken)
     (rw (c .before .before .before .before .wrapping-add-u8 .ensures) at (c .before .is-accepted .ensures)) (c .if4 .left))
 
 loop-less-2 : tie.Need-loop-less-2 Inv-loop μ-loop Inv-places μ-places
@@ -121,7 +125,8 @@ loop-less-2 c = search needs
 loop-again-2 : tie.Need-loop-again-2 Inv-loop μ-loop Inv-places μ-places
 loop-again-2 c =
     rw (c .before .wrapping-add-u8 .ensures)
-    (walked-next (c .before .before .before .before .before .before .loop .inv) (c .before .before .before .before .before .loop-test .taken) refl (c .before .before .before .counts-odd .ensures) (c .before .before .if2 .left) (c .if3 .left))
+    (walked-next (c .before .before .before .before .before .before .loop .inv) (c .before .before .before .before .before .loop-test .taken) refl
+    (c .before .before .before .counts-odd .ensures) (c .before .before .if2 .left) (c .if3 .left))
 
 add-place : tie.Need-add-place Inv-loop μ-loop Inv-places μ-places
 add-place c = search needs
@@ -130,15 +135,23 @@ places-less : tie.Need-places-less Inv-loop μ-loop Inv-places μ-places
 places-less c = search needs
 
 places-again : tie.Need-places-again Inv-loop μ-loop Inv-places μ-places
-places-again c = (searched-next (c .before .before .before .before .places .inv .0) (none-yet c .0) (c .before .before .before .places-test .taken) (none-yet c .1), none-yet c .2)
+places-again c = (
+  searched-next (c .before .before .before .before .places .inv .0) (none-yet c .0) (c .before .before .before .places-test .taken)
+      (none-yet c .1),
+  none-yet c .2,
+)
 
 returns : tie.Need-returns Inv-loop μ-loop Inv-places μ-places
 returns c = searched-all (c .before .places .inv .0) (c .places-test .left)
 
 returns-2 : tie.Need-returns-2 Inv-loop μ-loop Inv-places μ-places
 returns-2 c =
-    searched-hit (c .before .before .before .before .before .before .before .before .before .before .before .before .before .before .places .inv .0) (c .before .before .before .before .before .before .before .before .before .before .before .before .before .places-test .taken) _
-    (walked-hit (c .before .before .before .before .before .before .before .before .before .loop .inv) (c .before .before .before .before .before .before .before .before .loop-test .taken) refl (c .before .before .before .before .before .before .counts-odd .ensures) (c .before .before .before .before .before .if2 .left) (c .before .before .before .if3 .taken)
+    searched-hit (c .before .before .before .before .before .before .before .before .before .before .before .before .before .before .places .inv .0)
+    (c .before .before .before .before .before .before .before .before .before .before .before .before .before .places-test .taken) _
+    (walked-hit (c .before .before .before .before .before .before .before .before .before .loop .inv)
+    (c .before .before .before .before .before .before .before .before .loop-test .taken) refl
+    (c .before .before .before .before .before .before .counts-odd .ensures) (c .before .before .before .before .before .if2 .left)
+    (c .before .before .before .if3 .taken)
     (rw (c .before .before .before .before .wrapping-add-u8 .ensures) at (c .before .is-accepted .ensures)) (c .if4 .taken))
 
 pub find-line-spec : {M : Type 1} → statement M

@@ -23,18 +23,22 @@ enum-told-4 : tie.Need-enum-told-4
 enum-told-4 c = search needs
 
 returns : tie.Need-returns
-returns c = outline-accepts (frameBy (c .before .before .before .before .args .sum) readBody (now (c .before .before .before .before .args .bytes))) (c .before .before .outline-in .ensures) (c .enum-told .given .1)
+returns c = outline-accepts (frameBy (c .before .before .before .before .args .sum) readBody (now (c .before .before .before .before .args .bytes)))
+    (c .before .before .outline-in .ensures) (c .enum-told .given .1)
 
 returns-2 : tie.Need-returns-2
-returns-2 c = outline-accepts (frameBy (c .before .before .before .before .args .sum) readBody (now (c .before .before .before .before .args .bytes))) (c .before .before .outline-in .ensures)
+returns-2 c = outline-accepts (frameBy (c .before .before .before .before .args .sum) readBody (now (c .before .before .before .before .args .bytes)))
+    (c .before .before .outline-in .ensures)
     (c .enum-told2 .given .1)
 
 returns-3 : tie.Need-returns-3
-returns-3 c = outline-accepts (frameBy (c .before .before .before .before .args .sum) readBody (now (c .before .before .before .before .args .bytes))) (c .before .before .outline-in .ensures)
+returns-3 c = outline-accepts (frameBy (c .before .before .before .before .args .sum) readBody (now (c .before .before .before .before .args .bytes)))
+    (c .before .before .outline-in .ensures)
     (c .enum-told3 .given .1)
 
 returns-4 : tie.Need-returns-4
-returns-4 c = outline-accepts (frameBy (c .before .before .before .before .args .sum) readBody (now (c .before .before .before .before .args .bytes))) (c .before .before .outline-in .ensures)
+returns-4 c = outline-accepts (frameBy (c .before .before .before .before .args .sum) readBody (now (c .before .before .before .before .args .bytes)))
+    (c .before .before .outline-in .ensures)
     (c .enum-told4 .given .1)
 
 pub is-accepted-spec : {M : Type 1} → statement M

@@ -81,8 +81,8 @@ module _ {A : Type 0} (body : List ℕ → Answer A) where
       by-test (isLong b)
       (λ long. chain (wrongStart b) (wrongCount b) (wrongLengths b) (wrongEnd b) (cond (isLong b) (wholeWrong sum b) (wrongSum b)) (wrongSum b) (body b)
       (λ count lengths end.
-        ap (λ (t : Bool). cond t (wholeWrong sum b) (wrongSum b)) long
-        ∙ whole-told b long count lengths end (rw (at-bytes s (length b - 2)) (omega arith)) e))
+      ap (λ (t : Bool). cond t (wholeWrong sum b) (wrongSum b)) long
+      ∙ whole-told b long count lengths end (rw (at-bytes s (length b - 2)) (omega arith)) e))
       (frame-other b sum)
 
 -- the same sum, as the code adds it up

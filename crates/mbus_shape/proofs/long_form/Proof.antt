@@ -16,7 +16,13 @@ byte-at-requires-3 c κs = search needs
 
 returns : tie.Need-returns
 returns c =
-    rw (long-is (c .before .before .before .before .before .args .sum) (c .before .before .before .before .before .pre), ← c .before .before .before .byte-at .ensures, ← c .before .before .byte-at2 .ensures, ← c .before .byte-at3 .ensures)
+    rw (
+      long-is (c .before .before .before .before .before .args .sum)
+          (c .before .before .before .before .before .pre),
+      ← c .before .before .before .byte-at .ensures,
+      ← c .before .before .byte-at2 .ensures,
+      ← c .before .byte-at3 .ensures,
+    )
     (rw (c .if1 .taken))
 
 wrong-end-requires : tie.Need-wrong-end-requires
@@ -24,7 +30,13 @@ wrong-end-requires c κs = omega (arith, c .before .before .before .before .befo
 
 returns-2 : tie.Need-returns-2
 returns-2 c =
-    rw (long-is (c .before .before .before .before .before .before .before .args .sum) (c .before .before .before .before .before .before .before .pre), ← c .before .before .before .before .before .byte-at .ensures, ← c .before .before .before .before .byte-at2 .ensures, ← c .before .before .before .byte-at3 .ensures)
+    rw (
+      long-is (c .before .before .before .before .before .before .before .args .sum)
+          (c .before .before .before .before .before .before .before .pre),
+      ← c .before .before .before .before .before .byte-at .ensures,
+      ← c .before .before .before .before .byte-at2 .ensures,
+      ← c .before .before .before .byte-at3 .ensures,
+    )
     (rw (c .before .before .if1 .left, ← c .before .wrong-end .ensures, c .if2 .taken))
 
 wrong-whole-requires : tie.Need-wrong-whole-requires
@@ -32,7 +44,14 @@ wrong-whole-requires c κs = c .before .before .before .before .before .before .
 
 returns-3 : tie.Need-returns-3
 returns-3 c =
-    rw (long-is (c .before .before .before .before .before .before .before .before .before .args .sum) (c .before .before .before .before .before .before .before .before .before .pre), ← c .before .wrong-whole .ensures, ← c .before .before .before .before .before .before .before .byte-at .ensures, ← c .before .before .before .before .before .before .byte-at2 .ensures, ← c .before .before .before .before .before .byte-at3 .ensures)
+    rw (
+      long-is (c .before .before .before .before .before .before .before .before .before .args .sum)
+          (c .before .before .before .before .before .before .before .before .before .pre),
+      ← c .before .wrong-whole .ensures,
+      ← c .before .before .before .before .before .before .before .byte-at .ensures,
+      ← c .before .before .before .before .before .before .byte-at2 .ensures,
+      ← c .before .before .before .before .before .byte-at3 .ensures,
+    )
     (rw (c .before .before .before .before .if1 .left, ← c .before .before .before .wrong-end .ensures, c .before .before .if2 .left, c .if3 .taken))
 
 sub-last : tie.Need-sub-last
@@ -52,8 +71,20 @@ long-shape-requires c κs = search needs
 
 returns-4 : tie.Need-returns-4
 returns-4 c =
-    rw (long-is (c .before .before .before .before .before .before .before .before .before .before .before .args .sum) (c .before .before .before .before .before .before .before .before .before .before .before .pre), ← c .before .before .before .wrong-whole .ensures, ← c .before .before .before .before .before .before .before .before .before .byte-at .ensures, ← c .before .before .before .before .before .before .before .before .byte-at2 .ensures, ← c .before .before .before .before .before .before .before .byte-at3 .ensures)
-    (rw (c .before .before .before .before .before .before .if1 .left, ← c .before .before .before .before .before .wrong-end .ensures, c .before .before .before .before .if2 .left, c .before .before .if3 .left) (c .long-shape .ensures))
+    rw (
+      long-is (c .before .before .before .before .before .before .before .before .before .before .before .args .sum)
+          (c .before .before .before .before .before .before .before .before .before .before .before .pre),
+      ← c .before .before .before .wrong-whole .ensures,
+      ← c .before .before .before .before .before .before .before .before .before .byte-at .ensures,
+      ← c .before .before .before .before .before .before .before .before .byte-at2 .ensures,
+      ← c .before .before .before .before .before .before .before .byte-at3 .ensures,
+    )
+    (rw (
+      c .before .before .before .before .before .before .if1 .left,
+      ← c .before .before .before .before .before .wrong-end .ensures,
+      c .before .before .before .before .if2 .left,
+      c .before .before .if3 .left,
+    ) (c .long-shape .ensures))
 
 pub long-form-spec : {M : Type 1} → statement M
 long-form-spec =

@@ -13,16 +13,20 @@ brief-shape-requires : tie.Need-brief-shape-requires
 brief-shape-requires c κs = search needs
 
 returns : tie.Need-returns
-returns c = c .brief-shape .ensures ∙ brief-is (now (c .before .before .before .before .args .bytes)) (c .before .before .before .before .args .sum) (λ e. c .before .if1 .taken (c .before .before .byte-at .ensures ∙ e))
+returns c = c .brief-shape .ensures ∙ brief-is (now (c .before .before .before .before .args .bytes)) (c .before .before .before .before .args .sum)
+    (λ e. c .before .if1 .taken (c .before .before .byte-at .ensures ∙ e))
 
 wrong-length-requires : tie.Need-wrong-length-requires
 wrong-length-requires c κs = sym (c .before .byte-at .ensures) ∙ c .if1 .left
 
 returns-2 : tie.Need-returns-2
-returns-2 c = length-five (now (c .before .before .before .before .before .args .bytes)) (sym (c .before .before .before .byte-at .ensures) ∙ c .before .before .if1 .left) (c .before .wrong-length .ensures) (c .before .before .before .before .before .args .sum) (c .if2 .taken)
+returns-2 c = length-five (now (c .before .before .before .before .before .args .bytes))
+    (sym (c .before .before .before .byte-at .ensures) ∙ c .before .before .if1 .left) (c .before .wrong-length .ensures)
+    (c .before .before .before .before .before .args .sum) (c .if2 .taken)
 
 long-form-requires : tie.Need-long-form-requires
-long-form-requires c κs = long-count (now (c .before .before .before .before .before .args .bytes)) (sym (c .before .before .before .byte-at .ensures) ∙ c .before .before .if1 .left) (c .before .wrong-length .ensures) (c .if2 .left)
+long-form-requires c κs = long-count (now (c .before .before .before .before .before .args .bytes))
+    (sym (c .before .before .before .byte-at .ensures) ∙ c .before .before .if1 .left) (c .before .wrong-length .ensures) (c .if2 .left)
 
 returns-3 : tie.Need-returns-3
 returns-3 c = search needs

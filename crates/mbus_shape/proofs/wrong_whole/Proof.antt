@@ -29,7 +29,8 @@ wrapping-add-u8-requires-3 c κs = search needs
 returns : tie.Need-returns
 returns c =
     ap (λ (n : ℕ). not (eqb (c .before .before .before .before .before .before .args .sum) n))
-    (twice-is (c .before .before .before .before .byte-at .ensures) (c .before .before .before .byte-at2 .ensures) (c .before .before .wrapping-add-u8 .ensures) (c .before .wrapping-add-u82 .ensures) (c .wrapping-add-u83 .ensures))
+    (twice-is (c .before .before .before .before .byte-at .ensures) (c .before .before .before .byte-at2 .ensures)
+    (c .before .before .wrapping-add-u8 .ensures) (c .before .wrapping-add-u82 .ensures) (c .wrapping-add-u83 .ensures))
 
 pub wrong-whole-spec : {M : Type 1} → statement M
 wrong-whole-spec =

@@ -35,8 +35,7 @@ loop-less c = omega arith
 
 loop-again : tie.Need-loop-again Inv-loop μ-loop
 loop-again c =
-    let b = now (c .before .before .before .before .before .args .bytes) in
-    (
+    let b = now (c .before .before .before .before .before .args .bytes) in (
       omega arith,
       flagged-next (chars b) (c .before .before .before .loop .inv .1) (omega (arith, length-characters b)) (c .before .character-at .ensures)
           (c .folded .ensures),

@@ -31,7 +31,8 @@ returns c =
     rw (c .far-of .ensures)
     (ap viewed
     (sym
-    (far-line s (omega (arith, length-characters b, c .before .before .before .before .pre)) (c .before .before .soundness-of .ensures) (ap byteOf (c .before .character-at .ensures) ∙ sym (at-bytes s 0)))))
+    (far-line s (omega (arith, length-characters b, c .before .before .before .before .pre)) (c .before .before .soundness-of .ensures)
+    (ap byteOf (c .before .character-at .ensures) ∙ sym (at-bytes s 0)))))
 
 pub outline-far-spec : {M : Type 1} → statement M
 outline-far-spec =

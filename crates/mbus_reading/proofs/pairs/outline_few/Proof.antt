@@ -63,8 +63,10 @@ returns-3 c =
     let s = chars b in
     let low = c .before .before .before .before .before .take-few .last .1 .0 in
     let size = length-characters b in
-    let t = taken-as s low (total (map byteOf s) % 256) (c .before .before .enum-told .given .1) (c .before .before .before .before .before .take-few .ensures) in
-    few-is s low (total (map byteOf s) % 256) (omega (arith, size, c .before .before .before .before .before .before .before .before .before .pre)) (sym size) t (c .brief-shape .ensures)
+    let t = taken-as s low (total (map byteOf s) % 256) (c .before .before .enum-told .given .1)
+    (c .before .before .before .before .before .take-few .ensures) in
+    few-is s low (total (map byteOf s) % 256) (omega (arith, size, c .before .before .before .before .before .before .before .before .before .pre))
+    (sym size) t (c .brief-shape .ensures)
 
 pub outline-few-spec : {M : Type 1} → statement M
 outline-few-spec =

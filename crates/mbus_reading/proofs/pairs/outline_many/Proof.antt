@@ -28,7 +28,8 @@ returns c =
     let low = c .before .before .before .before .gather .last .1 .0 in
     let size = length-characters b in
     let t = taken-as s low (c .before .before .before .before .gather .result .sum) (c .before .outcome .given .1)
-    (taken-some s (replicate 261 0) low (omega (arith, size, c .before .before .before .before .before .before .before .pre .1, length-replicate {A = ℕ} 261 0)) (c .before .before .before .before .gather .ensures .0) (c .before .before .before .before .gather .ensures .1)
+    (taken-some s (replicate 261 0) low (omega (arith, size, c .before .before .before .before .before .before .before .pre .1, length-replicate {A = ℕ} 261 0))
+    (c .before .before .before .before .gather .ensures .0) (c .before .before .before .before .gather .ensures .1)
     (omega (arith, size, c .before .before .before .before .before .before .before .pre .0))) in
     ap viewed (sym t)
 
@@ -45,7 +46,8 @@ slice-aggregate-outline-in c =
     let low = c .before .before .before .before .gather .last .1 .0 in
     let size = length-characters b in
     let t = taken-as s low (c .before .before .before .before .gather .result .sum) (c .before .enum-told .given .1)
-    (taken-some s (replicate 261 0) low (omega (arith, size, c .before .before .before .before .before .before .before .pre .1, length-replicate {A = ℕ} 261 0)) (c .before .before .before .before .gather .ensures .0) (c .before .before .before .before .gather .ensures .1)
+    (taken-some s (replicate 261 0) low (omega (arith, size, c .before .before .before .before .before .before .before .pre .1, length-replicate {A = ℕ} 261 0))
+    (c .before .before .before .before .gather .ensures .0) (c .before .before .before .before .gather .ensures .1)
     (omega (arith, size, c .before .before .before .before .before .before .before .pre .0))) in
     cut-count s low (sym size) (ap (λ (n : ℕ). take n low) (sym size) ∙ t .1)
 
@@ -59,7 +61,9 @@ returns-2 c =
     let low = c .before .before .before .before .before .gather .last .1 .0 in
     let size = length-characters b in
     let t = taken-as s low (c .before .before .before .before .before .gather .result .sum) (c .before .before .enum-told .given .1)
-    (taken-some s (replicate 261 0) low (omega (arith, size, c .before .before .before .before .before .before .before .before .pre .1, length-replicate {A = ℕ} 261 0)) (c .before .before .before .before .before .gather .ensures .0) (c .before .before .before .before .before .gather .ensures .1)
+    (taken-some s (replicate 261 0) low
+    (omega (arith, size, c .before .before .before .before .before .before .before .before .pre .1, length-replicate {A = ℕ} 261 0))
+    (c .before .before .before .before .before .gather .ensures .0) (c .before .before .before .before .before .gather .ensures .1)
     (omega (arith, size, c .before .before .before .before .before .before .before .before .pre .0))) in
     c .outline-in .ensures ∙ ap viewed (taken-frame s low (c .before .before .before .before .before .gather .result .sum) (sym size) t)
 

@@ -32,7 +32,8 @@ same-length : tie.Need-same-length Inv-loop μ-loop
 same-length c = copied-length (c .before .before .before .loop .inv .stored)
 
 returns : tie.Need-returns Inv-loop μ-loop
-returns c = walked-over (c .before .before .before .loop .inv) (c .before .before .loop-test .taken) (c .before .character-at .ensures) (lt-ltb 511 _ (c .if1 .taken))
+returns c = walked-over (c .before .before .before .loop .inv) (c .before .before .loop-test .taken) (c .before .character-at .ensures)
+    (lt-ltb 511 _ (c .if1 .taken))
 
 counts-odd-requires : tie.Need-counts-odd-requires Inv-loop μ-loop
 counts-odd-requires c κs = search needs
@@ -58,8 +59,11 @@ same-length-2 c = copied-length (c .before .before .before .before .before .befo
 returns-2 : tie.Need-returns-2 Inv-loop μ-loop
 returns-2 c =
     let b = now (c .before .before .before .before .before .before .before .before .before .before .before .args .bytes) in
-    walked-odd (c .before .before .before .before .before .before .before .before .loop .inv) (c .before .before .before .before .before .before .before .loop-test .taken) (c .before .before .before .before .before .before .character-at .ensures) (c .before .before .before .before .counts-odd .ensures) (c .before .before .before .if2 .taken)
-    (sym (c .if3 .taken) ∙ c .before .any-over .ensures ∙ ap (λ (l : List ℕ). any over (chars l)) (rest-is b (2 * c .before .before .before .before .before .before .before .before .loop .i)))
+    walked-odd (c .before .before .before .before .before .before .before .before .loop .inv)
+    (c .before .before .before .before .before .before .before .loop-test .taken) (c .before .before .before .before .before .before .character-at .ensures)
+    (c .before .before .before .before .counts-odd .ensures) (c .before .before .before .if2 .taken)
+    (sym (c .if3 .taken) ∙ c .before .any-over .ensures ∙ ap (λ (l : List ℕ). any over (chars l))
+    (rest-is b (2 * c .before .before .before .before .before .before .before .before .loop .i)))
 
 same-length-3 : tie.Need-same-length-3 Inv-loop μ-loop
 same-length-3 c = copied-length (c .before .before .before .before .before .before .before .before .loop .inv .stored)
@@ -67,14 +71,18 @@ same-length-3 c = copied-length (c .before .before .before .before .before .befo
 returns-3 : tie.Need-returns-3 Inv-loop μ-loop
 returns-3 c =
     let b = now (c .before .before .before .before .before .before .before .before .before .before .before .args .bytes) in
-    walked-odd (c .before .before .before .before .before .before .before .before .loop .inv) (c .before .before .before .before .before .before .before .loop-test .taken) (c .before .before .before .before .before .before .character-at .ensures) (c .before .before .before .before .counts-odd .ensures) (c .before .before .before .if2 .taken)
-    (sym (c .if3 .left) ∙ c .before .any-over .ensures ∙ ap (λ (l : List ℕ). any over (chars l)) (rest-is b (2 * c .before .before .before .before .before .before .before .before .loop .i)))
+    walked-odd (c .before .before .before .before .before .before .before .before .loop .inv)
+    (c .before .before .before .before .before .before .before .loop-test .taken) (c .before .before .before .before .before .before .character-at .ensures)
+    (c .before .before .before .before .counts-odd .ensures) (c .before .before .before .if2 .taken)
+    (sym (c .if3 .left) ∙ c .before .any-over .ensures ∙ ap (λ (l : List ℕ). any over (chars l))
+    (rest-is b (2 * c .before .before .before .before .before .before .before .before .loop .i)))
 
 cast-b : tie.Need-cast-b Inv-loop μ-loop
 cast-b c = search needs
 
 slice-write-out : tie.Need-slice-write-out Inv-loop μ-loop
-slice-write-out c = let n = copied-length (c .before .before .before .before .before .loop .inv .stored) in omega (arith, c .before .before .before .before .before .before .before .before .pre .1)
+slice-write-out c = let n = copied-length (c .before .before .before .before .before .loop .inv .stored) in omega
+    (arith, c .before .before .before .before .before .before .before .before .pre .1)
 
 add-i : tie.Need-add-i Inv-loop μ-loop
 add-i c = omega arith
@@ -84,7 +92,8 @@ loop-less c = omega arith
 
 loop-again : tie.Need-loop-again Inv-loop μ-loop
 loop-again c =
-    walked-next (c .before .before .before .before .before .loop .inv) (c .before .before .before .before .loop-test .taken) (c .before .before .before .character-at .ensures) (le-ltb 511 _ (c .before .before .if1 .left)) (c .before .counts-odd .ensures)
+    walked-next (c .before .before .before .before .before .loop .inv) (c .before .before .before .before .loop-test .taken)
+    (c .before .before .before .character-at .ensures) (le-ltb 511 _ (c .before .before .if1 .left)) (c .before .counts-odd .ensures)
     (c .if2 .left)
 
 same-length-4 : tie.Need-same-length-4 Inv-loop μ-loop
