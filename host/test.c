@@ -2,6 +2,7 @@
 #include "skarrowith.h"
 
 #include "../second/example.h"
+#include "../second/line.h"
 #include "../second/number.h"
 
 #include <stdio.h>
@@ -106,6 +107,29 @@ static void expect_both_interfaces(void)
     expect_either("no place", SKARROWITH_REFUSED + 21, noise, 3, at_once, 1, 0, 99, 99);
 }
 
+/* 2 and 3 at every place of lines of every count up to 300: a late odd parity comes before an early wrong first byte, and a late
+ * character over 511 before an early odd parity. */
+static void expect_one_pass(void)
+{
+    enum { MOST = 300 };
+    uint8_t bytes[2 * MOST];
+    for (size_t count = 1; count <= MOST; count++) {
+        for (size_t i = 0; i < count; i++)
+            second_put_number(bytes + 2 * i, 2, second_character((unsigned)(0x11 + 37 * i) & 0xFF));
+        expect("a wrong first byte", SKARROWITH_REFUSED + 4, bytes, 2 * count);
+        for (size_t i = 0; i < count; i++) {
+            bytes[2 * i + 1] ^= 1;
+            expect("an odd parity and a wrong first byte", SKARROWITH_REFUSED + 3, bytes, 2 * count);
+            bytes[2 * i + 1] ^= 1;
+            bytes[1] ^= 1;
+            bytes[2 * i + 1] ^= 2;
+            expect("a character over 511 and an odd first", SKARROWITH_REFUSED + 2, bytes, 2 * count);
+            bytes[2 * i + 1] ^= 2;
+            bytes[1] ^= 1;
+        }
+    }
+}
+
 int main(void)
 {
     static const struct value values[] = {
@@ -137,6 +161,7 @@ int main(void)
     data[2 * 16] ^= 1;
     expect("the same, five flips", SKARROWITH_REFUSED + 3, data, sizeof data);
     expect_both_interfaces();
+    expect_one_pass();
     expect_words(1, 260, 17, "the line is empty");
     expect_words(8, 14, 14, "checksum wrong");
     expect_words(SKARROWITH_REFUSED + 8, 14, 14, "checksum wrong");

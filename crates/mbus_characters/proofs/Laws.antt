@@ -3,3 +3,5 @@ pub mod ParityLaws
 pub mod PairLaws
 pub mod SumLaws
 pub mod StoreLaws
+pub mod FlagLaws
+pub mod WalkLaws

@@ -1,26 +1,49 @@
 // The edge between characters and bytes. A line's characters come as numbers, or as bytes, two per character, low byte first; the rules
-// behind 3 are rules on bytes. The walks over a whole line only gather, so that the back end can take many characters at a time.
+// behind 3 are rules on bytes. One walk over a line gathers range, parity and sum and stores the bytes; it only gathers, so that the back
+// end can take many characters at a time.
+ghost use mathlib.Core.List.{[], _∷_};
 ghost use mathlib.Core.Path.{_≡_};
 ghost use Prim.Native.Nat.{_%_};
 ghost use Rattle.mbus_rules.specs.Lists.{total};
 ghost use Rattle.mbus_rules.specs.Characters.{odd};
+ghost use Rattle.mbus_rules.specs.Telegrams.{outcomeShown};
+ghost use Rattle.mbus_characters.specs.Gathering.{Flagged, soundBy};
+use mbus_rules::Outcome;
 
 pub mod line;
 pub mod pairs;
 
-// The parity over all nine bits is odd. The bits are folded onto the lowest one.
-pub fn is_odd(c: u16) -> bool
-    ensures { λ r. ⌜ r ≡ odd c ⌝ }
-{
-    let nine = c % 512;
-    let eight = nine ^ (nine / 256);
-    let four = eight ^ (eight / 16);
-    let two = four ^ (four / 4);
-    let one = two ^ (two / 2);
-    one % 2 == 1
+// What one walk over characters gathers: 2 or 3, and the sum of their bytes, modulo 256.
+pub struct Gathering {
+    pub outcome: Outcome,
+    pub sum: u8,
 }
 
-// The same for one character by itself, by a count of its bits; the back end folds many at a time better.
+// Both tests of a character in one number. Its bits are folded onto the lowest one, which for nine bits is the parity; what is over 511
+// stays over 511.
+fn folded(c: u16) -> u16
+    ensures { λ r. ⌜ Flagged (c ∷ []) r ⌝ }
+{
+    let eight = c ^ (c / 256);
+    let four = eight ^ (eight / 16);
+    let two = four ^ (four / 4);
+    two ^ (two / 2)
+}
+
+// 2 and 3, by the tests of all characters in one number.
+fn told_by(flags: u16) -> Outcome
+    ensures { λ r. ⌜ r ≡ outcomeShown (soundBy flags) ⌝ }
+{
+    if 511 < flags {
+        return Outcome::Refused(2);
+    }
+    if flags % 2 == 1 {
+        return Outcome::Refused(3);
+    }
+    Outcome::Accepted
+}
+
+// The parity over all nine bits is odd, by a count of them: cheaper for a character by itself.
 pub fn counts_odd(c: u16) -> bool
     ensures { λ r. ⌜ r ≡ odd c ⌝ }
 {

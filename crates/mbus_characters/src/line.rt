@@ -1,36 +1,16 @@
 // A line whose characters come as numbers.
 ghost use mathlib.Core.Path.{_≡_};
 ghost use mathlib.Core.List.{map};
-ghost use Rattle.mbus_rules.specs.Lists.{at, any};
-ghost use Rattle.mbus_rules.specs.Characters.{over, odd, byteOf};
+ghost use lib.ListN.{length, take};
+ghost use Rattle.mbus_rules.specs.Lists.{at};
+ghost use Rattle.mbus_rules.specs.Characters.{byteOf};
+ghost use Rattle.mbus_rules.specs.Telegrams.{outcomeShown};
 ghost use Rattle.bytes_lent.specs.Copying.{copied};
-use super::is_odd;
-
-// A character is over 511.
-pub fn any_over(line: &[u16]) -> bool
-    ensures { λ r. ⌜ r ≡ any over (now (line .entry)) ⌝ }
-{
-    let mut found = false;
-    let mut i = 0;
-    while i < line.len() {
-        found = found | (511 < line[i]);
-        i += 1;
-    }
-    found
-}
-
-// A parity is odd.
-pub fn any_odd(line: &[u16]) -> bool
-    ensures { λ r. ⌜ r ≡ any odd (now (line .entry)) ⌝ }
-{
-    let mut found = false;
-    let mut i = 0;
-    while i < line.len() {
-        found = found | is_odd(line[i]);
-        i += 1;
-    }
-    found
-}
+ghost use Rattle.mbus_characters.specs.Gathering.{sound, gathered};
+use super::Gathering;
+use super::folded;
+use super::told_by;
+use mbus_rules::Outcome;
 
 // The byte of the character at a place, 0 past the end.
 pub fn low_at(line: &[u16], i: usize) -> u8
@@ -43,17 +23,39 @@ pub fn low_at(line: &[u16], i: usize) -> u8
     }
 }
 
-// The bytes of all characters into the first places. Where there are fewer places nothing is changed.
-pub fn store_bytes(line: &[u16], out: &mut [u8])
-    ensures { λ _. ⌜ now (out .exit) ≡ copied (now (out .entry)) 0 (map byteOf (now (line .entry))) ⌝ }
+// 2 and 3 of all characters.
+pub fn soundness_of(line: &[u16]) -> Outcome
+    ensures { λ r. ⌜ r ≡ outcomeShown (sound (now (line .entry))) ⌝ }
 {
-    if out.len() < line.len() {
-        return;
-    }
+    let mut flags: u16 = 0;
     let mut i = 0;
     while i < line.len() {
-        let b = (line[i] % 256) as u8;
+        flags = flags | folded(line[i]);
+        i += 1;
+    }
+    told_by(flags)
+}
+
+// One walk over the characters, as many as there are places: 2 and 3, the sum of their bytes, and the bytes into the first places. The
+// characters are summed whole, since what stands above a byte changes nothing modulo 256.
+pub fn gather(line: &[u16], out: &mut [u8]) -> Gathering
+    ensures { λ r. ⌜ (r ≡ gathered (take (length (now (out .entry))) (now (line .entry)))) × (now (out .exit)
+        ≡ copied (now (out .entry)) 0 (map byteOf (take (length (now (out .entry))) (now (line .entry))))) ⌝ }
+{
+    let mut flags: u16 = 0;
+    let mut sum: u16 = 0;
+    let mut i = 0;
+    while (i < line.len()) & (i < out.len()) {
+        let c = line[i];
+        let b = (c % 256) as u8;
+        flags = flags | folded(c);
+        sum = std::num::wrapping_add_u16(sum, c);
         out[i] = b;
         i += 1;
+    }
+    let outcome = told_by(flags);
+    Gathering {
+        outcome,
+        sum: (sum % 256) as u8,
     }
 }

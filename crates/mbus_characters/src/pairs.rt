@@ -1,11 +1,17 @@
 // A line whose characters come as bytes, two per character, low byte first.
 ghost use mathlib.Core.Path.{_≡_};
 ghost use mathlib.Core.List.{map};
+ghost use lib.ListN.{length, take};
 ghost use Rattle.mbus_rules.specs.Lists.{at, any};
-ghost use Rattle.mbus_rules.specs.Characters.{over, odd, byteOf};
+ghost use Rattle.mbus_rules.specs.Characters.{over, byteOf};
 ghost use Rattle.mbus_rules.specs.Host.{chars};
+ghost use Rattle.mbus_rules.specs.Telegrams.{outcomeShown};
 ghost use Rattle.bytes_lent.specs.Copying.{copied};
-use super::is_odd;
+ghost use Rattle.mbus_characters.specs.Gathering.{sound, gathered};
+use super::Gathering;
+use super::folded;
+use super::told_by;
+use mbus_rules::Outcome;
 
 // The character at a place, 0 past the end.
 pub fn character_at(bytes: &[u8], i: usize) -> u16
@@ -28,33 +34,39 @@ pub fn any_over(bytes: &[u8]) -> bool
     found
 }
 
-// A parity is odd.
-pub fn any_odd(bytes: &[u8]) -> bool
-    ensures { λ r. ⌜ r ≡ any odd (chars (now (bytes .entry))) ⌝ }
+// 2 and 3 of all characters.
+pub fn soundness_of(bytes: &[u8]) -> Outcome
+    ensures { λ r. ⌜ r ≡ outcomeShown (sound (chars (now (bytes .entry)))) ⌝ }
 {
-    let mut found = false;
+    let mut flags: u16 = 0;
     let mut i = 0;
     while i < bytes.len() / 2 {
         let c = character_at(bytes, i);
-        found = found | is_odd(c);
+        flags = flags | folded(c);
         i += 1;
     }
-    found
+    told_by(flags)
 }
 
-// The bytes of all characters into the first places. Where there are fewer places nothing is changed.
-pub fn store_bytes(bytes: &[u8], out: &mut [u8])
-    ensures { λ _. ⌜ now (out .exit) ≡ copied (now (out .entry)) 0 (map byteOf (chars (now (bytes .entry)))) ⌝ }
+// One walk over the characters, as many as there are places, as over characters that come as numbers.
+pub fn gather(bytes: &[u8], out: &mut [u8]) -> Gathering
+    ensures { λ r. ⌜ (r ≡ gathered (take (length (now (out .entry))) (chars (now (bytes .entry))))) × (now (out .exit)
+        ≡ copied (now (out .entry)) 0 (map byteOf (take (length (now (out .entry))) (chars (now (bytes .entry)))))) ⌝ }
 {
-    let count = bytes.len() / 2;
-    if out.len() < count {
-        return;
-    }
+    let mut flags: u16 = 0;
+    let mut sum: u16 = 0;
     let mut i = 0;
-    while i < count {
+    while (i < bytes.len() / 2) & (i < out.len()) {
         let c = character_at(bytes, i);
         let b = (c % 256) as u8;
+        flags = flags | folded(c);
+        sum = std::num::wrapping_add_u16(sum, c);
         out[i] = b;
         i += 1;
+    }
+    let outcome = told_by(flags);
+    Gathering {
+        outcome,
+        sum: (sum % 256) as u8,
     }
 }

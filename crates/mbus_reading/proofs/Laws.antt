@@ -1,4 +1,4 @@
 -- What follows from the definitions, invariants of loops among it.
-pub mod EdgeLaws
+pub mod TakingLaws
 pub mod FewLaws
 pub mod BodyLaws

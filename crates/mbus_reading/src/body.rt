@@ -3,11 +3,11 @@ ghost use mathlib.Core.Path.{_≡_};
 ghost use Prim.Native.Nat.{_≤_};
 ghost use lib.ListN.{length};
 ghost use Rattle.mbus_rules.specs.Answers.{reads};
-ghost use Rattle.mbus_rules.specs.Lines.{readBody, readData, readFrame};
+ghost use Rattle.mbus_rules.specs.Lines.{readBody, readData};
 ghost use Rattle.mbus_rules.specs.Telegrams.{shown};
 ghost use Rattle.mbus_rules.specs.Views.{viewed};
 ghost use Rattle.mbus_entries.specs.Walking.{entriesShown};
-ghost use Rattle.mbus_shape.specs.Shapes.{askedOf};
+ghost use Rattle.mbus_shape.specs.Shapes.{askedOf, frameBy};
 ghost use Rattle.mbus_reading.specs.Outlines.{bodyOf};
 use mbus_entries::Entries;
 use mbus_entries::read_entries;
@@ -53,11 +53,11 @@ fn outline_data(address: u8, part: &[u8]) -> View
     }
 }
 
-// The rules 4 to 16, without a telegram.
-pub(crate) fn outline_in(bytes: &[u8]) -> View
-    ensures { λ r. ⌜ r ≡ viewed (readFrame readBody (now (bytes .entry))) ⌝ }
+// The rules 4 to 16 by the bytes and the sum of all of them, without a telegram.
+pub fn outline_in(bytes: &[u8], sum: u8) -> View
+    ensures { λ r. ⌜ r ≡ viewed (frameBy sum readBody (now (bytes .entry))) ⌝ }
 {
-    let shape = shape_of(bytes);
+    let shape = shape_of(bytes, sum);
     match shape {
         View::Data(address) => outline_data(address, &bytes[7..bytes.len() - 2]),
         View::Refused(n) => View::Refused(n),
@@ -103,11 +103,11 @@ fn read_data(address: u8, part: &[u8]) -> Reading
     }
 }
 
-// The rules 4 to 16.
-pub(crate) fn read_in(bytes: &[u8]) -> Reading
-    ensures { λ r. ⌜ r ≡ shown (readFrame readBody (now (bytes .entry))) ⌝ }
+// The rules 4 to 16 by the bytes and the sum of all of them.
+pub(crate) fn read_in(bytes: &[u8], sum: u8) -> Reading
+    ensures { λ r. ⌜ r ≡ shown (frameBy sum readBody (now (bytes .entry))) ⌝ }
 {
-    let shape = shape_of(bytes);
+    let shape = shape_of(bytes, sum);
     match shape {
         View::Data(address) => read_data(address, &bytes[7..bytes.len() - 2]),
         View::Refused(n) => refused(n),

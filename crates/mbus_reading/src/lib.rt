@@ -1,59 +1,81 @@
 // Line reading. `outline_of` gives kind, address and method of a line, or its refusal; `read_line` the whole answer of 01's rules.
 ghost use mathlib.Core.Path.{_≡_};
+ghost use Prim.Native.Nat.{_≤_};
+ghost use lib.ListN.{length};
 ghost use Rattle.mbus_rules.specs.Lines.{readLine};
 ghost use Rattle.mbus_rules.specs.Telegrams.{shown};
 ghost use Rattle.mbus_rules.specs.Views.{viewed, viewIn};
+ghost use Rattle.mbus_reading.specs.Taking.{Taken};
 use body::outline_in;
 use body::read_in;
-use edge::MOST;
-use edge::edge_of;
-use mbus_characters::line::any_odd;
-use mbus_characters::line::any_over;
+use mbus_characters::Gathering;
+use mbus_characters::line::gather;
 use mbus_characters::line::low_at;
-use mbus_characters::line::store_bytes;
+use mbus_characters::line::soundness_of;
 use mbus_rules::Kind;
 use mbus_rules::Outcome;
 use mbus_rules::Reading;
 use mbus_rules::Request;
 use mbus_rules::View;
 use mbus_telegrams::refused;
+use taking::MOST;
+use taking::far_of;
+use taking::near_of;
 
-mod body;
-mod edge;
+pub mod body;
 pub mod pairs;
+pub mod taking;
+
+// Takes a line in by one walk over its characters. The bytes of a line that has at most MOST of them go into the first places.
+fn take_in(line: &[u16], out: &mut [u8]) -> Gathering
+    requires { ⌜ 261 ≤ length (now out) ⌝ }
+    ensures { λ r. ⌜ Taken (now (line .entry)) (now (out .exit)) (r .outcome) (r .sum) ⌝ }
+{
+    let count = line.len();
+    if MOST < count {
+        let sound = soundness_of(line);
+        let first = low_at(line, 0);
+        let number = far_of(sound, first);
+        return Gathering {
+            outcome: Outcome::Refused(number),
+            sum: 0,
+        };
+    }
+    let gathering = gather(line, out);
+    let sound = gathering.outcome;
+    let outcome = near_of(count, sound);
+    Gathering {
+        outcome,
+        sum: gathering.sum,
+    }
+}
 
 // Kind, address and method of a line, or what it is refused by.
 pub fn outline_of(line: &[u16]) -> View
     ensures { λ r. ⌜ r ≡ viewed (readLine (now (line .entry))) ⌝ }
 {
-    let over = any_over(line);
-    let odd = any_odd(line);
-    let first = low_at(line, 0);
-    let edge = edge_of(line.len(), over, odd, first);
-    if let Outcome::Refused(n) = edge {
+    let mut bytes = [0u8; MOST];
+    let taken = take_in(line, &mut bytes);
+    let outcome = taken.outcome;
+    if let Outcome::Refused(n) = outcome {
         return View::Refused(n);
     }
-    let mut bytes = [0u8; MOST];
-    store_bytes(line, &mut bytes);
     let count = line.len();
-    outline_in(&bytes[..count])
+    outline_in(&bytes[..count], taken.sum)
 }
 
 // The whole answer of reading a line: the number of a refusal, or the telegram.
 pub fn read_line(line: &[u16]) -> Reading
     ensures { λ r. ⌜ r ≡ shown (readLine (now (line .entry))) ⌝ }
 {
-    let over = any_over(line);
-    let odd = any_odd(line);
-    let first = low_at(line, 0);
-    let edge = edge_of(line.len(), over, odd, first);
-    if let Outcome::Refused(n) = edge {
+    let mut bytes = [0u8; MOST];
+    let taken = take_in(line, &mut bytes);
+    let outcome = taken.outcome;
+    if let Outcome::Refused(n) = outcome {
         return refused(n);
     }
-    let mut bytes = [0u8; MOST];
-    store_bytes(line, &mut bytes);
     let count = line.len();
-    read_in(&bytes[..count])
+    read_in(&bytes[..count], taken.sum)
 }
 
 // The outline of what was read.

@@ -1,75 +1,106 @@
 // A line whose characters come as bytes, two per character, low byte first.
+ghost use mathlib.Core.List.{map};
 ghost use mathlib.Core.Path.{_≡_};
-ghost use Prim.Native.Nat.{_/_, _≤_};
+ghost use Prim.Native.Nat.{_/_, _%_, _≤_, _<_};
 ghost use lib.ListN.{length};
+ghost use Rattle.mbus_rules.specs.Characters.{byteOf};
 ghost use Rattle.mbus_rules.specs.Host.{chars};
 ghost use Rattle.mbus_rules.specs.Lines.{readLine};
+ghost use Rattle.mbus_rules.specs.Lists.{total};
 ghost use Rattle.mbus_rules.specs.Views.{viewed};
-ghost use Rattle.mbus_reading.specs.Few.{Few};
+ghost use Rattle.mbus_reading.specs.Taking.{Taken};
 use crate::body::outline_in;
-use crate::edge::MOST;
-use crate::edge::edge_of;
+use crate::taking::MOST;
+use crate::taking::far_of;
 use mbus_characters::counts_odd;
-use mbus_characters::pairs::any_odd;
 use mbus_characters::pairs::any_over;
 use mbus_characters::pairs::character_at;
-use mbus_characters::pairs::store_bytes;
+use mbus_characters::pairs::gather;
+use mbus_characters::pairs::soundness_of;
 use mbus_rules::Outcome;
 use mbus_rules::View;
-use mbus_shape::shape_of;
+use mbus_shape::brief_shape;
 
-// So many characters are walked over up to the first that is not sound, which for few of them is cheaper.
-const FEW: usize = 12;
+// So many characters at most have an ack and the short form, and no long form has so few. They are walked over one by one, which for few
+// of them is cheaper.
+const FEW: usize = 5;
 
-// The bytes of few characters into the first places, up to the first character that is over 511 or odd; whether there is none.
-fn store_few(bytes: &[u8], out: &mut [u8]) -> bool
-    requires { ⌜ length (now bytes) / 2 ≤ length (now out) ⌝ }
-    ensures { λ r. ⌜ Few (chars (now (bytes .entry))) (now (out .exit)) r ⌝ }
+// Takes in few characters: their bytes go into the first places, up to the first that is not sound. Behind an odd one only the range is
+// still to be told.
+fn take_few(bytes: &[u8], out: &mut [u8]) -> Outcome
+    requires { ⌜ (0 < length (now bytes) / 2) × (length (now bytes) / 2 ≤ length (now out)) ⌝ }
+    ensures { λ r. ⌜ Taken (chars (now (bytes .entry))) (now (out .exit)) r (total (map byteOf (chars (now (bytes .entry)))) % 256) ⌝ }
 {
     let mut i = 0;
     while i < bytes.len() / 2 {
         let c = character_at(bytes, i);
         if 511 < c {
-            return false;
+            return Outcome::Refused(2);
         }
         if counts_odd(c) {
-            return false;
+            let over = any_over(&bytes[2 * i..]);
+            return Outcome::Refused(if over { 2 } else { 3 });
         }
         let b = (c % 256) as u8;
         out[i] = b;
         i += 1;
     }
-    true
+    Outcome::Accepted
 }
 
-// The outline of a line of any length: range and parity are gathered over all of its characters.
-fn outline_many(bytes: &[u8]) -> View
+// The outline of few characters. They have no header and no entries: their shape is all.
+fn outline_few(bytes: &[u8]) -> View
+    requires { ⌜ length (now bytes) / 2 ≤ 5 ⌝ }
     ensures { λ r. ⌜ r ≡ viewed (readLine (chars (now (bytes .entry)))) ⌝ }
 {
     let count = bytes.len() / 2;
-    let over = any_over(bytes);
-    let odd = any_odd(bytes);
-    let first = character_at(bytes, 0);
-    let edge = edge_of(count, over, odd, (first % 256) as u8);
-    if let Outcome::Refused(n) = edge {
+    if count == 0 {
+        return View::Refused(1);
+    }
+    let mut few = [0u8; FEW];
+    let outcome = take_few(bytes, &mut few);
+    if let Outcome::Refused(n) = outcome {
         return View::Refused(n);
     }
-    let mut low = [0u8; MOST];
-    store_bytes(bytes, &mut low);
-    outline_in(&low[..count])
+    brief_shape(&few[..count])
 }
 
-// Kind, address and method of a line, or what it is refused by. Few characters have no header and no entries: their shape is all.
+// The outline of more than MOST characters, which no form has: no byte of them is stored.
+fn outline_far(bytes: &[u8]) -> View
+    requires { ⌜ 261 < length (now bytes) / 2 ⌝ }
+    ensures { λ r. ⌜ r ≡ viewed (readLine (chars (now (bytes .entry)))) ⌝ }
+{
+    let sound = soundness_of(bytes);
+    let first = character_at(bytes, 0);
+    let number = far_of(sound, (first % 256) as u8);
+    View::Refused(number)
+}
+
+// The outline of so many characters as a long form can have.
+fn outline_many(bytes: &[u8]) -> View
+    requires { ⌜ (0 < length (now bytes) / 2) × (length (now bytes) / 2 ≤ 261) ⌝ }
+    ensures { λ r. ⌜ r ≡ viewed (readLine (chars (now (bytes .entry)))) ⌝ }
+{
+    let mut low = [0u8; MOST];
+    let taken = gather(bytes, &mut low);
+    let outcome = taken.outcome;
+    if let Outcome::Refused(n) = outcome {
+        return View::Refused(n);
+    }
+    let count = bytes.len() / 2;
+    outline_in(&low[..count], taken.sum)
+}
+
+// Kind, address and method of a line, or what it is refused by.
 pub fn outline_of(bytes: &[u8]) -> View
     ensures { λ r. ⌜ r ≡ viewed (readLine (chars (now (bytes .entry)))) ⌝ }
 {
     let count = bytes.len() / 2;
-    if (0 < count) & (count <= FEW) {
-        let mut few = [0u8; FEW];
-        if store_few(bytes, &mut few) {
-            return shape_of(&few[..count]);
-        }
-        return outline_many(bytes);
+    if count <= FEW {
+        return outline_few(bytes);
+    }
+    if MOST < count {
+        return outline_far(bytes);
     }
     outline_many(bytes)
 }

@@ -1,11 +1,13 @@
 // The search for a line in a capture.
 ghost use mathlib.Core.Path.{_≡_};
 ghost use Rattle.mbus_search.specs.Searching.{accepts, findIn, foundShown};
-ghost use Rattle.mbus_rules.specs.Lines.{readLine};
+ghost use Rattle.mbus_rules.specs.Lines.{readBody};
+ghost use Rattle.mbus_shape.specs.Shapes.{frameBy};
 ghost use Rattle.mbus_search.specs.Allowed.{allowedAt};
 use mbus_characters::counts_odd;
 use mbus_characters::line::low_at;
-use mbus_reading::outline_of;
+use mbus_reading::body::outline_in;
+use mbus_reading::taking::MOST;
 use mbus_rules::View;
 
 // Where the first accepted line of a capture begins, and its length.
@@ -43,11 +45,11 @@ fn allowed_at(rest: &[u16]) -> usize
     if end == 0x16 { length } else { 0 }
 }
 
-// Reading accepts the line.
-fn is_accepted(line: &[u16]) -> bool
-    ensures { λ r. ⌜ r ≡ accepts (readLine (now (line .entry))) ⌝ }
+// The rules 4 to 16 accept the bytes of a line, by the sum of all of them.
+fn is_accepted(bytes: &[u8], sum: u8) -> bool
+    ensures { λ r. ⌜ r ≡ accepts (frameBy sum readBody (now (bytes .entry))) ⌝ }
 {
-    let view = outline_of(line);
+    let view = outline_in(bytes, sum);
     match view {
         View::Refused(_) => false,
         View::Ack => true,
@@ -56,26 +58,31 @@ fn is_accepted(line: &[u16]) -> bool
     }
 }
 
-// The lowest place at which an accepted line begins. At each place the one length that can be is walked over, character by character,
-// and the line is read only if each of them is sound.
+// The lowest place at which an accepted line begins. At each place the one length that can be is walked over, character by character:
+// their bytes are stored and summed, and the rules on bytes are asked only if each of them is sound.
 pub fn find_line(capture: &[u16]) -> Found
     ensures { λ r. ⌜ r ≡ foundShown (findIn (now (capture .entry))) ⌝ }
 {
     let mut found = Found::Refused(18);
+    let mut bytes = [0u8; MOST];
     let mut place: usize = 0;
     'places: while place < capture.len() {
         let rest = &capture[place..];
         let length = allowed_at(rest);
         if length <= rest.len() {
+            let mut sum: u8 = 0;
             let mut i: usize = 0;
             while i < length {
                 let c = rest[i];
                 if (511 < c) | counts_odd(c) {
                     break;
                 }
+                let b = (c % 256) as u8;
+                bytes[i] = b;
+                sum = std::num::wrapping_add_u8(sum, b);
                 i += 1;
                 if i == length {
-                    let accepted = is_accepted(&rest[..length]);
+                    let accepted = is_accepted(&bytes[..length], sum);
                     if accepted {
                         found = Found::At { place, length };
                         break 'places;

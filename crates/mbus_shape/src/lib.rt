@@ -3,12 +3,13 @@ ghost use mathlib.Core.List.{[], _∷_};
 ghost use mathlib.Core.Path.{_≡_};
 ghost use Prim.Native.Nat.{_+_, _≤_};
 ghost use lib.ListN.{length};
-ghost use Rattle.mbus_rules.specs.Lines.{isCommand, isData, wrongStart, wrongCount, readShort, readFrame};
+ghost use Rattle.mbus_rules.specs.Answers.{refuse};
+ghost use Rattle.mbus_rules.specs.Lists.{at};
+ghost use Rattle.mbus_rules.specs.Lines.{isLong, isCommand, isData, wrongStart, wrongCount, readShort, readFrame};
 ghost use Rattle.mbus_rules.specs.Views.{viewed};
-ghost use Rattle.mbus_shape.specs.Shapes.{shapeLong, shapeBody, endWrong, sumWrong};
+ghost use Rattle.mbus_shape.specs.Shapes.{shapeLong, shapeBody, endWrong, sumWrong, wholeWrong, frameBy};
 ghost use Rattle.mbus_shape.specs.Counts.{ShortCount, LongCount};
 use bytes_numbers::byte_at;
-use mbus_characters::sum_of;
 use mbus_rules::Request;
 use mbus_rules::View;
 use mbus_telegrams::NO_METHOD;
@@ -23,6 +24,9 @@ const LONG: u8 = 0x68;
 
 const END: u8 = 0x16;
 
+// What 68, 68 and 16 of the long form add to the sum of all bytes.
+const FRAME: u8 = 0xE6;
+
 // 4: the first byte is not E5, 10 or 68.
 pub fn wrong_start(first: u8) -> bool
     ensures { λ r. ⌜ r ≡ wrongStart (first ∷ []) ⌝ }
@@ -30,18 +34,12 @@ pub fn wrong_start(first: u8) -> bool
     !((first == ACK) | (first == SHORT) | (first == LONG))
 }
 
-// 5: the count is not 1 after E5, not 5 after 10, under 6 or not the second byte and 6 after 68.
-fn wrong_count(bytes: &[u8]) -> bool
+// 5 after 68: the count is under 6 or not the second byte and 6.
+fn wrong_length(bytes: &[u8]) -> bool
+    requires { ⌜ at (now bytes) 0 ≡ 0x68 ⌝ }
     ensures { λ r. ⌜ r ≡ wrongCount (now (bytes .entry)) ⌝ }
 {
     let count = bytes.len();
-    let first = byte_at(bytes, 0);
-    if first == ACK {
-        return !(count == 1);
-    }
-    if first == SHORT {
-        return !(count == 5);
-    }
     let second = byte_at(bytes, 1);
     (count < 6) | !(count == second as usize + 6)
 }
@@ -55,13 +53,25 @@ fn wrong_end(bytes: &[u8]) -> bool
     !(end == END)
 }
 
-// 8: the byte before the last is not the sum of those from C up to before it.
+// 8 of the short form: the byte before the last is not the sum of those from C up to before it.
 fn wrong_sum(bytes: &[u8], sum: u8) -> bool
     requires { ⌜ 5 ≤ length (now bytes) ⌝ }
     ensures { λ r. ⌜ r ≡ sumWrong sum (now (bytes .entry)) ⌝ }
 {
     let checksum = byte_at(bytes, bytes.len() - 2);
     !(checksum == sum)
+}
+
+// 8 of the long form, by the sum of all bytes: 68, L twice, 68, the bytes that CS is the sum of, CS and 16.
+fn wrong_whole(bytes: &[u8], sum: u8) -> bool
+    requires { ⌜ 6 ≤ length (now bytes) ⌝ }
+    ensures { λ r. ⌜ r ≡ wholeWrong sum (now (bytes .entry)) ⌝ }
+{
+    let second = byte_at(bytes, 1);
+    let checksum = byte_at(bytes, bytes.len() - 2);
+    let both = std::num::wrapping_add_u8(second, checksum);
+    let twice = std::num::wrapping_add_u8(both, both);
+    !(sum == std::num::wrapping_add_u8(twice, FRAME))
 }
 
 // L = 4 with C 53, CI 50 and an S of enter or leave.
@@ -133,9 +143,9 @@ fn short_form(bytes: &[u8]) -> View
 }
 
 // After 68, with the right count: 6 to 9.
-fn long_form(bytes: &[u8]) -> View
+fn long_form(bytes: &[u8], sum: u8) -> View
     requires { ⌜ LongCount (now bytes) ⌝ }
-    ensures { λ r. ⌜ r ≡ viewed (readFrame shapeBody (now (bytes .entry))) ⌝ }
+    ensures { λ r. ⌜ r ≡ viewed (frameBy sum shapeBody (now (bytes .entry))) ⌝ }
 {
     let second = byte_at(bytes, 1);
     let third = byte_at(bytes, 2);
@@ -146,30 +156,48 @@ fn long_form(bytes: &[u8]) -> View
     if wrong_end(bytes) {
         return View::Refused(7);
     }
-    let last = bytes.len() - 2;
-    let sum = sum_of(&bytes[4..last]);
-    if wrong_sum(bytes, sum) {
+    if wrong_whole(bytes, sum) {
         return View::Refused(8);
     }
+    let last = bytes.len() - 2;
     long_shape(&bytes[4..last])
 }
 
-// The rules 4 to 9, in this order. Header and entries of a data shape are not looked at.
-pub fn shape_of(bytes: &[u8]) -> View
-    ensures { λ r. ⌜ r ≡ viewed (readFrame shapeBody (now (bytes .entry))) ⌝ }
+// The rules 4 to 9 of what is too short for the long form, which is then 5.
+pub fn brief_shape(bytes: &[u8]) -> View
+    ensures { λ r. ⌜ r ≡ viewed (refuse 5 (isLong (now (bytes .entry))) (readFrame shapeBody (now (bytes .entry)))) ⌝ }
 {
+    let count = bytes.len();
     let first = byte_at(bytes, 0);
-    if wrong_start(first) {
-        return View::Refused(4);
-    }
-    if wrong_count(bytes) {
+    if first == LONG {
         return View::Refused(5);
     }
     if first == ACK {
-        return View::Ack;
+        return if count == 1 {
+            View::Ack
+        } else {
+            View::Refused(5)
+        };
     }
-    if first == SHORT {
-        return short_form(bytes);
+    if first != SHORT {
+        return View::Refused(4);
     }
-    long_form(bytes)
+    if count != 5 {
+        return View::Refused(5);
+    }
+    short_form(bytes)
+}
+
+// The rules 4 to 9, in this order, by the bytes and the sum of all of them. Header and entries of a data shape are not looked at.
+pub fn shape_of(bytes: &[u8], sum: u8) -> View
+    ensures { λ r. ⌜ r ≡ viewed (frameBy sum shapeBody (now (bytes .entry))) ⌝ }
+{
+    let first = byte_at(bytes, 0);
+    if first != LONG {
+        return brief_shape(bytes);
+    }
+    if wrong_length(bytes) {
+        return View::Refused(5);
+    }
+    long_form(bytes, sum)
 }

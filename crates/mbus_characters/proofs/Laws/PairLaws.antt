@@ -4,11 +4,11 @@ use mathlib.Core.Bool.{Bool, true, false, _||_}
 use mathlib.Core.List.{List, [], _∷_, map}
 use mathlib.Core.Path.{_≡_, refl, sym, ap, subst, _∙_}
 use native.Mathlib.Omega.{arith}
-use lib.ListN.{length, length-map, List·getD-eq-default}
+use lib.ListN.{length, drop, length-map, List·getD-eq-default}
 use Rattle.mbus_rules.specs.Lists.{at, any}
 use Rattle.mbus_rules.specs.Characters.{byteOf}
 use Rattle.mbus_rules.specs.Host.{chars}
-use Rattle.mbus_rules.proofs.Laws.ListLaws.{Gathered, gathered-next, gathered-all, at-bytes}
+use Rattle.mbus_rules.proofs.Laws.ListLaws.{Gathered, gathered-next, gathered-all}
 
 pub length-characters : (s : List ℕ) → length (chars s) ≡ length s / 2
 unfolding chars
@@ -45,13 +45,13 @@ module _ {test : ℕ → Bool} (b : List ℕ) {i : ℕ} (g : Gathered test (char
   pub pairs-miss : test c ≡ false → Gathered test (chars b) (i + 1) false
   pairs-miss t = subst (λ (found : Bool). Gathered test (chars b) (i + 1) found) t (characters-next b g h e)
 
--- the byte of a character is its first
-low-byte : (l h : ℕ) → l < 256 → (l + 256 * h) % 256 ≡ l
-low-byte l h e = omega arith
-
-pub low-chars : (b : List ℕ) (i : ℕ) → i < length b / 2 → at b (2 * i) < 256 → at b (2 * i) ≡ at (map byteOf (chars b)) i
-low-chars b i h l =
-    sym (at-bytes (chars b) i ∙ ap byteOf (character-at b i h) ∙ low-byte (at b (2 * i)) (at b (2 * i + 1)) l)
+-- the rest of the characters
+pub chars-drop : (b : List ℕ) (i : ℕ) → chars (drop (2 * i) b) ≡ drop i (chars b)
+unfolding chars
+chars-drop b zero = refl
+chars-drop [] (suc i) = let e : 2 * suc i ≡ suc (suc (2 * i)) = omega arith in rw e
+chars-drop (low ∷ []) (suc i) = let e : 2 * suc i ≡ suc (suc (2 * i)) = omega arith in rw e
+chars-drop (low ∷ (high ∷ b)) (suc i) = let e : 2 * suc i ≡ suc (suc (2 * i)) = omega arith in rw e (chars-drop b i)
 
 pub length-lows : (b : List ℕ) → length (map byteOf (chars b)) ≡ length b / 2
 length-lows b = length-map (chars b) byteOf ∙ length-characters b

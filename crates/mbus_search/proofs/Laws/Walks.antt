@@ -1,22 +1,28 @@
 -- What the two walks of the search hold on to.
-use Prim.Native.Nat.{ℕ, suc, _+_, _-_, _≤_, _<_, zero-le}
-use mathlib.Core.Bool.{Bool, true, false, _||_, true≢false}
-use mathlib.Core.List.{List}
-use mathlib.Core.Path.{_≡_, refl, sym, ap, ap₂, _∙_}
+use Prim.Native.Nat.{ℕ, suc, _+_, _-_, _%_, _≤_, _<_, zero-le}
+use mathlib.Core.Bool.{Bool, true, false, cond, _&&_, _||_, true≢false}
+use mathlib.Core.List.{List, [], _∷_, map, map-append}
+use mathlib.Core.Path.{_≡_, refl, sym, ap, ap₂, subst, _∙_}
 use native.Mathlib.Numerals.{add-one}
 use native.Mathlib.Omega.{arith}
+use lib.Dec.{eqb}
 use lib.ListN
-use lib.ListN.{take, drop, length-drop, drop-of-length-le}
-use lib.Seq.{getD-take, drop-cons, take-all, length-take-le}
+use lib.ListN.{take, drop, set, length-set, length-drop, drop-of-length-le}
+use lib.Seq.{getD-take, drop-cons, take-all, take-suc, take-suc-set, length-take-le}
 use Rattle.mbus_rules.specs.declared.Telegram.{Telegram}
-use Rattle.mbus_rules.specs.Lists.{at}
-use Rattle.mbus_rules.specs.Characters.{over, odd}
+use Rattle.mbus_rules.specs.Lists.{at, total}
+use Rattle.mbus_rules.specs.Characters.{over, odd, byteOf}
 use Rattle.mbus_rules.specs.Answers.{Answer, reads, refusal}
-use Rattle.mbus_rules.proofs.Laws.Tests.{by-test, none-at}
+use Rattle.mbus_rules.proofs.Laws.Closing.{total-append}
+use Rattle.mbus_rules.proofs.Laws.ListLaws.{Gathered, gathered-none, gathered-next, gathered-all, at-bytes}
+use Rattle.mbus_rules.proofs.Laws.Tests.{by-test, none-at, neither}
 use Rattle.mbus_rules.proofs.Laws.Codes.{Sound}
 use Rattle.mbus_rules.proofs.Laws.Frames.{Framed}
-use Rattle.mbus_rules.specs.Lines.{readLine}
+use Rattle.mbus_rules.specs.Lines.{readBody, readLine}
 use Rattle.mbus_rules.proofs.Laws.LineCode.{line-code}
+use Rattle.mbus_shape.specs.Shapes.{frameBy}
+use Rattle.mbus_shape.proofs.Laws.WholeLaws.{frame-whole}
+use Rattle.mbus_reading.proofs.Laws.TakingLaws.{sound-line}
 use Rattle.mbus_search.specs.declared.Found.{Found}
 use Rattle.mbus_search.specs.declared.Found.the-variants.{At, Refused}
 use Rattle.mbus_search.specs.Searching.{accepts, lengthHere, Spot, further, orElse, findIn, foundShown}
@@ -104,43 +110,136 @@ unsound-none s i h e = here-none s
         let even : odd (at s i) ≡ false = ap odd (sym same) ∙ none-at odd (take (allowedAt s) s) 0 i (f .even) inside in
         true≢false (sym e ∙ ap₂ _||_ low even)
 
-pub record Walked (rest : List ℕ) (length i : ℕ) (found : Found) : Type 0 where
+-- what was gathered of its first characters: all of them sound, their bytes in the first places, and the sum
+pub record Gathers (line : List ℕ) (i : ℕ) (low : List ℕ) (sum : ℕ) : Type 0 where
+  pub in-range : Gathered over line i false
+  pub even : Gathered odd line i false
+  pub places : ListN.length low ≡ 261
+  pub stored : take i low ≡ map byteOf (take i line)
+  pub summed : sum ≡ total (map byteOf (take i line)) % 256
+
+pub gathers-none : {line low : List ℕ} → ListN.length low ≡ 261 → Gathers line 0 low 0
+unfolding total
+gathers-none h = record { in-range = gathered-none; even = gathered-none; places = h; stored = refl; summed = refl }
+
+both-passed : {line : List ℕ} {test : ℕ → Bool} {i : ℕ} → Gathered test line i false → i < ListN.length line → {c : ℕ} → c ≡ at line i → test c ≡ false
+    → Gathered test line (i + 1) false
+both-passed {line} {test} {i} g h e t =
+    subst (λ (found : Bool). Gathered test line (i + 1) found) (ap test (sym e) ∙ t) (gathered-next 0 g h)
+
+carried : (sum b t : ℕ) → sum ≡ t % 256 → (sum + b) % 256 ≡ (t + (b + 0)) % 256
+carried sum b t e = omega arith
+
+pub gathers-next : {line : List ℕ} {i : ℕ} {low : List ℕ} {sum : ℕ} → Gathers line i low sum → i < ListN.length line → i < 261 → {c : ℕ} → c ≡ at line i
+    → over c ≡ false → odd c ≡ false → Gathers line (i + 1) (set low i (byteOf c)) ((sum + byteOf c) % 256)
+unfolding total
+gathers-next {line} {i} {low} {sum} g h room {c} e in-range even = record {
+  in-range = both-passed (g .in-range) h e in-range;
+  even = both-passed (g .even) h e even;
+  places = length-set low i (byteOf c) ∙ g .places;
+  stored = rw (add-one, take-suc line i 0 h, map-append, ← g .stored, ← e) (take-suc-set low i (byteOf c) (omega (arith, g .places)));
+  summed =
+      rw (add-one, take-suc line i 0 h, map-append, total-append (map byteOf (take i line)) (byteOf (at line i) ∷ []), ← e)
+      (carried sum (byteOf c) (total (map byteOf (take i line))) (g .summed));
+}
+
+-- of all of them: the rules on bytes are left
+pub gathers-all : {line : List ℕ} {i : ℕ} {low : List ℕ} {sum : ℕ} → Gathers line i low sum → i ≡ ListN.length line → 0 < i
+    → frameBy sum readBody (take i low) ≡ readLine line
+gathers-all {line} {i} {low} {sum} g e some =
+    let whole : take i line ≡ line = take-all i line (omega arith) in
+    ap (frameBy sum readBody) (g .stored ∙ ap (map byteOf) whole)
+    ∙ frame-whole readBody line (g .summed ∙ ap (λ (s : List ℕ). total (map byteOf s) % 256) whole)
+    ∙ sym (sound-line line (omega arith) (sym (gathered-all (g .in-range) (omega arith))) (sym (gathered-all (g .even) (omega arith))))
+
+pub record Walked (rest : List ℕ) (length i : ℕ) (found : Found) (low : List ℕ) (sum : ℕ) : Type 0 where
   pub allowed : length ≡ allowedAt rest
   pub inside : i ≤ length
   pub room : length ≤ ListN.length rest
   pub none : length ≤ i → lengthHere rest ≡ refusal 18
   pub nothing : found ≡ Refused 18
+  pub gathers : Gathers (take length rest) i low sum
 
-pub walked-none : {rest : List ℕ} {length : ℕ} {found : Found} → length ≡ allowedAt rest → length ≤ ListN.length rest → found ≡ Refused 18 → Walked rest
-    length 0 found
-walked-none {rest} e h n = record { allowed = e; inside = zero-le; room = h; none = λ l. here-none rest (λ a b. absurd (omega arith)); nothing = n }
-
-pub walked-next : {rest : List ℕ} {length i : ℕ} {found : Found} → Walked rest length i found → i < length → (i + 1 ≡ length → ⊥) → Walked rest length (i + 1)
-    found
-walked-next w h n = record { allowed = w .allowed; inside = omega arith; room = w .room; none = λ l. absurd (n (omega arith)); nothing = w .nothing }
-
-read-here : (rest : List ℕ) {length : ℕ} {accepted : Bool} → length ≡ allowedAt rest → accepted ≡ accepts (readLine (take length rest)) → accepts
-    (readLine (take (allowedAt rest) rest)) ≡ accepted
-read-here rest e q = ap (λ (n : ℕ). accepts (readLine (take n rest))) (sym e) ∙ sym q
-
-pub walked-refused : {rest : List ℕ} {length i : ℕ} {found : Found} {accepted : Bool} → Walked rest length i found → i < length
-    → accepted ≡ accepts (readLine (take length rest)) → accepted ≡ false → Walked rest length (i + 1) found
-walked-refused {rest} w h q e = record {
-  allowed = w .allowed;
-  inside = omega arith;
-  room = w .room;
-  none = λ l. here-none rest (λ a b. read-here rest (w .allowed) q ∙ e);
-  nothing = w .nothing;
+pub walked-none : {rest : List ℕ} {length : ℕ} {found : Found} {low : List ℕ} → length ≡ allowedAt rest → length ≤ ListN.length rest → found ≡ Refused 18
+    → ListN.length low ≡ 261 → Walked rest length 0 found low 0
+walked-none {rest} e h n places = record {
+  allowed = e;
+  inside = zero-le;
+  room = h;
+  none = λ l. here-none rest (λ a b. absurd (omega arith));
+  nothing = n;
+  gathers = gathers-none places;
 }
 
-pub walked-unsound : {rest : List ℕ} {length i : ℕ} {found : Found} {isOdd : Bool} → Walked rest length i found → i < length → isOdd ≡ odd (at rest i)
-    → (over (at rest i) || isOdd) ≡ true → lengthHere rest ≡ refusal 18
-walked-unsound {rest} {length} {i} w h o e = unsound-none rest i (omega (arith, w .allowed)) (ap (λ (t : Bool). over (at rest i) || t) (sym o) ∙ e)
+-- no line that can begin here has more characters than there are places
+allowed-most : (s : List ℕ) → allowedAt s ≤ 261
+allowed-most s =
+    most (eqb (at b 0) 0xE5) (eqb (at b 0) 0x10) (eqb (at b 4) 0x16)
+    (eqb (at b 0) 0x68 && eqb (at b 1) (at b 2) && eqb (at b 3) 0x68 && eqb (at b (at b 1 + 6 - 1)) 0x16) (at b 1 + 6)
+    (rw (at-bytes s 1) (omega arith))
+  where
+    b : List ℕ
+    b = map byteOf s
 
-pub walked-hit : {rest : List ℕ} {length i : ℕ} {found : Found} {accepted : Bool} → Walked rest length i found → i < length
-    → accepted ≡ accepts (readLine (take length rest)) → accepted ≡ true → lengthHere rest ≡ reads length
-walked-hit {rest} w h q e =
-    here-hit rest (omega (arith, w .allowed)) (omega (arith, w .allowed, w .room)) (read-here rest (w .allowed) q ∙ e) ∙ ap reads (sym (w .allowed))
+    most : (ack short end long : Bool) (n : ℕ) → n ≤ 261 → cond ack 1 (cond short (cond end 5 0) (cond long n 0)) ≤ 261
+    most true short end long n h = omega arith
+    most false true true long n h = omega arith
+    most false true false long n h = omega arith
+    most false false end true n h = h
+    most false false end false n h = omega arith
+
+module _ {rest : List ℕ} {length i : ℕ} {found : Found} {low : List ℕ} {sum : ℕ} (w : Walked rest length i found low sum) where
+  pub walked-most : length ≤ 261
+  walked-most = omega (arith, w .allowed, allowed-most rest)
+
+  pub walked-places : (x : ℕ) → length ≤ ListN.length (set low i x)
+  walked-places x = omega (arith, walked-most, w .gathers .places, length-set low i x)
+
+-- one more character, which is sound
+module _ {rest : List ℕ} {length i : ℕ} {found : Found} {low : List ℕ} {sum : ℕ} (w : Walked rest length i found low sum) (h : i < length) where
+  pub walked-room : i < 261
+  walked-room = omega (arith, walked-most w)
+
+  module _ {c : ℕ} {isOdd : Bool} (e : c ≡ at rest i) (o : isOdd ≡ odd c) (s : (over c || isOdd) ≡ false) where
+    next : Gathers (take length rest) (i + 1) (set low i (byteOf c)) ((sum + byteOf c) % 256)
+    next =
+        let both = neither (over c) isOdd s in
+        gathers-next (w .gathers) (omega (arith, length-take-le length rest (w .room))) walked-room (e ∙ sym (getD-take length rest i 0 h)) (both .0)
+        (sym o ∙ both .1)
+
+    pub walked-next : (i + 1 ≡ length → ⊥) → Walked rest length (i + 1) found (set low i (byteOf c)) ((sum + byteOf c) % 256)
+    walked-next n = record {
+      allowed = w .allowed;
+      inside = omega arith;
+      room = w .room;
+      none = λ l. absurd (n (omega arith));
+      nothing = w .nothing;
+      gathers = next;
+    }
+
+    module _ {accepted : Bool} (end : i + 1 ≡ length)
+        (q : accepted ≡ accepts (frameBy ((sum + byteOf c) % 256) readBody (take length (set low i (byteOf c))))) where
+      read-here : accepts (readLine (take (allowedAt rest) rest)) ≡ accepted
+      read-here =
+          ap (λ (n : ℕ). accepts (readLine (take n rest))) (sym (w .allowed))
+          ∙ ap accepts (sym (gathers-all next (end ∙ sym (length-take-le length rest (w .room))) (omega arith)))
+          ∙ ap (λ (n : ℕ). accepts (frameBy ((sum + byteOf c) % 256) readBody (take n (set low i (byteOf c))))) end ∙ sym q
+
+      pub walked-refused : accepted ≡ false → Walked rest length (i + 1) found (set low i (byteOf c)) ((sum + byteOf c) % 256)
+      walked-refused f = record {
+        allowed = w .allowed;
+        inside = omega arith;
+        room = w .room;
+        none = λ l. here-none rest (λ a b. read-here ∙ f);
+        nothing = w .nothing;
+        gathers = next;
+      }
+
+      pub walked-hit : accepted ≡ true → lengthHere rest ≡ reads length
+      walked-hit t = here-hit rest (omega (arith, w .allowed)) (omega (arith, w .allowed, w .room)) (read-here ∙ t) ∙ ap reads (sym (w .allowed))
+
+  pub walked-unsound : {isOdd : Bool} → isOdd ≡ odd (at rest i) → (over (at rest i) || isOdd) ≡ true → lengthHere rest ≡ refusal 18
+  walked-unsound o e = unsound-none rest i (omega (arith, w .allowed)) (ap (λ (t : Bool). over (at rest i) || t) (sym o) ∙ e)
 
 -- a length past the capture's end: no line begins here
 pub walked-long : (rest : List ℕ) {length : ℕ} → length ≡ allowedAt rest → ListN.length rest < length → lengthHere rest ≡ refusal 18

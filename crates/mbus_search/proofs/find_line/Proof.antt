@@ -7,27 +7,27 @@ use borrow.Author.Needs.{needs}
 use native.Mathlib.Omega.{arith}
 use denote.Ref.{now}
 use lib.ListN
-use lib.ListN.{take, drop}
+use lib.ListN.{take, drop, length-replicate}
 use lib.Seq.{length-take-le}
 use Rattle.mbus_rules.specs.Answers.{refusal}
 use Rattle.mbus_search.specs.declared.Found.the-variants.{Refused}
 use Rattle.mbus_search.specs.Searching.{lengthHere}
 use Rattle.mbus_search.proofs.Laws.Walks.{Searched, searched-none, searched-next, searched-all, searched-hit, Walked, walked-none, walked-next}
-use Rattle.mbus_search.proofs.Laws.Walks.{walked-refused, walked-unsound, walked-hit, walked-long}
+use Rattle.mbus_search.proofs.Laws.Walks.{walked-room, walked-refused, walked-unsound, walked-hit, walked-long, walked-places}
 use Rattle.mbus_search.proofs.find_line.Statement.{statement}
 use Rattle.mbus_search.proofs.find_line.Tie as tie
 
 abbrev Inv-loop : tie.InvT-loop
-Inv-loop capture found₀ place rest length i₀ found i = Walked rest length i found
+Inv-loop capture found₀ bytes₀ place rest length sum₀ i₀ found bytes sum i = Walked rest length i found bytes sum
 
 abbrev μ-loop : tie.MeasureT-loop
-μ-loop capture found₀ place rest length i₀ found i = length - i
+μ-loop capture found₀ bytes₀ place rest length sum₀ i₀ found bytes sum i = length - i
 
 abbrev Inv-places : tie.InvT-places
-Inv-places capture found₀ place₀ found place = Searched capture place found
+Inv-places capture found₀ bytes₀ place₀ found bytes place = Searched capture place found × (ListN.length bytes ≡ 261)
 
 abbrev μ-places : tie.MeasureT-places
-μ-places capture found₀ place₀ found place = ListN.length capture - place
+μ-places capture found₀ bytes₀ place₀ found bytes place = ListN.length capture - place
 
 -- the three ways past a place at which no line begins
 none-yet : (c : tie.Joined1 Inv-loop μ-loop Inv-places μ-places)
@@ -35,20 +35,27 @@ none-yet : (c : tie.Joined1 Inv-loop μ-loop Inv-places μ-places)
     × (lengthHere
     (take (ListN.length (now (c .before .before .before .before .before .before .args .capture)) - c .before .before .before .before .places .place)
     (drop (c .before .before .before .before .places .place) (now (c .before .before .before .before .before .before .args .capture)))) ≡ refusal 18)
+    × (ListN.length (c .if1 .bytes) ≡ 261)
 none-yet c =
-    ⊎-elim (λ w. (w .3 ∙ w .1 .inv .nothing, w .1 .inv .none (w .2 .left)))
-    (λ w. ⊎-elim (λ v. (v .6 ∙ v .1 .inv .nothing, walked-unsound (v .1 .inv) (v .2 .taken) (v .4 .ensures) (v .5 .taken)))
+    ⊎-elim (λ w. (w .3 ∙ w .1 .inv .nothing, w .1 .inv .none (w .2 .left), ap ListN.length (w .4) ∙ w .1 .inv .gathers .places))
+    (λ w. ⊎-elim
     (λ v. (
-      v .1 ∙ c .before .before .before .before .places .inv .nothing,
+      v .6 ∙ v .1 .inv .nothing,
+      walked-unsound (v .1 .inv) (v .2 .taken) (v .4 .ensures) (v .5 .taken),
+      ap ListN.length (v .7) ∙ v .1 .inv .gathers .places,
+    ))
+    (λ v. (
+      v .1 ∙ c .before .before .before .before .places .inv .0 .nothing,
       walked-long
           (take (ListN.length (now (c .before .before .before .before .before .before .args .capture)) - c .before .before .before .before .places .place)
           (drop (c .before .before .before .before .places .place) (now (c .before .before .before .before .before .before .args .capture))))
           (c .before .allowed-at .ensures) (v .0 .left),
+      ap ListN.length (v .2) ∙ c .before .before .before .before .places .inv .1,
     )) w)
     (c .if1 .came)
 
 places-holds : tie.Need-places-holds Inv-loop μ-loop Inv-places μ-places
-places-holds c = searched-none
+places-holds c = (searched-none, length-replicate {A = ℕ} 261 0)
 
 mul-rest : tie.Need-mul-rest Inv-loop μ-loop Inv-places μ-places
 mul-rest c = search needs
@@ -66,7 +73,8 @@ allowed-at-requires : tie.Need-allowed-at-requires Inv-loop μ-loop Inv-places �
 allowed-at-requires c κs = search needs
 
 loop-holds : tie.Need-loop-holds Inv-loop μ-loop Inv-places μ-places
-loop-holds c = walked-none (c .before .allowed-at .ensures) (c .if1 .taken) (c .before .before .before .before .places .inv .nothing)
+loop-holds c = walked-none (c .before .allowed-at .ensures) (c .if1 .taken) (c .before .before .before .before .places .inv .0 .nothing)
+    (c .before .before .before .before .places .inv .1)
 
 mul-c : tie.Need-mul-c Inv-loop μ-loop Inv-places μ-places
 mul-c c = search needs
@@ -77,12 +85,24 @@ shared-slice-read-c c = omega (arith, c .before .before .loop .inv .room)
 counts-odd-requires : tie.Need-counts-odd-requires Inv-loop μ-loop Inv-places μ-places
 counts-odd-requires c κs = search needs
 
+cast-b : tie.Need-cast-b Inv-loop μ-loop Inv-places μ-places
+cast-b c = search needs
+
+array-write-bytes : tie.Need-array-write-bytes Inv-loop μ-loop Inv-places μ-places
+array-write-bytes c = walked-room (c .before .before .before .before .loop .inv) (c .before .before .before .loop-test .taken)
+
+wrapping-add-u8-requires : tie.Need-wrapping-add-u8-requires Inv-loop μ-loop Inv-places μ-places
+wrapping-add-u8-requires c κs = search needs
+
 add-i : tie.Need-add-i Inv-loop μ-loop Inv-places μ-places
-add-i c = omega (arith, c .before .before .before .before .loop .inv .room)
+add-i c = omega (arith, c .before .before .before .before .before .loop .inv .room)
+
+array-share-prefix-bytes : tie.Need-array-share-prefix-bytes Inv-loop μ-loop Inv-places μ-places
+array-share-prefix-bytes c = walked-places (c .before .before .before .before .before .before .loop .inv) _
 
 slice-aggregate-is-accepted :
     tie.Need-slice-aggregate-is-accepted Inv-loop μ-loop Inv-places μ-places
-slice-aggregate-is-accepted c = sym (length-take-le _ _ (c .before .before .before .before .before .before .loop .inv .room))
+slice-aggregate-is-accepted c = sym (length-take-le _ _ (walked-places (c .before .before .before .before .before .before .before .loop .inv) _))
 
 is-accepted-requires : tie.Need-is-accepted-requires Inv-loop μ-loop Inv-places μ-places
 is-accepted-requires c κs = search needs
@@ -91,14 +111,22 @@ loop-less : tie.Need-loop-less Inv-loop μ-loop Inv-places μ-places
 loop-less c = search needs
 
 loop-again : tie.Need-loop-again Inv-loop μ-loop Inv-places μ-places
-loop-again c = walked-refused (c .before .before .before .before .before .before .before .before .loop .inv)
-    (c .before .before .before .before .before .before .before .loop-test .taken) (c .before .is-accepted .ensures) (c .if4 .left)
+loop-again c =
+    rw (c .before .before .before .before .wrapping-add-u8 .ensures)
+    (walked-refused (c .before .before .before .before .before .before .before .before .before .loop .inv)
+    (c .before .before .before .before .before .before .before .before .loop-test .taken) refl
+    (c .before .before .before .before .before .before .counts-odd .ensures) (c .before .before .before .before .before .if2 .left)
+    (c .before .before .before .if3 .taken)
+    (rw (c .before .before .before .before .wrapping-add-u8 .ensures) at (c .before .is-accepted .ensures)) (c .if4 .left))
 
 loop-less-2 : tie.Need-loop-less-2 Inv-loop μ-loop Inv-places μ-places
 loop-less-2 c = search needs
 
 loop-again-2 : tie.Need-loop-again-2 Inv-loop μ-loop Inv-places μ-places
-loop-again-2 c = walked-next (c .before .before .before .before .before .loop .inv) (c .before .before .before .before .loop-test .taken) (c .if3 .left)
+loop-again-2 c =
+    rw (c .before .wrapping-add-u8 .ensures)
+    (walked-next (c .before .before .before .before .before .before .loop .inv) (c .before .before .before .before .before .loop-test .taken) refl
+    (c .before .before .before .counts-odd .ensures) (c .before .before .if2 .left) (c .if3 .left))
 
 add-place : tie.Need-add-place Inv-loop μ-loop Inv-places μ-places
 add-place c = search needs
@@ -107,16 +135,24 @@ places-less : tie.Need-places-less Inv-loop μ-loop Inv-places μ-places
 places-less c = search needs
 
 places-again : tie.Need-places-again Inv-loop μ-loop Inv-places μ-places
-places-again c = searched-next (c .before .before .before .before .places .inv) (none-yet c .0) (c .before .before .before .places-test .taken) (none-yet c .1)
+places-again c = (
+  searched-next (c .before .before .before .before .places .inv .0) (none-yet c .0) (c .before .before .before .places-test .taken)
+      (none-yet c .1),
+  none-yet c .2,
+)
 
 returns : tie.Need-returns Inv-loop μ-loop Inv-places μ-places
-returns c = searched-all (c .before .places .inv) (c .places-test .left)
+returns c = searched-all (c .before .places .inv .0) (c .places-test .left)
 
 returns-2 : tie.Need-returns-2 Inv-loop μ-loop Inv-places μ-places
-returns-2 c = searched-hit (c .before .before .before .before .before .before .before .before .before .before .before .before .before .places .inv)
-    (c .before .before .before .before .before .before .before .before .before .before .before .before .places-test .taken) _
-    (walked-hit (c .before .before .before .before .before .before .before .before .loop .inv)
-    (c .before .before .before .before .before .before .before .loop-test .taken) (c .before .is-accepted .ensures) (c .if4 .taken))
+returns-2 c =
+    searched-hit (c .before .before .before .before .before .before .before .before .before .before .before .before .before .before .places .inv .0)
+    (c .before .before .before .before .before .before .before .before .before .before .before .before .before .places-test .taken) _
+    (walked-hit (c .before .before .before .before .before .before .before .before .before .loop .inv)
+    (c .before .before .before .before .before .before .before .before .loop-test .taken) refl
+    (c .before .before .before .before .before .before .counts-odd .ensures) (c .before .before .before .before .before .if2 .left)
+    (c .before .before .before .if3 .taken)
+    (rw (c .before .before .before .before .wrapping-add-u8 .ensures) at (c .before .is-accepted .ensures)) (c .if4 .taken))
 
 pub find-line-spec : {M : Type 1} → statement M
 find-line-spec =
@@ -136,7 +172,11 @@ find-line-spec =
     mul-c
     shared-slice-read-c
     counts-odd-requires
+    cast-b
+    array-write-bytes
+    wrapping-add-u8-requires
     add-i
+    array-share-prefix-bytes
     slice-aggregate-is-accepted
     is-accepted-requires
     loop-less

@@ -1,13 +1,14 @@
 -- `mbus_search::is_accepted` meets its contract. Assumes nothing.
 use borrow.Author.Needs.{needs}
 use denote.Ref.{now}
-use Rattle.mbus_rules.specs.Lines.{readLine}
+use Rattle.mbus_rules.specs.Lines.{readBody}
+use Rattle.mbus_shape.specs.Shapes.{frameBy}
 use Rattle.mbus_search.proofs.Laws.SearchLaws.{outline-accepts}
 use Rattle.mbus_search.proofs.is_accepted.Statement.{statement}
 use Rattle.mbus_search.proofs.is_accepted.Tie as tie
 
-outline-of-requires : tie.Need-outline-of-requires
-outline-of-requires c κs = search needs
+outline-in-requires : tie.Need-outline-in-requires
+outline-in-requires c κs = search needs
 
 enum-told : tie.Need-enum-told
 enum-told c = search needs
@@ -22,25 +23,29 @@ enum-told-4 : tie.Need-enum-told-4
 enum-told-4 c = search needs
 
 returns : tie.Need-returns
-returns c = outline-accepts (readLine (now (c .before .before .before .before .args .line))) (c .before .before .outline-of .ensures) (c .enum-told .given .1)
+returns c = outline-accepts (frameBy (c .before .before .before .before .args .sum) readBody (now (c .before .before .before .before .args .bytes)))
+    (c .before .before .outline-in .ensures) (c .enum-told .given .1)
 
 returns-2 : tie.Need-returns-2
-returns-2 c = outline-accepts (readLine (now (c .before .before .before .before .args .line))) (c .before .before .outline-of .ensures)
+returns-2 c = outline-accepts (frameBy (c .before .before .before .before .args .sum) readBody (now (c .before .before .before .before .args .bytes)))
+    (c .before .before .outline-in .ensures)
     (c .enum-told2 .given .1)
 
 returns-3 : tie.Need-returns-3
-returns-3 c = outline-accepts (readLine (now (c .before .before .before .before .args .line))) (c .before .before .outline-of .ensures)
+returns-3 c = outline-accepts (frameBy (c .before .before .before .before .args .sum) readBody (now (c .before .before .before .before .args .bytes)))
+    (c .before .before .outline-in .ensures)
     (c .enum-told3 .given .1)
 
 returns-4 : tie.Need-returns-4
-returns-4 c = outline-accepts (readLine (now (c .before .before .before .before .args .line))) (c .before .before .outline-of .ensures)
+returns-4 c = outline-accepts (frameBy (c .before .before .before .before .args .sum) readBody (now (c .before .before .before .before .args .bytes)))
+    (c .before .before .outline-in .ensures)
     (c .enum-told4 .given .1)
 
 pub is-accepted-spec : {M : Type 1} → statement M
 is-accepted-spec =
     tie.close
     (tie.spec
-    outline-of-requires
+    outline-in-requires
     enum-told
     enum-told-2
     enum-told-3

@@ -4,7 +4,7 @@ use mathlib.Core.Bool.{Bool, true, false, cond, not}
 use mathlib.Core.List.{List, [], _∷_}
 use mathlib.Core.Path.{_≡_, refl, sym, ap, subst, _∙_}
 use native.Mathlib.Omega.{arith}
-use borrow.Author.Tests.{leb-true, not-false}
+use borrow.Author.Tests.{leb-true, lt-ltb, eqb-true, not-false}
 use lib.Dec.{eqb, leb}
 use lib.ListN.{length, take, drop, length-take}
 use lib.Seq.{drop-drop}
@@ -20,9 +20,10 @@ use Rattle.mbus_rules.specs.Telegrams.{bare, ack, readOf, enterOf, leaveOf}
 use Rattle.mbus_rules.specs.Lines.{field, isAck, isShort, isLong, isCommand, isData, commandOf, wrongStart, wrongCount, wrongLengths, wrongEnd, wrongSum}
 use Rattle.mbus_rules.specs.Lines.{readShort, readLong, readData, readBody, readFrame}
 use Rattle.mbus_rules.proofs.Laws.ListLaws.{drop-take}
+use Rattle.mbus_rules.proofs.Laws.Tests.{by-test}
 use Rattle.mbus_rules.proofs.Laws.TestLaws.{every}
 use Rattle.mbus_rules.specs.Views.{viewed}
-use Rattle.mbus_shape.specs.Shapes.{shapeLong, shapeBody, askedOf}
+use Rattle.mbus_shape.specs.Shapes.{shapeLong, shapeBody, askedOf, wholeWrong, frameBy}
 
 -- the header and the entries of a data shape, as the code cuts them out
 abbrev pub part : List ℕ → List ℕ
@@ -101,8 +102,10 @@ left-chain b x y false false false true sum h = refl
 left-chain b x y false false false false true h = refl
 left-chain b x y false false false false false h = h refl
 
-pub left : (b : List ℕ) → Left b (readFrame readBody b) (viewed (readFrame shapeBody b))
-left b = left-chain b (readBody b) (shapeBody b) (wrongStart b) (wrongCount b) (wrongLengths b) (wrongEnd b) (wrongSum b) (left-body b)
+pub left : (b : List ℕ) (sum : ℕ) → Left b (frameBy sum readBody b) (viewed (frameBy sum shapeBody b))
+left b sum =
+    left-chain b (readBody b) (shapeBody b) (wrongStart b) (wrongCount b) (wrongLengths b) (wrongEnd b) (cond (isLong b) (wholeWrong sum b) (wrongSum b))
+    (left-body b)
 
 -- A shape by which nothing is left to be read is the outline, and so it is where there are too few bytes for data.
 viewed-asked : (q : Request) → viewed (reads (askedOf q)) ≡ Asks q
@@ -116,12 +119,17 @@ viewed-left b x Ack h e = rw e
 viewed-left b x (Asks q) h e = rw e (sym (viewed-asked q))
 viewed-left b x (Data a) h e = absurd (omega arith)
 
-pub shape-few : (b : List ℕ) → length b < 21 → viewed (readFrame shapeBody b) ≡ viewed (readFrame readBody b)
-shape-few b h = viewed-left b (readFrame readBody b) (viewed (readFrame shapeBody b)) h (left b)
+-- what is too short for the long form has no header and no entries
+pub brief-few : (b : List ℕ) → length b < 6 → viewed (refuse 5 (isLong b) (readFrame shapeBody b)) ≡ viewed (readFrame readBody b)
+brief-few b h =
+    by-test (isLong b) (λ e. rw (eqb-true (at b 0) 0x68 e, lt-ltb (length b) 6 h))
+    (λ e. ap (λ (long : Bool). viewed (refuse 5 long (readFrame shapeBody b))) e
+    ∙ viewed-left b (readFrame readBody b) (viewed (readFrame shapeBody b)) (omega arith)
+    (left-chain b (readBody b) (shapeBody b) (wrongStart b) (wrongCount b) (wrongLengths b) (wrongEnd b) (wrongSum b) (left-body b)))
 
 -- what is left, by the shape that the code found
-pub left-by : (b : List ℕ) {v w : View} → v ≡ viewed (readFrame shapeBody b) → v ≡ w → Left b (readFrame readBody b) w
-left-by b e o = subst (λ (w : View). Left b (readFrame readBody b) w) (sym e ∙ o) (left b)
+pub left-by : (b : List ℕ) (sum : ℕ) {v w : View} → v ≡ viewed (frameBy sum shapeBody b) → v ≡ w → Left b (frameBy sum readBody b) w
+left-by b sum e o = subst (λ (w : View). Left b (frameBy sum readBody b) w) (sym e ∙ o) (left b sum)
 
-pub asks-left : (b : List ℕ) (q : Request) → Left b (readFrame readBody b) (Asks q) → Asks q ≡ viewed (readFrame readBody b)
-asks-left b q e = rw e (sym (viewed-asked q))
+pub asks-left : (b : List ℕ) (sum : ℕ) (q : Request) → Left b (frameBy sum readBody b) (Asks q) → Asks q ≡ viewed (frameBy sum readBody b)
+asks-left b sum q e = rw e (sym (viewed-asked q))

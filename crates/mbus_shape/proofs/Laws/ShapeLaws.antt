@@ -1,4 +1,4 @@
--- Laws of `specs/ShapeLaws`.
+-- The shape of a line, form by form.
 use Prim.Native.Nat.{ℕ, _+_, _-_, _%_, _≤_}
 use mathlib.Core.Bool.{Bool, true, false, cond, not, _||_}
 use mathlib.Core.List.{List, [], _∷_}
@@ -12,11 +12,11 @@ use Rattle.mbus_rules.specs.declared.View.{View}
 use Rattle.mbus_rules.specs.declared.View.the-variants.{Refused, Ack}
 use Rattle.mbus_rules.specs.Lists.{at, total}
 use Rattle.mbus_rules.specs.Answers.{Answer, refuse}
-use Rattle.mbus_rules.proofs.Laws.Chain.{after-short, after-long}
-use Rattle.mbus_rules.specs.Lines.{wrongStart, wrongCount, readShort, readFrame}
+use Rattle.mbus_rules.proofs.Laws.Chain.{after-short}
+use Rattle.mbus_rules.specs.Lines.{isLong, wrongCount, readShort, readFrame}
 use Rattle.mbus_rules.proofs.Laws.Tests.{neither, not-different}
 use Rattle.mbus_rules.specs.Views.{viewed}
-use Rattle.mbus_shape.specs.Shapes.{shapeLong, shapeBody, endWrong, sumWrong}
+use Rattle.mbus_shape.specs.Shapes.{shapeLong, shapeBody, endWrong, sumWrong, wholeWrong, frameBy}
 use Rattle.mbus_shape.specs.Counts.{ShortCount, LongCount}
 
 -- the view of a chain of refusals
@@ -27,7 +27,7 @@ pub viewed-refuse : (n : ℕ) (test : Bool) (a : Answer Telegram) → viewed (re
 viewed-refuse n true a = refl
 viewed-refuse n false a = refl
 
--- 7 and 8, as the code asks them of both forms
+-- 7 and 8 of the short form, as the code asks them
 abbrev pub closing : ℕ → List ℕ → View → View
 closing sum b next = pick 7 (endWrong b) (pick 8 (sumWrong sum b) next)
 
@@ -53,40 +53,57 @@ short-is {b} h =
     rw (after-short shapeBody b (h .first), viewed-refuse, viewed-refuse, viewed-refuse, eq-eqb (length b) 5 (h .five), two-sum b three, h .first)
     (rw (two-are b three))
 
-pub long-is : {b : List ℕ} → LongCount b
-    → viewed (readFrame shapeBody b)
+pub long-is : {b : List ℕ} (sum : ℕ) → LongCount b
+    → viewed (frameBy sum shapeBody b)
     ≡ pick 6 (not (eqb (at b 1) (at b 2)) || not (eqb (at b 3) 0x68))
-    (closing (total (take (length b - 2 - 4) (drop 4 b)) % 256) b (viewed (shapeLong (take (length b - 2 - 4) (drop 4 b)))))
+    (pick 7 (endWrong b) (pick 8 (wholeWrong sum b) (viewed (shapeLong (take (length b - 2 - 4) (drop 4 b))))))
 unfolding shapeBody
-long-is {b} h =
+long-is {b} sum h =
     let six : length b - 6 ≡ length b - 2 - 4 = omega arith in
     let count : (ltb (length b) 6 || not (eqb (length b) (at b 1 + 6))) ≡ false = rw (le-ltb (length b) 6 (h .six), eq-eqb (length b) (at b 1 + 6) (h .count))
     in
-    rw (after-long shapeBody b (h .first), viewed-refuse, viewed-refuse, viewed-refuse, viewed-refuse, count, six, h .first)
+    rw (h .first, count, six, viewed-refuse, viewed-refuse, viewed-refuse)
 
--- ---- the rules 4 and 5
+-- ---- the rules 4 and 5, form by form
 
-pub start-is : (b : List ℕ) {first : ℕ} {wrong : Bool} → first ≡ at b 0 → wrong ≡ wrongStart (first ∷ []) → wrongStart b ≡ wrong
-start-is b e w = ap (λ (x : ℕ). wrongStart (x ∷ [])) (sym e) ∙ sym w
+module _ (b : List ℕ) where
+  abbrev brief : Answer Telegram
+  brief = refuse 5 (isLong b) (readFrame shapeBody b)
 
-module _ (b : List ℕ) {wrong : Bool} (start : wrongStart b ≡ false) (e : wrong ≡ wrongCount b) (no : wrong ≡ false) where
-  count : wrongCount b ≡ false
-  count = sym e ∙ no
+  pub brief-long : at b 0 ≡ 0x68 → Refused 5 ≡ viewed brief
+  brief-long e = rw e
 
-  pub ack-is : at b 0 ≡ 0xE5 → Ack ≡ viewed (readFrame shapeBody b)
+  pub brief-ack : at b 0 ≡ 0xE5 → length b ≡ 1 → Ack ≡ viewed brief
   unfolding shapeBody
-  ack-is first = let one : length b ≡ 1 = not-different (length b) 1 (rw first at count) in rw (first, one)
+  brief-ack e one = rw (e, one)
 
-  pub short-count : at b 0 ≡ 0x10 → ShortCount b
-  short-count first = record { first = first; five = not-different (length b) 5 (rw first at count) }
+  pub brief-more : at b 0 ≡ 0xE5 → (length b ≡ 1 → ⊥) → Refused 5 ≡ viewed brief
+  brief-more e many = rw (e, ne-eqb (length b) 1 many)
 
-  pub long-count : (at b 0 ≡ 0xE5 → ⊥) → (at b 0 ≡ 0x10 → ⊥) → LongCount b
-  long-count n m =
-      let ack : eqb (at b 0) 0xE5 ≡ false = ne-eqb (at b 0) 0xE5 n in
-      let short : eqb (at b 0) 0x10 ≡ false = ne-eqb (at b 0) 0x10 m in
-      let both = neither (ltb (length b) 6) (not (eqb (length b) (at b 1 + 6))) (rw (ack, short) at count) in
+  pub brief-other : (at b 0 ≡ 0x68 → ⊥) → (at b 0 ≡ 0xE5 → ⊥) → (at b 0 ≡ 0x10 → ⊥) → Refused 4 ≡ viewed brief
+  brief-other k n m = rw (ne-eqb (at b 0) 0x68 k, ne-eqb (at b 0) 0xE5 n, ne-eqb (at b 0) 0x10 m)
+
+  pub brief-count : at b 0 ≡ 0x10 → (length b ≡ 5 → ⊥) → Refused 5 ≡ viewed brief
+  brief-count e many = rw (e, ne-eqb (length b) 5 many)
+
+  pub brief-short : at b 0 ≡ 0x10 → viewed (readFrame shapeBody b) ≡ viewed brief
+  brief-short e = rw e
+
+  -- where the first byte is not 68, what is too short for the long form is all
+  pub brief-is : (sum : ℕ) → (at b 0 ≡ 0x68 → ⊥) → viewed brief ≡ viewed (frameBy sum shapeBody b)
+  brief-is sum k = rw (ne-eqb (at b 0) 0x68 k)
+
+module _ (b : List ℕ) (first : at b 0 ≡ 0x68) {wrong : Bool} (e : wrong ≡ wrongCount b) where
+  pub length-five : (sum : ℕ) → wrong ≡ true → Refused 5 ≡ viewed (frameBy sum shapeBody b)
+  length-five sum five =
+      let count : (ltb (length b) 6 || not (eqb (length b) (at b 1 + 6))) ≡ true = rw first at (sym e ∙ five) in
+      rw (first, count)
+
+  pub long-count : wrong ≡ false → LongCount b
+  long-count passed =
+      let both = neither (ltb (length b) 6) (not (eqb (length b) (at b 1 + 6))) (rw first at (sym e ∙ passed)) in
       record {
-        first = not-different (at b 0) 0x68 (rw (ack, short) at start);
+        first = first;
         six = ltb-false (length b) 6 (both .0);
         count = not-different (length b) (at b 1 + 6) (both .1);
       }

@@ -15,13 +15,15 @@ byte-at-requires-3 : tie.Need-byte-at-requires-3
 byte-at-requires-3 c κs = search needs
 
 returns : tie.Need-returns
-returns c = rw (
-  long-is (c .before .before .before .before .before .pre),
-  ← c .before .before .before .byte-at .ensures,
-  ← c .before .before .byte-at2 .ensures,
-  ← c .before .byte-at3 .ensures,
-  c .if1 .taken,
-)
+returns c =
+    rw (
+      long-is (c .before .before .before .before .before .args .sum)
+          (c .before .before .before .before .before .pre),
+      ← c .before .before .before .byte-at .ensures,
+      ← c .before .before .byte-at2 .ensures,
+      ← c .before .byte-at3 .ensures,
+    )
+    (rw (c .if1 .taken))
 
 wrong-end-requires : tie.Need-wrong-end-requires
 wrong-end-requires c κs = omega (arith, c .before .before .before .before .before .pre .six)
@@ -29,35 +31,50 @@ wrong-end-requires c κs = omega (arith, c .before .before .before .before .befo
 returns-2 : tie.Need-returns-2
 returns-2 c =
     rw (
-      long-is (c .before .before .before .before .before .before .before .pre),
+      long-is (c .before .before .before .before .before .before .before .args .sum)
+          (c .before .before .before .before .before .before .before .pre),
       ← c .before .before .before .before .before .byte-at .ensures,
       ← c .before .before .before .before .byte-at2 .ensures,
       ← c .before .before .before .byte-at3 .ensures,
     )
     (rw (c .before .before .if1 .left, ← c .before .wrong-end .ensures, c .if2 .taken))
 
-sub-last : tie.Need-sub-last
-sub-last c = omega (arith, c .before .before .before .before .before .before .before .pre .six)
-
-sub-sum-of : tie.Need-sub-sum-of
-sub-sum-of c = omega (arith, c .before .before .before .before .before .before .before .pre .six)
-
-part-sum-of-start : tie.Need-part-sum-of-start
-part-sum-of-start c = omega (arith, c .before .before .before .before .before .before .before .pre .six)
-
-part-sum-of-end : tie.Need-part-sum-of-end
-part-sum-of-end c = omega (arith, c .before .before .before .before .before .before .before .pre .six)
-
-sum-of-requires : tie.Need-sum-of-requires
-sum-of-requires c κs = search needs
-
-wrong-sum-requires : tie.Need-wrong-sum-requires
-wrong-sum-requires c κs = omega (arith, c .before .before .before .before .before .before .before .before .before .pre .six)
+wrong-whole-requires : tie.Need-wrong-whole-requires
+wrong-whole-requires c κs = c .before .before .before .before .before .before .before .pre .six
 
 returns-3 : tie.Need-returns-3
 returns-3 c =
     rw (
-      long-is (c .before .before .before .before .before .before .before .before .before .before .before .pre),
+      long-is (c .before .before .before .before .before .before .before .before .before .args .sum)
+          (c .before .before .before .before .before .before .before .before .before .pre),
+      ← c .before .wrong-whole .ensures,
+      ← c .before .before .before .before .before .before .before .byte-at .ensures,
+      ← c .before .before .before .before .before .before .byte-at2 .ensures,
+      ← c .before .before .before .before .before .byte-at3 .ensures,
+    )
+    (rw (c .before .before .before .before .if1 .left, ← c .before .before .before .wrong-end .ensures, c .before .before .if2 .left, c .if3 .taken))
+
+sub-last : tie.Need-sub-last
+sub-last c = omega (arith, c .before .before .before .before .before .before .before .before .before .pre .six)
+
+sub-long-shape : tie.Need-sub-long-shape
+sub-long-shape c = omega (arith, c .before .before .before .before .before .before .before .before .before .pre .six)
+
+part-long-shape-start : tie.Need-part-long-shape-start
+part-long-shape-start c = omega (arith, c .before .before .before .before .before .before .before .before .before .pre .six)
+
+part-long-shape-end : tie.Need-part-long-shape-end
+part-long-shape-end c = omega (arith, c .before .before .before .before .before .before .before .before .before .pre .six)
+
+long-shape-requires : tie.Need-long-shape-requires
+long-shape-requires c κs = search needs
+
+returns-4 : tie.Need-returns-4
+returns-4 c =
+    rw (
+      long-is (c .before .before .before .before .before .before .before .before .before .before .before .args .sum)
+          (c .before .before .before .before .before .before .before .before .before .before .before .pre),
+      ← c .before .before .before .wrong-whole .ensures,
       ← c .before .before .before .before .before .before .before .before .before .byte-at .ensures,
       ← c .before .before .before .before .before .before .before .before .byte-at2 .ensures,
       ← c .before .before .before .before .before .before .before .byte-at3 .ensures,
@@ -66,36 +83,8 @@ returns-3 c =
       c .before .before .before .before .before .before .if1 .left,
       ← c .before .before .before .before .before .wrong-end .ensures,
       c .before .before .before .before .if2 .left,
-    )
-    (rw (← c .before .before .sum-of .ensures, ← c .before .wrong-sum .ensures, c .if3 .taken)))
-
-sub-long-shape : tie.Need-sub-long-shape
-sub-long-shape c = omega (arith, c .before .before .before .before .before .before .before .before .before .before .before .pre .six)
-
-part-long-shape-start : tie.Need-part-long-shape-start
-part-long-shape-start c = omega (arith, c .before .before .before .before .before .before .before .before .before .before .before .pre .six)
-
-part-long-shape-end : tie.Need-part-long-shape-end
-part-long-shape-end c = omega (arith, c .before .before .before .before .before .before .before .before .before .before .before .pre .six)
-
-long-shape-requires : tie.Need-long-shape-requires
-long-shape-requires c κs = search needs
-
-returns-4 : tie.Need-returns-4
-returns-4 c =
-    rw (
-      long-is (c .before .before .before .before .before .before .before .before .before .before .before .before .before .pre),
-      ← c .before .before .before .before .before .before .before .before .before .before .before .byte-at .ensures,
-      ← c .before .before .before .before .before .before .before .before .before .before .byte-at2 .ensures,
-      ← c .before .before .before .before .before .before .before .before .before .byte-at3 .ensures,
-    )
-    (rw (
-      c .before .before .before .before .before .before .before .before .if1 .left,
-      ← c .before .before .before .before .before .before .before .wrong-end .ensures,
-      c .before .before .before .before .before .before .if2 .left,
-    )
-    (rw (← c .before .before .before .before .sum-of .ensures, ← c .before .before .before .wrong-sum .ensures, c .before .before .if3 .left)
-    (c .long-shape .ensures)))
+      c .before .before .if3 .left,
+    ) (c .long-shape .ensures))
 
 pub long-form-spec : {M : Type 1} → statement M
 long-form-spec =
@@ -107,13 +96,9 @@ long-form-spec =
     returns
     wrong-end-requires
     returns-2
-    sub-last
-    sub-sum-of
-    part-sum-of-start
-    part-sum-of-end
-    sum-of-requires
-    wrong-sum-requires
+    wrong-whole-requires
     returns-3
+    sub-last
     sub-long-shape
     part-long-shape-start
     part-long-shape-end

@@ -17,15 +17,18 @@ enum-known-shape : tie.Need-enum-known-shape
 enum-known-shape c = search needs
 
 sub-outline-data : tie.Need-sub-outline-data
-sub-outline-data c = let h = left-by (now (c .before .before .before .before .before .args .bytes)) (c .before .before .before .shape-of .ensures)
+sub-outline-data c = let h = left-by (now (c .before .before .before .before .before .args .bytes)) (c .before .before .before .before .before .args .sum)
+    (c .before .before .before .shape-of .ensures)
     (c .before .shape .given .1) in omega (arith, h .0)
 
 sub-outline-data-2 : tie.Need-sub-outline-data-2
-sub-outline-data-2 c = let h = left-by (now (c .before .before .before .before .before .args .bytes)) (c .before .before .before .shape-of .ensures)
+sub-outline-data-2 c = let h = left-by (now (c .before .before .before .before .before .args .bytes)) (c .before .before .before .before .before .args .sum)
+    (c .before .before .before .shape-of .ensures)
     (c .before .shape .given .1) in omega (arith, h .0)
 
 part-outline-data-start : tie.Need-part-outline-data-start
-part-outline-data-start c = let h = left-by (now (c .before .before .before .before .before .args .bytes)) (c .before .before .before .shape-of .ensures)
+part-outline-data-start c = let h = left-by (now (c .before .before .before .before .before .args .bytes))
+    (c .before .before .before .before .before .args .sum) (c .before .before .before .shape-of .ensures)
     (c .before .shape .given .1) in omega (arith, h .0)
 
 part-outline-data-end : tie.Need-part-outline-data-end
@@ -34,7 +37,8 @@ part-outline-data-end c = search needs
 outline-data-requires : tie.Need-outline-data-requires
 outline-data-requires c κs =
     let b = now (c .before .before .before .before .before .before .args .bytes) in
-    let h = left-by (now (c .before .before .before .before .before .before .args .bytes)) (c .before .before .before .before .shape-of .ensures)
+    let h = left-by (now (c .before .before .before .before .before .before .args .bytes)) (c .before .before .before .before .before .before .args .sum)
+    (c .before .before .before .before .shape-of .ensures)
     (c .before .before .shape .given .1) in
     omega (arith, h .0, length-take (length b - 2 - 7) (drop 7 b), length-drop 7 b)
 
@@ -49,20 +53,24 @@ enum-known-shape-3 c = search needs
 
 returns : tie.Need-returns
 returns c = let h = left-by (now (c .before .before .before .before .before .before .before .args .bytes))
+    (c .before .before .before .before .before .before .before .args .sum)
     (c .before .before .before .before .before .shape-of .ensures) (c .before .before .before .shape .given .1) in c .outline-data .ensures ∙ ap viewed
     (sym (h .1))
 
 returns-2 : tie.Need-returns-2
 returns-2 c = ap viewed
     (sym
-    (left-by (now (c .before .before .before .before .before .args .bytes)) (c .before .before .before .shape-of .ensures) (c .before .shape2 .given .1)))
+    (left-by (now (c .before .before .before .before .before .args .bytes)) (c .before .before .before .before .before .args .sum)
+    (c .before .before .before .shape-of .ensures) (c .before .shape2 .given .1)))
 
 returns-3 : tie.Need-returns-3
-returns-3 c = ap viewed (sym (left-by (now (c .before .before .before .before .args .bytes)) (c .before .before .shape-of .ensures) (c .enum-told .given .1)))
+returns-3 c = ap viewed (sym (left-by (now (c .before .before .before .before .args .bytes)) (c .before .before .before .before .args .sum)
+    (c .before .before .shape-of .ensures) (c .enum-told .given .1)))
 
 returns-4 : tie.Need-returns-4
-returns-4 c = asks-left (now (c .before .before .before .before .before .args .bytes)) _
-    (left-by (now (c .before .before .before .before .before .args .bytes)) (c .before .before .before .shape-of .ensures) (c .before .shape3 .given .1))
+returns-4 c = asks-left (now (c .before .before .before .before .before .args .bytes)) (c .before .before .before .before .before .args .sum) _
+    (left-by (now (c .before .before .before .before .before .args .bytes)) (c .before .before .before .before .before .args .sum)
+    (c .before .before .before .shape-of .ensures) (c .before .shape3 .given .1))
 
 pub outline-in-spec : {M : Type 1} → statement M
 outline-in-spec =

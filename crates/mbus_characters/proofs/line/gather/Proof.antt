@@ -1,0 +1,89 @@
+-- `mbus_characters::line::gather` meets its contract: one loop looks at each character for range, parity and sum. Assumes nothing.
+use Prim.Native.Nat.{_-_}
+use mathlib.Core.Path.{refl}
+use native.Mathlib.Omega.{arith}
+use borrow.Author.Needs.{needs}
+use denote.Ref.{now}
+use lib.ListN.{length, take}
+use Rattle.bytes_lent.proofs.Laws.Copying.{copied-length}
+use Rattle.mbus_characters.proofs.Laws.WalkLaws.{Walk, walk-next, walk-all, walk-stored, placed-in, placed-at, placed-all, placed-none}
+use Rattle.mbus_characters.proofs.line.gather.Statement.{statement}
+use Rattle.mbus_characters.proofs.line.gather.Tie as tie
+
+abbrev Inv-loop : tie.InvT-loop
+Inv-loop line out₀ flags₀ sum₀ i₀ out flags sum i = Walk (take (length out₀) line) out₀ i flags sum out
+
+abbrev μ-loop : tie.MeasureT-loop
+μ-loop line out₀ flags₀ sum₀ i₀ out flags sum i = length line - i
+
+loop-holds : tie.Need-loop-holds Inv-loop μ-loop
+loop-holds c = let a = c .before .before .args in placed-none (now (a .line)) (now (a .out))
+
+mul-c : tie.Need-mul-c Inv-loop μ-loop
+mul-c c = let h = placed-in _ refl (c .before .loop .inv) (c .loop-test .taken) in omega arith
+
+shared-slice-read-c : tie.Need-shared-slice-read-c Inv-loop μ-loop
+shared-slice-read-c c = let h = placed-in _ refl (c .before .before .loop .inv) (c .before .loop-test .taken) in omega arith
+
+cast-b : tie.Need-cast-b Inv-loop μ-loop
+cast-b c = search needs
+
+folded-requires : tie.Need-folded-requires Inv-loop μ-loop
+folded-requires c κs = search needs
+
+wrapping-add-u16-requires : tie.Need-wrapping-add-u16-requires Inv-loop μ-loop
+wrapping-add-u16-requires c κs = search needs
+
+slice-write-out : tie.Need-slice-write-out Inv-loop μ-loop
+slice-write-out c = let h = placed-in _ refl (c .before .before .before .before .loop .inv) (c .before .before .before .loop-test .taken) in h .1
+
+add-i : tie.Need-add-i Inv-loop μ-loop
+add-i c = let h = placed-in _ refl (c .before .before .before .before .loop .inv) (c .before .before .before .loop-test .taken) in omega arith
+
+loop-less : tie.Need-loop-less Inv-loop μ-loop
+loop-less c = let h = placed-in _ refl (c .before .before .before .before .loop .inv) (c .before .before .before .loop-test .taken) in omega arith
+
+loop-again : tie.Need-loop-again Inv-loop μ-loop
+loop-again c =
+    let line = now (c .before .before .before .before .before .before .before .args .line) in
+    let w = c .before .before .before .before .loop .inv in
+    let test = c .before .before .before .loop-test .taken in
+    rw (c .wrapping-add-u16 .ensures)
+    (walk-next w (placed-in line refl w test .2) (placed-at line refl w test refl) (c .before .folded .ensures))
+
+told-by-requires : tie.Need-told-by-requires Inv-loop μ-loop
+told-by-requires c κs = search needs
+
+cast-t18 : tie.Need-cast-t18 Inv-loop μ-loop
+cast-t18 c = search needs
+
+same-length : tie.Need-same-length Inv-loop μ-loop
+same-length c = copied-length (c .before .before .loop .inv .stored)
+
+returns : tie.Need-returns Inv-loop μ-loop
+returns c =
+    let line = now (c .before .before .before .before .before .args .line) in
+    let w = c .before .before .loop .inv in
+    let end = placed-all line refl w (c .before .loop-test .left) in
+    (walk-all w end (c .told-by .ensures), walk-stored w end)
+
+pub gather-spec : {M : Type 1} → statement M
+gather-spec =
+    tie.close
+    (tie.spec
+    Inv-loop
+    μ-loop
+    loop-holds
+    mul-c
+    shared-slice-read-c
+    cast-b
+    folded-requires
+    wrapping-add-u16-requires
+    slice-write-out
+    add-i
+    loop-less
+    loop-again
+    told-by-requires
+    cast-t18
+    same-length
+    returns)

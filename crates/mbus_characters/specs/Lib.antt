@@ -1,0 +1,2 @@
+-- What one walk over characters gathers.
+pub mod Gathering

@@ -1,0 +1,40 @@
+-- `mbus_reading::pairs::outline_far` meets its contract. Assumes nothing.
+use borrow.Author.Needs.{needs}
+use denote.Ref.{now}
+use native.Mathlib.Omega.{arith}
+use mathlib.Core.Path.{sym, ap, _∙_}
+use Rattle.mbus_rules.specs.Characters.{byteOf}
+use Rattle.mbus_rules.specs.Host.{chars}
+use Rattle.mbus_rules.proofs.Laws.ListLaws.{at-bytes}
+use Rattle.mbus_rules.specs.Views.{viewed}
+use Rattle.mbus_characters.proofs.Laws.PairLaws.{length-characters}
+use Rattle.mbus_reading.proofs.Laws.TakingLaws.{far-line}
+use Rattle.mbus_reading.proofs.pairs.outline_far.Statement.{statement}
+use Rattle.mbus_reading.proofs.pairs.outline_far.Tie as tie
+
+soundness-of-requires : tie.Need-soundness-of-requires
+soundness-of-requires c κs = search needs
+
+character-at-requires : tie.Need-character-at-requires
+character-at-requires c κs = search needs
+
+cast-far-of : tie.Need-cast-far-of
+cast-far-of c = search needs
+
+far-of-requires : tie.Need-far-of-requires
+far-of-requires c κs = search needs
+
+returns : tie.Need-returns
+returns c =
+    let b = now (c .before .before .before .before .args .bytes) in
+    let s = chars b in
+    rw (c .far-of .ensures)
+    (ap viewed
+    (sym
+    (far-line s (omega (arith, length-characters b, c .before .before .before .before .pre)) (c .before .before .soundness-of .ensures)
+    (ap byteOf (c .before .character-at .ensures) ∙ sym (at-bytes s 0)))))
+
+pub outline-far-spec : {M : Type 1} → statement M
+outline-far-spec =
+    tie.close
+    (tie.spec soundness-of-requires character-at-requires cast-far-of far-of-requires returns)

@@ -1,0 +1,84 @@
+-- `mbus_reading::pairs::outline_few` meets its contract: few characters by their shape. Assumes nothing.
+use borrow.Author.Needs.{needs}
+use denote.Ref.{now}
+use Prim.Native.Nat.{ℕ, _%_}
+use native.Mathlib.Omega.{arith}
+use mathlib.Core.List.{map}
+use mathlib.Core.Path.{sym, ap, _∙_}
+use lib.ListN.{take}
+use Rattle.mbus_rules.specs.Characters.{byteOf}
+use Rattle.mbus_rules.specs.Host.{chars}
+use Rattle.mbus_rules.specs.Lists.{total}
+use Rattle.mbus_rules.specs.Views.{viewed}
+use Rattle.mbus_characters.proofs.Laws.PairLaws.{length-characters}
+use Rattle.mbus_reading.proofs.Laws.TakingLaws.{taken-as, cut-count}
+use Rattle.mbus_reading.proofs.Laws.FewLaws.{few-is, none-is}
+use Rattle.mbus_reading.proofs.pairs.outline_few.Statement.{statement}
+use Rattle.mbus_reading.proofs.pairs.outline_few.Tie as tie
+
+returns : tie.Need-returns
+returns c =
+    let b = now (c .before .before .args .bytes) in
+    ap viewed (sym (none-is (chars b) (length-characters b ∙ c .if1 .taken)))
+
+slice-aggregate-take-few : tie.Need-slice-aggregate-take-few
+slice-aggregate-take-few c = search needs
+
+take-few-requires : tie.Need-take-few-requires
+take-few-requires c κs = search needs
+
+enum-known-outcome : tie.Need-enum-known-outcome
+enum-known-outcome c = search needs
+
+returns-2 : tie.Need-returns-2
+returns-2 c =
+    let b = now (c .before .before .before .before .before .before .before .before .args .bytes) in
+    let s = chars b in
+    let low = c .before .before .before .before .take-few .last .1 .0 in
+    let size = length-characters b in
+    let t = taken-as s low (total (map byteOf s) % 256) (c .before .outcome .given .1) (c .before .before .before .before .take-few .ensures) in
+    ap viewed (sym t)
+
+enum-told : tie.Need-enum-told
+enum-told c = search needs
+
+array-share-prefix-few : tie.Need-array-share-prefix-few
+array-share-prefix-few c = search needs
+
+slice-aggregate-brief-shape : tie.Need-slice-aggregate-brief-shape
+slice-aggregate-brief-shape c =
+    let b = now (c .before .before .before .before .before .before .before .before .args .bytes) in
+    let s = chars b in
+    let low = c .before .before .before .before .take-few .last .1 .0 in
+    let size = length-characters b in
+    let t = taken-as s low (total (map byteOf s) % 256) (c .before .enum-told .given .1) (c .before .before .before .before .take-few .ensures) in
+    cut-count s low (sym size) (ap (λ (n : ℕ). take n low) (sym size) ∙ t .1)
+
+brief-shape-requires : tie.Need-brief-shape-requires
+brief-shape-requires c κs = search needs
+
+returns-3 : tie.Need-returns-3
+returns-3 c =
+    let b = now (c .before .before .before .before .before .before .before .before .before .args .bytes) in
+    let s = chars b in
+    let low = c .before .before .before .before .before .take-few .last .1 .0 in
+    let size = length-characters b in
+    let t = taken-as s low (total (map byteOf s) % 256) (c .before .before .enum-told .given .1)
+    (c .before .before .before .before .before .take-few .ensures) in
+    few-is s low (total (map byteOf s) % 256) (omega (arith, size, c .before .before .before .before .before .before .before .before .before .pre))
+    (sym size) t (c .brief-shape .ensures)
+
+pub outline-few-spec : {M : Type 1} → statement M
+outline-few-spec =
+    tie.close
+    (tie.spec
+    returns
+    slice-aggregate-take-few
+    take-few-requires
+    enum-known-outcome
+    returns-2
+    enum-told
+    array-share-prefix-few
+    slice-aggregate-brief-shape
+    brief-shape-requires
+    returns-3)

@@ -1,0 +1,45 @@
+-- `mbus_shape::wrong_whole` meets its contract. Assumes nothing.
+use borrow.Author.Needs.{needs}
+use mathlib.Core.Path.{ap}
+use mathlib.Core.Bool.{not}
+use Prim.Native.Nat.{ℕ}
+use lib.Dec.{eqb}
+use Rattle.mbus_shape.proofs.Laws.WholeLaws.{twice-is}
+use Rattle.mbus_shape.proofs.wrong_whole.Statement.{statement}
+use Rattle.mbus_shape.proofs.wrong_whole.Tie as tie
+
+byte-at-requires : tie.Need-byte-at-requires
+byte-at-requires c κs = search needs
+
+sub-byte-at : tie.Need-sub-byte-at
+sub-byte-at c = search needs
+
+byte-at-requires-2 : tie.Need-byte-at-requires-2
+byte-at-requires-2 c κs = search needs
+
+wrapping-add-u8-requires : tie.Need-wrapping-add-u8-requires
+wrapping-add-u8-requires c κs = search needs
+
+wrapping-add-u8-requires-2 : tie.Need-wrapping-add-u8-requires-2
+wrapping-add-u8-requires-2 c κs = search needs
+
+wrapping-add-u8-requires-3 : tie.Need-wrapping-add-u8-requires-3
+wrapping-add-u8-requires-3 c κs = search needs
+
+returns : tie.Need-returns
+returns c =
+    ap (λ (n : ℕ). not (eqb (c .before .before .before .before .before .before .args .sum) n))
+    (twice-is (c .before .before .before .before .byte-at .ensures) (c .before .before .before .byte-at2 .ensures)
+    (c .before .before .wrapping-add-u8 .ensures) (c .before .wrapping-add-u82 .ensures) (c .wrapping-add-u83 .ensures))
+
+pub wrong-whole-spec : {M : Type 1} → statement M
+wrong-whole-spec =
+    tie.close
+    (tie.spec
+    byte-at-requires
+    sub-byte-at
+    byte-at-requires-2
+    wrapping-add-u8-requires
+    wrapping-add-u8-requires-2
+    wrapping-add-u8-requires-3
+    returns)
