@@ -10,7 +10,6 @@ use lib.Dec.{lit<, lit≤}
 use lib.ListN.{length, drop, replicate}
 use Rattle.bench_clock.specs.declared.Clock.{Clock}
 use Rattle.bench_clock.specs.Times.{replyTime, earlier}
-use Rattle.mbus_rules.specs.declared.Kind.{Kind}
 use Rattle.mbus_rules.specs.declared.Kind.the-variants.{Ack, Read}
 use Rattle.mbus_rules.specs.declared.Request.the-variants.{Enter}
 use Rattle.mbus_rules.specs.declared.Request.the-variants as requests
@@ -19,13 +18,14 @@ use Rattle.mbus_rules.specs.declared.View.the-variants.{Asks}
 use Rattle.mbus_rules.specs.Lists.{at, any, total}
 use Rattle.mbus_rules.specs.Characters.{odd, carrier}
 use Rattle.mbus_rules.specs.Answers.{Answer, reads, refusal}
-use Rattle.mbus_rules.specs.Telegrams.{bare, ack, readOf, enterOf, blank}
+use Rattle.mbus_rules.specs.Telegrams.{ack, readOf, enterOf, blank}
 use Rattle.mbus_rules.specs.TelegramSizes.{Sized}
 use Rattle.mbus_rules.specs.Host.{lineNumber}
 use Rattle.mbus_rules.specs.Lines.{readBody, readLine}
 use Rattle.mbus_rules.specs.Views.{viewed}
 use Rattle.mbus_rules.specs.Writing.{lineOf, unwritable, writeLine}
 use Rattle.mbus_rules.specs.Flips.{Place, Places, flips, repeated}
+use Rattle.mbus_rules.proofs.Laws.LineLaws.{bare-sized}
 use Rattle.bytes_lent.specs.Lent.{stored, told}
 use Rattle.mbus_search.specs.Searching.{accepts, Begins, Spot, findIn}
 use Rattle.mbus_either.specs.declared.Interface.the-variants.{Mbus, Optical}
@@ -61,18 +61,15 @@ ReadsBack read =
 pub rules-read : ReadsBack readLine
 rules-read = writer.write-and-read
 
-bare-sized : (k : Kind) → Sized (bare k 0 0)
-bare-sized k = record { address = lit< tt; header = record { version = lit< tt; access = lit< tt; status = lit< tt }; places = refl }
-
 -- one that refuses every line, by whatever numbers
 pub refuses-every-line : (number : List ℕ → ℕ) → ReadsBack (λ s. refusal (number s)) → ⊥
 unfolding lineOf unwritable any
-refuses-every-line number d = let r = d ack (0 ∷ []) (bare-sized Ack) refl (lit≤ tt) in omega (arith, ap lineNumber (r .2))
+refuses-every-line number d = let r = d ack (0 ∷ []) (bare-sized Ack 0 0 (lit< tt)) refl (lit≤ tt) in omega (arith, ap lineNumber (r .2))
 
 -- one that says ack to each line,
 pub says-ack-to-each-line : ReadsBack (λ s. reads ack) → ⊥
 unfolding lineOf unwritable any
-says-ack-to-each-line d = let r = d (readOf 0) (replicate 5 0) (bare-sized Read) refl (lit≤ tt) in omega (arith, ap lineNumber (r .2))
+says-ack-to-each-line d = let r = d (readOf 0) (replicate 5 0) (bare-sized Read 0 0 (lit< tt)) refl (lit≤ tt) in omega (arith, ap lineNumber (r .2))
 
 -- which breaks the flips too
 abbrev pub RefusesFlips : (List ℕ → Answer Telegram) → Type 0

@@ -16,5 +16,8 @@ pub mod Settled
 pub mod OneToOne
 pub mod Empty
 pub mod Resistance
+pub mod BothEnds
+pub mod Runs
+pub mod WrongEnds
 pub mod Values
 pub mod Weekdays

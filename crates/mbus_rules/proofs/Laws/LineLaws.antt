@@ -75,7 +75,8 @@ pub record Round (b : List ℕ) (t : Telegram) : Type 0 where
 blank-fits : Fits blankHeader
 blank-fits = record { version = lit< tt; access = lit< tt; status = lit< tt }
 
-bare-sized : (k : Kind) (a m : ℕ) → a < 256 → Sized (bare k a m)
+-- A telegram without header and entries is in size where its address is a byte.
+pub bare-sized : (k : Kind) (a m : ℕ) → a < 256 → Sized (bare k a m)
 bare-sized k a m h = record { address = h; header = blank-fits; places = refl }
 
 short-round : (b f : List ℕ) (t : Telegram) → b ≡ shortFrame f → Bytes f → length f ≡ 2 → readShort f ≡ reads t → Round b t

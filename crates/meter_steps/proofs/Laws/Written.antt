@@ -20,6 +20,8 @@ use Rattle.mbus_rules.proofs.Laws.Tests.{by-test, passed}
 use Rattle.mbus_rules.specs.Views.{viewed}
 use Rattle.mbus_rules.specs.Writing.{unwritable}
 use Rattle.mbus_rules.specs.TelegramSizes.{Sized}
+use Rattle.mbus_rules.specs.declared.Kind.the-variants.{Ack}
+use Rattle.mbus_rules.proofs.Laws.LineLaws.{bare-sized}
 use Rattle.mbus_rules.proofs.Laws.RoundTrip.{write-then-read}
 use Rattle.bench_clock.specs.Times.{earlier}
 use Rattle.meter_template.specs.declared.Pair.{Pair}
@@ -106,11 +108,8 @@ ack-written : unwritable ack ≡ false
 unfolding unwritable any
 ack-written = refl
 
-ack-sized : Sized ack
-ack-sized = record { address = lit< tt; header = record { version = lit< tt; access = lit< tt; status = lit< tt }; places = refl }
-
 ack-proper : (a : ℕ) → Proper a (says ack)
-ack-proper a = (ack-written, write-then-read ack ack-sized ack-written, inl refl)
+ack-proper a = (ack-written, write-then-read ack (bare-sized Ack 0 0 (lit< tt)) ack-written, inl refl)
 
 answer-proper : (c : Core) → Sound c → Proper (c .address) (says (dataAnswer c))
 answer-proper c s =
