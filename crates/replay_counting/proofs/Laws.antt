@@ -3,3 +3,5 @@ pub mod Hearing
 pub mod Numbering
 pub mod Walking
 pub mod Answering
+pub mod Exchanges
+pub mod Others

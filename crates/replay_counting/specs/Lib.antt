@@ -2,3 +2,4 @@
 pub mod Counting
 pub mod Ears
 pub mod Shown
+pub mod Exchanges
