@@ -8,5 +8,6 @@ int answer_row(void);
 int answer_body(void);
 int answer_add(void);
 int answer_list(void);
+int answer_replay(void);
 
 #endif

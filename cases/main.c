@@ -19,6 +19,7 @@ static const struct {
     {"gap", answer_gap},     {"error", answer_error}, {"exchange", answer_exchange}, {"meter", answer_meter},
     {"check", answer_check}, {"row", answer_row},     {"body", answer_body},         {"add", answer_add},
     {"list", answer_list},   {"resistance", answer_resistance}, {"temperature", answer_temperature},
+    {"replay", answer_replay},
 };
 
 static int answer_case(char **known)

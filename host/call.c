@@ -39,6 +39,7 @@ static const struct {
     [BUNDLE_ROW] = {"skarrowith_bundle_row", "0", "21 30 31 32 33 34 35 36 37 39"},
     [BUNDLE_ADD] = {"skarrowith_bundle_add", "0", "30 31 32 33 34 35 36 37 38"},
     [BUNDLE_LIST] = {"skarrowith_bundle_list", "0", "21"},
+    [REPLAY_ERROR] = {"skarrowith_replay_error", "0", "21 30 31 32 33 34 35 36 37 61 62 63 64 65"},
 };
 
 static unsigned long seen[FUNCTIONS][ANSWERS], cases;

@@ -28,6 +28,7 @@ enum function {
     BUNDLE_ROW,
     BUNDLE_ADD,
     BUNDLE_LIST,
+    REPLAY_ERROR,
     FUNCTIONS
 };
 

@@ -13,4 +13,5 @@ pub mod Settled
 pub mod OneToOne
 pub mod Empty
 pub mod Resistance
+pub mod Replay
 pub mod Values

@@ -5,3 +5,4 @@ pub mod Walking
 pub mod Answering
 pub mod Exchanges
 pub mod Others
+pub mod Meaning

@@ -1,7 +1,7 @@
 -- A heard row counts exactly when the exchange that the read began ends well by it.
 use Prim.Native.Nat.{ℕ}
 use mathlib.Core.Bool.{Bool, true, false, cond, not, _&&_, _||_, false≢true}
-use mathlib.Core.List.{List, [], _∷_}
+use mathlib.Core.List.{List, [], _∷_, _++_}
 use mathlib.Core.Path.{_≡_, refl, sym, ap, _∙_}
 use borrow.Author.Tests.{leb-true, leb-false, le-ltb, lt-ltb}
 use lib.Dec.{leb, ltb}
@@ -20,7 +20,8 @@ use Rattle.exchange_steps.specs.declared.Cause.the-variants.{Silent}
 use Rattle.exchange_steps.specs.declared.State.the-variants.{Well}
 use Rattle.exchange_steps.specs.Histories.{stands}
 use Rattle.bundle_check.specs.Records.{Recorded}
-use Rattle.replay_counting.specs.Counting.{isSent, rowView, sendEnd, beginsFrom, answersRead, counts}
+use Rattle.replay_counting.specs.Counting.{isSent, rowView, sendEnd, beginsFrom, answersRead, counts, onward, keptIf, countedAfter}
+use Rattle.replay_counting.proofs.Laws.Others.{counted-append, stretch-since}
 use Rattle.replay_counting.specs.Exchanges.{rowClock, rowHeard, toldRows, endsWellBy}
 
 -- ---- an exchange that waits no more
@@ -107,3 +108,17 @@ pub counts-as : (send : Recorded) (address : ℕ) (since : List Recorded) (k : R
     → isSent send ≡ true → rowView send ≡ Asks (Read address) → isSent k ≡ false
     → counts (send ∷ since) k ≡ endsWellBy (toldRows (begun (Read address) (rowClock (sendEnd send))) since) k
 counts-as send address since k s r h = rw (s, h, r) (ends-well-by address (sendEnd send) since k)
+
+-- the same of the whole list of rows
+pub counted-as : (front : List Recorded) (send : Recorded) (address : ℕ) (since : List Recorded) (k : Recorded) (later : List Recorded)
+    → isSent send ≡ true → rowView send ≡ Asks (Read address) → any isSent since ≡ false → isSent k ≡ false
+    → countedAfter [] ((front ++ (send ∷ since)) ++ (k ∷ later))
+    ≡ countedAfter [] (front ++ (send ∷ since))
+    ++ keptIf (endsWellBy (toldRows (begun (Read address) (rowClock (sendEnd send))) since) k) k (countedAfter (send ∷ (since ++ (k ∷ []))) later)
+unfolding countedAfter
+counted-as front send address since k later s r n h =
+    let on : onward (send ∷ since) k ≡ send ∷ (since ++ (k ∷ [])) = rw h in
+    counted-append [] (front ++ (send ∷ since)) (k ∷ later)
+    ∙ ap (λ (l : List Recorded). countedAfter [] (front ++ (send ∷ since)) ++ countedAfter l (k ∷ later)) (stretch-since front send since s n)
+    ∙ ap (λ (l : List Recorded). countedAfter [] (front ++ (send ∷ since)) ++ keptIf (counts (send ∷ since) k) k (countedAfter l later)) on
+    ∙ ap (λ (t : Bool). countedAfter [] (front ++ (send ∷ since)) ++ keptIf t k (countedAfter (send ∷ (since ++ (k ∷ []))) later)) (counts-as send address since k s r h)

@@ -5,12 +5,15 @@ use mathlib.Core.List.{[], _∷_}
 use mathlib.Core.Path.{_≡_, refl, sym, ap, ap₂, _∙_}
 use native.Mathlib.Nat.{mul-le-mul, mul-pos}
 use native.Mathlib.Omega.{arith}
-use borrow.Author.Tests.{ltb-true, ltb-false, lt-ltb, le-ltb, eqb-false, ne-eqb}
+use borrow.Author.Tests.{ltb-true, ltb-false, lt-ltb, le-ltb, eqb-false, ne-eqb, leb-false}
 use lib.Dec.{ltb, leb, eqb}
-use lib.IntN.{ℤ}
+use lib.IntN.{ℤ, pos, _-ℤ_, _*ℤ_}
 use Rattle.mbus_rules.specs.Answers.{Answer, reads, refusal}
-use Rattle.mbus_rules.proofs.Laws.Tests.{neither}
+use Rattle.mbus_rules.proofs.Laws.Tests.{neither, passed}
+use Rattle.mbus_rules.proofs.Laws.AnswerLaws.{reads-same}
 use Rattle.mbus_rules.proofs.Laws.TestLaws.{none}
+use Rattle.bench_indication.specs.Rounding.{Nearest}
+use Rattle.bench_indication.proofs.Laws.Errors.{tenths-nearest}
 use Rattle.bench_indication.specs.Errors.{tenths, riseMost, riseErrorOf}
 use Rattle.replay_error.specs.Errors.{volumeMost, volumeOver, intervalMost, wrongInterval, errorByC1, errorOfFigures}
 use Rattle.replay_error.specs.Shown.{cappedVolume}
@@ -59,6 +62,19 @@ module _ (v1 v2 s1 s2 : ℕ) (e : volumeOver v1 v2 s1 s2 ≡ false) where
         let x : ℕ = (v2 - v1) * elapsed in
         let y : ℕ = (s2 - s1) * meter in
         rw (le-ltb riseMost x meter-fits, le-ltb riseMost y standard-fits, ne-eqb y 0 (λ z. omega (arith, standard-rises h)))
+
+-- An error that is given is the nearest one.
+pub error-nearest : (v1 v2 s1 s2 elapsed meter : ℕ) (e : ℤ) → errorOfFigures v1 v2 s1 s2 elapsed meter ≡ reads e
+    → Nearest (pos 1000 *ℤ (pos ((v2 - v1) * elapsed) -ℤ pos ((s2 - s1) * meter))) ((s2 - s1) * meter) e
+unfolding errorOfFigures
+error-nearest v1 v2 s1 s2 elapsed meter e h =
+    let over = passed 64 (volumeOver v1 v2 s1 s2) _ e h in
+    let wrong = passed 65 (wrongInterval elapsed || wrongInterval meter) _ e (over .1) in
+    let falls = passed 61 (ltb v2 v1) _ e (wrong .1) in
+    let stays = passed 62 (leb s2 s1) _ e (falls .1) in
+    let same : errorByC1 v1 v2 s1 s2 elapsed meter ≡ e = reads-same (stays .1) in
+    let some = standard-rises v1 v2 s1 s2 (over .0) elapsed meter (wrong .0) (leb-false s2 s1 (stays .0)) in
+    rw (← same) (tenths-nearest ((v2 - v1) * elapsed) ((s2 - s1) * meter) some)
 
 -- ---- a volume that is not computed
 

@@ -23,7 +23,7 @@ use Rattle.bundle_check.proofs.Laws.BodyLaws.{few-rows, unchecked-right}
 use Rattle.bundle_check.proofs.Laws.HoldingLaws.{blankRecord}
 use Rattle.replay_calendar.specs.Days.{interval}
 use Rattle.replay_counting.specs.declared.Counted.{Counted}
-use Rattle.replay_counting.specs.Counting.{answersOf, numbersOf, countingOf}
+use Rattle.replay_counting.specs.Counting.{lookedAt, answersOf, numbersOf, countingOf}
 use Rattle.replay_counting.specs.Shown.{padded, shownCounting}
 use Rattle.replay_counting.proofs.Laws.Numbering.{few-numbers, rows-are, numbers-below}
 use Rattle.replay_counting.proofs.Laws.Walking.{record-there, length-records}
@@ -183,3 +183,16 @@ pub error-told : (a : Answer ℤ) {i : Indication} {x y : ℤ} (numbers : List �
     → first ≡ firstNumber numbers → last ≡ lastNumber numbers → y ≡ x → Error first last y ≡ shownReplay numbers a
 error-told (refusal m) numbers e f g h q = let z : _≡_ {A = ℕ} 0 1 = cc in absurd (omega arith)
 error-told (reads x) numbers e f g h q = cc
+
+-- ---- what a replay rests on
+
+pub same-replay : (b c : List ℕ) (m n position s1 s2 elapsed : ℕ) → checkOf b ≡ reads m → checkOf c ≡ reads n
+    → lookedAt position (recordsOf b) ≡ lookedAt position (recordsOf c) → replayOf b position s1 s2 elapsed ≡ replayOf c position s1 s2 elapsed
+unfolding replayOf
+same-replay b c m n position s1 s2 elapsed e f g = rw (e, f, g)
+
+pub replay-between : (b : List ℕ) (n position s1 s2 elapsed : ℕ) (first second : Recorded) (later : List Recorded)
+    → checkOf b ≡ reads n → wrongPosition position ≡ false → answersOf position (recordsOf b) ≡ first ∷ (second ∷ later)
+    → replayOf b position s1 s2 elapsed ≡ errorBetween (rowTells first) (rowTells (lastOf second later)) s1 s2 elapsed
+unfolding replayOf
+replay-between b n position s1 s2 elapsed first second later e w g = rw (e, w, g)
