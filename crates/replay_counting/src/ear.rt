@@ -71,10 +71,7 @@ fn heard_by(ear: Ear, time: u32, body: &[u8]) -> Turn
     ensures { λ r. ⌜ r ≡ heardBy ear time (viewed (readLine (chars (now (body .entry))))) ⌝ }
 {
     match ear {
-        Ear::Deaf => Turn {
-            ear: Ear::Deaf,
-            counts: false,
-        },
+        Ear::Deaf => Turn { ear, counts: false },
         Ear::Open(address, end) => {
             let early = (time as u64) < end;
             if early {
