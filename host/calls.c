@@ -65,7 +65,7 @@ static uint32_t resistance(void) { return skarrowith_resistance(5019, &number); 
 static uint32_t temperature(void) { return skarrowith_temperature(1200000, &number); }
 static uint32_t check_bundle(void) { return skarrowith_bundle_check(bytes, count, &told); }
 static uint32_t list_bundle(void) { return skarrowith_bundle_list(bytes, count, text, sizeof text, &told); }
-static uint32_t replay_for(uint8_t position) { return skarrowith_replay_error(bytes, count, position, 0, 1000, 1000, &tenths, 1); }
+static uint32_t replay_for(uint8_t p) { return skarrowith_replay_error(bytes, count, p, 0, 1000, 1000, &tenths, 1); }
 static uint32_t replay_bundle(void) { return replay_for(7); }
 static uint32_t pass_bundle(void) { return replay_for(8); }
 static uint32_t none(void) { return (uint32_t)count; }

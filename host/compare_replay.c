@@ -17,7 +17,8 @@ static void replay(const struct replay *r)
     size_t places = once_in(12) ? 0 : 1;
     int refusal = places == 0 ? 21 : second_replay(bundle.b, bundle.n, r->position, r->s1, r->s2, r->elapsed, &tenths);
     begin(REPLAY_ERROR);
-    struct lent *bytes = lend("bundle", bundle.n, bundle.b, bundle.n), *place = lend("tenths", places * sizeof tenths, NULL, 0);
+    struct lent *bytes = lend("bundle", bundle.n, bundle.b, bundle.n);
+    struct lent *place = lend("tenths", places * sizeof tenths, NULL, 0);
     tell("position", r->position);
     tell("s1", r->s1);
     tell("s2", r->s2);

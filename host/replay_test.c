@@ -1,4 +1,4 @@
-/* Calls the replay as a bench host does: a run of reads and answers is put together, replayed, and refused by each number. */
+/* Calls the replay as a bench host does: reads and answers are put together, replayed, and refused by each number. */
 #include "skarrowith.h"
 
 #include "../second/example.h"
@@ -35,7 +35,8 @@ static void begin(void)
 
 static void row(uint8_t position, uint8_t direction, uint32_t time, const uint16_t *line, size_t count)
 {
-    expect("a row", skarrowith_bundle_add(bundle, sizeof bundle, &filled, position, direction, time, (const uint8_t *)line, 2 * count), 0);
+    const uint8_t *body = (const uint8_t *)line;
+    expect("a row", skarrowith_bundle_add(bundle, sizeof bundle, &filled, position, direction, time, body, 2 * count), 0);
 }
 
 static size_t send_read(uint32_t time)

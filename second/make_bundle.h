@@ -17,7 +17,7 @@ extern struct bundle bundle;
 
 void some_bundle(void);
 
-/* A bundle row by row: the rows so far, the time of the last one, one that is not below it, and all of them put together. */
+/* A bundle row by row: none yet, one more, the last one's time, a time that is not below it, and all put together. */
 void begin_run(void);
 void add_row(unsigned position, unsigned direction, uint32_t time, const struct line *l);
 uint32_t run_time(void);

@@ -47,7 +47,9 @@ static size_t lay_out(const uint8_t *bundle, size_t rows, unsigned position, str
 
 static int fits(const struct spoken *asked, const struct spoken *answer)
 {
-    if (asked->refusal != 0 || asked->telegram.kind != SECOND_READ || answer->refusal != 0 || answer->telegram.kind != SECOND_DATA)
+    if (asked->refusal != 0 || asked->telegram.kind != SECOND_READ)
+        return 0;
+    if (answer->refusal != 0 || answer->telegram.kind != SECOND_DATA)
         return 0;
     return asked->telegram.address == 0xFE || asked->telegram.address == answer->telegram.address;
 }

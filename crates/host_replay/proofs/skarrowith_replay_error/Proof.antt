@@ -39,14 +39,16 @@ returns-2 : tie.Need-returns-2
 returns-2 c =
     let back4 = c .before .before .before .before in
     let a = back4 .before .before .args in
-    replay-told (a .bundle .now) (a .position) (a .s1) (a .s2) (a .elapsed) (a .tenths .now) (back4 .if1 .left) (c .before .before .before .replay .ensures) (c .before .error .given .1)
+    replay-told (a .bundle .now) (a .position) (a .s1) (a .s2) (a .elapsed) (a .tenths .now) (back4 .if1 .left)
+    (c .before .before .before .replay .ensures) (c .before .error .given .1)
     (toZ-ofZ w64 (c .before .error .given .0 .1 .1 .0) (search needs))
 
 returns-3 : tie.Need-returns-3
 returns-3 c =
     let back4 = c .before .before .before .before in
     let a = back4 .before .before .args in
-    replay-refused (a .bundle .now) (a .position) (a .s1) (a .s2) (a .elapsed) (a .tenths .now) (back4 .if1 .left) (c .before .before .before .replay .ensures) (c .before .n .given .1)
+    replay-refused (a .bundle .now) (a .position) (a .s1) (a .s2) (a .elapsed) (a .tenths .now) (back4 .if1 .left)
+    (c .before .before .before .replay .ensures) (c .before .n .given .1)
 
 pub skarrowith-replay-error-spec : {M : Type 1} → statement M
 skarrowith-replay-error-spec =

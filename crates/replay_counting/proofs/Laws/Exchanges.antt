@@ -121,4 +121,5 @@ counted-as front send address since k later s r n h =
     counted-append [] (front ++ (send ∷ since)) (k ∷ later)
     ∙ ap (λ (l : List Recorded). countedAfter [] (front ++ (send ∷ since)) ++ countedAfter l (k ∷ later)) (stretch-since front send since s n)
     ∙ ap (λ (l : List Recorded). countedAfter [] (front ++ (send ∷ since)) ++ keptIf (counts (send ∷ since) k) k (countedAfter l later)) on
-    ∙ ap (λ (t : Bool). countedAfter [] (front ++ (send ∷ since)) ++ keptIf t k (countedAfter (send ∷ (since ++ (k ∷ []))) later)) (counts-as send address since k s r h)
+    ∙ ap (λ (t : Bool). countedAfter [] (front ++ (send ∷ since)) ++ keptIf t k (countedAfter (send ∷ (since ++ (k ∷ []))) later))
+    (counts-as send address since k s r h)

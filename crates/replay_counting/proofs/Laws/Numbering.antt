@@ -75,7 +75,8 @@ rows-from position front stretch (k ∷ ks) =
     one-row (front ++ (k ∷ ks)) (length front) k (numbersFrom position (suc (length front)) (onward stretch k) ks)
     (numbersFrom position (suc (length front)) stretch ks) (countedAfter (onward stretch k) (lookedAt position ks))
     (countedAfter stretch (lookedAt position ks)) (looked position k) (counts stretch k) (getD-append-seam front k ks blankRecord)
-    (later (onward stretch k) (rows-from position (front ++ (k ∷ [])) (onward stretch k) ks)) (later stretch (rows-from position (front ++ (k ∷ [])) stretch ks))
+    (later (onward stretch k) (rows-from position (front ++ (k ∷ [])) (onward stretch k) ks))
+    (later stretch (rows-from position (front ++ (k ∷ [])) stretch ks))
     ∙ looked-first position stretch k (lookedAt position ks) (looked position k)
   where
     later : (stretch : List Recorded)

@@ -175,7 +175,8 @@ module _ (b : List ℕ) (position s1 s2 elapsed : ℕ) where
         ∙ sym (replays ∙ two-answers row s1 s2 elapsed numbers (omega (arith, k .count))))
 
 -- what the code's answer of the error tells
-pub error-refused : (a : Answer ℤ) {i : Indication} {n : ℕ} (numbers : List ℕ) → i ≡ shownIndication a → i ≡ indications.Refused n → Refused n ≡ shownReplay numbers a
+pub error-refused : (a : Answer ℤ) {i : Indication} {n : ℕ} (numbers : List ℕ) → i ≡ shownIndication a → i ≡ indications.Refused n
+    → Refused n ≡ shownReplay numbers a
 error-refused (refusal m) numbers e f = cc
 error-refused (reads x) numbers e f = let z : _≡_ {A = ℕ} 0 1 = cc in absurd (omega arith)
 

@@ -1,6 +1,6 @@
 -- `replay_error::error_of_figures` meets its contract: each way out by the tests that led there. Assumes nothing.
 use mathlib.Core.Bool.{Bool, _||_}
-use mathlib.Core.Path.{sym, ap, ap₂, _∙_}
+use mathlib.Core.Path.{_≡_, sym, ap, ap₂, _∙_}
 use native.Mathlib.Omega.{arith}
 use borrow.Author.Tests.{leb-false}
 use Rattle.bench_indication.specs.Errors.{shownIndication}
@@ -9,6 +9,10 @@ use Rattle.replay_error.proofs.Laws.Figuring.{meter-fits, standard-fits
 use borrow.Author.Needs.{needs}
 use Rattle.replay_error.proofs.error_of_figures.Statement.{statement}
 use Rattle.replay_error.proofs.error_of_figures.Tie as tie
+
+-- what two calls answered, joined, is what their definitions say
+both : {x y u v t : Bool} → x ≡ u → y ≡ v → (x || y) ≡ t → (u || v) ≡ t
+both e f g = ap₂ (λ (a b : Bool). a || b) (sym e) (sym f) ∙ g
 
 returns : tie.Need-returns
 unfolding errorOfFigures
@@ -50,7 +54,7 @@ mul-error-of-rises : tie.Need-mul-error-of-rises
 mul-error-of-rises c =
     let back3 = c .before .before .before in
     let a = back3 .before .before .before .args in
-    let wrong = ap₂ (λ (x y : Bool). x || y) (sym (back3 .before .wrong-interval .ensures)) (sym (back3 .wrong-interval2 .ensures)) ∙ c .before .before .if2 .left in
+    let wrong = both (back3 .before .wrong-interval .ensures) (back3 .wrong-interval2 .ensures) (c .before .before .if2 .left) in
     omega (arith, meter-fits (a .v1) (a .v2) (a .s1) (a .s2) (back3 .before .before .if1 .left) (a .elapsed) (a .meter) wrong)
 
 sub-error-of-rises-2 : tie.Need-sub-error-of-rises-2
@@ -60,7 +64,7 @@ mul-error-of-rises-2 : tie.Need-mul-error-of-rises-2
 mul-error-of-rises-2 c =
     let back3 = c .before .before .before in
     let a = back3 .before .before .before .args in
-    let wrong = ap₂ (λ (x y : Bool). x || y) (sym (back3 .before .wrong-interval .ensures)) (sym (back3 .wrong-interval2 .ensures)) ∙ c .before .before .if2 .left in
+    let wrong = both (back3 .before .wrong-interval .ensures) (back3 .wrong-interval2 .ensures) (c .before .before .if2 .left) in
     omega (arith, standard-fits (a .v1) (a .v2) (a .s1) (a .s2) (back3 .before .before .if1 .left) (a .elapsed) (a .meter) wrong)
 
 error-of-rises-requires : tie.Need-error-of-rises-requires
@@ -72,7 +76,7 @@ returns-5 c =
     let back3 = c .before .before .before in
     let a = back3 .before .before .before .before .args in
     let over = back3 .before .before .before .if1 .left in
-    let wrong = ap₂ (λ (x y : Bool). x || y) (sym (back3 .before .before .wrong-interval .ensures)) (sym (back3 .before .wrong-interval2 .ensures)) ∙ back3 .if2 .left in
+    let wrong = both (back3 .before .before .wrong-interval .ensures) (back3 .before .wrong-interval2 .ensures) (back3 .if2 .left) in
     rw (over, wrong, c .before .before .if3 .left, c .before .if4 .left)
     (c .error-of-rises .ensures
     ∙ ap shownIndication

@@ -42,7 +42,8 @@ returns : tie.Need-returns
 returns c =
     let u = c .before .before .before .before .before .unchecked-characters in
     c .told-by .ensures
-    ∙ ap (λ (x : Reading). shownTold (toldBy (x .telegram))) (c .before .before .read-line .ensures ∙ ap (λ (l : List ℕ). shown (readLine l)) (puts-taken (u .ensures)))
+    ∙ ap (λ (x : Reading). shownTold (toldBy (x .telegram)))
+    (c .before .before .read-line .ensures ∙ ap (λ (l : List ℕ). shown (readLine l)) (puts-taken (u .ensures)))
 
 pub figures-at-spec : {M : Type 1} → statement M
 figures-at-spec =

@@ -20,7 +20,9 @@ add-result : tie.Need-add-result
 add-result c = search needs
 
 returns : tie.Need-returns
-returns c = volume-over (c .before .before .before .before .args .e) (c .before .before .before .volume-count .ensures) (c .before .ten-to .ensures) (c .if1 .taken)
+returns c =
+    let back3 = c .before .before .before in
+    volume-over (back3 .before .args .e) (back3 .volume-count .ensures) (c .before .ten-to .ensures) (c .if1 .taken)
 
 mul-result : tie.Need-mul-result
 mul-result c =
@@ -30,7 +32,9 @@ mul-result c =
     )
 
 returns-2 : tie.Need-returns-2
-returns-2 c = volume-told (c .before .before .before .before .args .e) (c .before .before .before .volume-count .ensures) (c .before .ten-to .ensures) (c .if1 .left)
+returns-2 c =
+    let back3 = c .before .before .before in
+    volume-told (back3 .before .args .e) (back3 .volume-count .ensures) (c .before .ten-to .ensures) (c .if1 .left)
 
 pub volume-of-spec : {M : Type 1} → statement M
 volume-of-spec =
