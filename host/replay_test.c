@@ -52,6 +52,7 @@ static void hear(uint32_t time, uint64_t volume, unsigned seconds)
 {
     uint16_t line[SKARROWITH_LINE_MOST];
     struct skarrowith_moment *m = &data.entries[TIMES].value.time;
+    data.entries[1].structure = 0x0E; /* twelve digits, of millilitres */
     data.entries[1].unit = 0x10;
     data.entries[1].value.count = volume;
     m->hour = (uint8_t)(12 + seconds / 3600);
