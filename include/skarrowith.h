@@ -20,8 +20,8 @@
  * beside (rows, filled, written, milliohm, hundredths) is written through a pointer to it, which may not be null. Memory for
  * uint16_t, uint32_t, int64_t and size_t is aligned as C aligns these types; bytes and records may stand at any address.
  *
- * Stack, as measured. skarrowith_bundle_list takes 28,000 bytes, the simulated meter up to 4,300, every other function fewer
- * than 1,500.
+ * Stack, as measured. skarrowith_bundle_list takes 28,000 bytes, skarrowith_replay_error 5,800, the simulated meter up to
+ * 4,300, every other function fewer than 1,500.
  *
  * Lines. But for skarrowith_check_line and the bodies of a bundle, which are bytes, a line is its characters: each a
  * uint16_t with the byte received in the low eight bits and the parity bit received as bit 8. Lengths and places count
