@@ -6,6 +6,7 @@
 
 #include "../second/bundle.h"
 #include "../second/contents.h"
+#include "../second/replay.h"
 
 #include <inttypes.h>
 #include <stdio.h>
@@ -193,5 +194,18 @@ int answer_list(void)
     if (!take_bytes(&bundle) || !is_whole())
         return 0;
     second_list(bundle.b, bundle.n, stdout, '/');
+    return 1;
+}
+
+int answer_replay(void)
+{
+    uint64_t position, s1, s2, elapsed;
+    int64_t tenths = 0;
+    if (!take(&position, 0xFF) || !take(&s1, UINT64_MAX) || !take(&s2, UINT64_MAX) || !take(&elapsed, UINT64_MAX))
+        return 0;
+    if (!take_bytes(&bundle) || !is_whole())
+        return 0;
+    if (!refused(second_replay(bundle.b, bundle.n, (unsigned)position, s1, s2, elapsed, &tenths)))
+        printf("error %+" PRId64, tenths);
     return 1;
 }

@@ -10,5 +10,6 @@ int answer_kept(void);
 int answer_next(void);
 int answer_add(void);
 int answer_list(void);
+int answer_replay(void);
 
 #endif

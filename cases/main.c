@@ -21,6 +21,7 @@ static const struct {
     {"list", answer_list},   {"kept", answer_kept},   {"next", answer_next},
     {"resistance", answer_resistance}, {"temperature", answer_temperature},
     {"either", answer_either},
+    {"replay", answer_replay},
 };
 
 static int answer_case(char **known)

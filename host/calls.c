@@ -12,6 +12,7 @@
 #include "../second/example.h"
 #include "../second/line.h"
 #include "../second/number.h"
+#include "../second/replay.h"
 #include "../second/resistance.h"
 
 #include <stdio.h>
@@ -25,6 +26,7 @@ static uint8_t bytes[2 * MOST], text[MOST];
 static uint16_t characters[MOST], other[MOST]; /* the other capture holds zeros, of which none begins a line */
 static size_t count, places = 4096, told;
 static uint32_t number;
+static int64_t tenths;
 static struct skarrowith_found found;
 static struct skarrowith_telegram telegram;
 static struct skarrowith_exchange waiting, exchange;
@@ -106,6 +108,9 @@ static uint32_t scan_all_in_file(void)
 }
 
 static uint32_t list_bundle(void) { return skarrowith_bundle_list(bytes, count, text, sizeof text, &told); }
+static uint32_t replay_for(uint8_t p) { return skarrowith_replay_error(bytes, count, p, 0, 1000, 1000, &tenths, 1); }
+static uint32_t replay_bundle(void) { return replay_for(7); }
+static uint32_t pass_bundle(void) { return replay_for(8); }
 static uint32_t none(void) { return (uint32_t)count; }
 
 static uint32_t read_by_second(void)
@@ -114,6 +119,8 @@ static uint32_t read_by_second(void)
     int refusal = second_read(characters, count, &t);
     return refusal == 0 ? (uint32_t)t.kind + 1 : 256 + (uint32_t)refusal;
 }
+
+static uint32_t replay_by_second(void) { return (uint32_t)second_replay(bytes, count, 7, 0, 1000, 1000, &tenths); }
 
 /* By the formula, without a table. */
 static uint32_t resistance_by_second(void) { return (uint32_t)second_resistance(5019, &number); }
@@ -202,8 +209,8 @@ static void put_starts(void)
         characters[count] = 0x168;
 }
 
-/* 512 rows: a read request and 000's data line in turn. */
-static void put_bundle(void)
+/* 512 rows: a read request and 000's data line in turn, at one position or at all of them. */
+static void put_rows(unsigned position)
 {
     static uint8_t lines[2][2 * SECOND_EXAMPLE];
     size_t lengths[2], at = 2 + 12 * ROWS;
@@ -213,7 +220,7 @@ static void put_bundle(void)
     memcpy(lines[1], bytes, lengths[1] = 2 * count);
     second_put_number(bytes, 2, ROWS);
     for (unsigned i = 0; i < ROWS; i++) {
-        struct second_row row = {1 + i % 48, i % 2, 1000 * i, (uint32_t)at, lengths[i % 2]};
+        struct second_row row = {position == 0 ? 1 + i % 48 : position, i % 2, 100 * i, (uint32_t)at, lengths[i % 2]};
         second_put_row(bytes + 2 + 12 * i, &row);
         memcpy(bytes + at, lines[i % 2], lengths[i % 2]);
         at += lengths[i % 2];
@@ -221,10 +228,22 @@ static void put_bundle(void)
     count = at;
 }
 
+static void put_bundle(void) { put_rows(0); }
+
 static void put_contents(void)
 {
     put_bundle();
     make_contents();
+}
+
+/* Every answer begins in time; the last one's clock stands at a second later than the others'. */
+static void put_talk(void)
+{
+    uint8_t *last;
+    put_rows(7);
+    last = bytes + count - 2 * SECOND_EXAMPLE;
+    second_put_number(last + 2 * 55, 2, second_character(0x1D));
+    second_put_number(last + 2 * 61, 2, second_character(0x03));
 }
 
 static const struct {
@@ -259,6 +278,8 @@ static const struct {
     {"contents-bundle", put_bundle, make_contents, NULL},
     {"scan-none", put_contents, scan_none, scan_none_in_file},
     {"scan-all", put_contents, scan_all, scan_all_in_file},
+    {"replay-bundle", put_talk, replay_bundle, replay_by_second},
+    {"pass-bundle", put_talk, pass_bundle, NULL},
 };
 
 /* ---- the stack: painted, lent to one call, and looked at */

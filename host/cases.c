@@ -10,6 +10,7 @@
 #include "../second/indication.h"
 #include "../second/line.h"
 #include "../second/meter.h"
+#include "../second/replay.h"
 #include "../second/resistance.h"
 #include "../second/wake.h"
 
@@ -314,4 +315,10 @@ void second_list(const uint8_t *bundle, size_t n, FILE *to, int end)
         return;
     for (size_t i = 0; i < length; i++)
         fputc(text[i] == '\n' ? end : text[i], to);
+}
+
+int second_replay(const uint8_t *bundle, size_t n, unsigned position, uint64_t s1, uint64_t s2, uint64_t elapsed,
+                  int64_t *tenths)
+{
+    return refusal_in(skarrowith_replay_error(bundle, n, (uint8_t)position, s1, s2, elapsed, tenths, 1));
 }

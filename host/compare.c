@@ -10,6 +10,7 @@
 #include "compare_exchange.h"
 #include "compare_line.h"
 #include "compare_meter.h"
+#include "compare_replay.h"
 #include "compare_resistance.h"
 
 #include "../second/chance.h"
@@ -37,7 +38,7 @@ static const struct {
     {compare_find, 5},         {compare_words, 10},     {compare_wake, 10},   {compare_gap, 10},
     {compare_either, 5},
     {compare_error, 20},       {compare_exchange, 20},  {compare_meter, 12},  {compare_bundle, 15},
-    {compare_resistance, 10},  {compare_temperature, 10},
+    {compare_resistance, 10},  {compare_temperature, 10}, {compare_replay, 20},
 };
 
 static void compare_some(void)

@@ -59,7 +59,7 @@ static void expect_words(uint32_t number, size_t places, uint32_t answer, const 
 /* Documents 01 and 02 have words for these numbers, and the library for two of its own. */
 static int has_words(uint32_t n)
 {
-    return (n >= 1 && n <= 21 && n != 15 && n != 19) || (n >= 30 && n <= 43) || (n >= 50 && n <= 52) || (n >= 60 && n <= 62) ||
+    return (n >= 1 && n <= 21 && n != 15 && n != 19) || (n >= 30 && n <= 43) || (n >= 50 && n <= 52) || (n >= 60 && n <= 65) ||
            (n >= 70 && n <= 72) || n == 90 || n == 91 || n == 100 || n == 101;
 }
 
@@ -168,6 +168,7 @@ int main(void)
     expect_words(8, 13, SKARROWITH_REFUSED + 21, "");
     expect_words(8, 0, SKARROWITH_REFUSED + 21, "");
     expect_words(72, 260, 83, "meter: set up with data the writer refuses, or energy or volume not in structure 0C");
+    expect_words(63, 260, 30, "replay: fewer than two answers");
     expect_words(90, 260, 34, "temperature over 20,000 hundredths");
     expect_words(91, 260, 44, "resistance below the first or above the last");
     expect_words(21, 260, 32, "output: fewer places than needed");

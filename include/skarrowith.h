@@ -8,19 +8,20 @@
  * Answers. Every function answers one number. Below 256 it is the answer, 0 where there is nothing to say;
  * SKARROWITH_REFUSED plus n is refusal n. On a refusal nothing that was lent has changed, and otherwise only the places
  * that are named have. Where several refusals apply, the library's own (100, 101) go first and then the lowest number,
- * but for four rules:
+ * but for five rules:
  *   - 17, an odd number of bytes, goes before 1 to 16;
  *   - 11 to 14 are tried entry by entry from the left, in each entry the lowest first, and 16 after the last entry;
  *   - a wake-up gives 52 before 21;
- *   - adding to a bundle gives all that it has against the old bundle, 30 to 37, before 34, 37 and 38 for the new row.
+ *   - adding to a bundle gives all that it has against the old bundle, 30 to 37, before 34, 37 and 38 for the new row;
+ *   - the replay gives all that it has against the bundle, 30 to 37, before 34 for the position, then 63, 64, 65, 61, 62.
  *
  * Lent memory is a pointer and the number of its places; with 0 of them the pointer may be null. Output that is too short
  * for what is to be written is refused by 21; a longer one is changed in its first places alone. A count that is answered
  * beside (rows, i, filled, written, milliohm, hundredths) is written through a pointer to it, which may not be null. Memory for
  * uint16_t, uint32_t, int64_t and size_t is aligned as C aligns these types; bytes and records may stand at any address.
  *
- * Stack, as measured. skarrowith_bundle_list takes 28,000 bytes, the simulated meter up to 4,300, every other function fewer
- * than 1,500.
+ * Stack, as measured. skarrowith_bundle_list takes 28,000 bytes, skarrowith_replay_error 5,800, the simulated meter up to
+ * 4,300, every other function fewer than 1,500.
  *
  * Lines. But for skarrowith_check_line and the bodies of a bundle, which are bytes, a line is its characters: each a
  * uint16_t with the byte received in the low eight bits and the parity bit received as bit 8. Lengths and places count
@@ -417,6 +418,26 @@ uint32_t skarrowith_bundle_add(uint8_t *buffer, size_t len, size_t *filled, uint
  * Refuses by 21 if there are fewer bytes than the text has. It takes 28,000 bytes of stack.
  */
 uint32_t skarrowith_bundle_list(const uint8_t *bundle, size_t len, uint8_t *out, size_t out_len, size_t *written);
+
+/*
+ * The real-time method (92), from the record: replays a bundle for one position and gives the error in tenths of a percent,
+ * from the first and the last answer that count, the meter's times in them, and what the standard measured meanwhile.
+ *
+ * Only rows of the position are looked at, and wake-ups of either direction are passed over. A heard row counts if the last
+ * row sent before it is an accepted read, it is the first row heard since that begins at or after the end of that send (11
+ * bit times a character), it begins at most 450 after that end, and it is data that fits the read.
+ *
+ * position: 1 to 48.
+ * s1, s2:   the standard's volumes in millilitres.
+ * elapsed:  the standard's time between them in milliseconds.
+ * tenths, places: takes the error; places is the number of int64_t lent, 1 or more.
+ *
+ * Answers 0, or refuses by 21; by 30 to 37 as the check does; then by 34 for a position outside 1 to 48, 63 if fewer than
+ * two answers count, 64 if one of the four volumes is over 10^9 ml, 65 if one of the two intervals is 0, less, or over
+ * 1,800,000 ms, 61 if the meter's volume falls, 62 if the standard's does not rise.
+ */
+uint32_t skarrowith_replay_error(const uint8_t *bundle, size_t len, uint8_t position, uint64_t s1, uint64_t s2,
+                                 uint64_t elapsed, int64_t *tenths, size_t places);
 
 #ifdef __cplusplus
 }

@@ -5,6 +5,7 @@
 #include "chance.h"
 #include "make_bundle.h"
 #include "make_line.h"
+#include "make_replay.h"
 #include "make_telegram.h"
 #include "number.h"
 
@@ -296,6 +297,14 @@ static void generate_add(void)
     print_bytes(bundle.b, bundle.n, bundle.rows);
 }
 
+static void generate_replay(void)
+{
+    struct replay r;
+    some_replay(&r);
+    printf("replay +%u +%" PRIu64 " +%" PRIu64 " +%" PRIu64, r.position, r.s1, r.s2, r.elapsed);
+    print_bytes(bundle.b, bundle.n, bundle.rows);
+}
+
 /* What is no case. */
 static void generate_bad(const char *name)
 {
@@ -322,6 +331,7 @@ int main(int argc, char **argv)
         {"list", generate_list},   {"kept", generate_kept},   {"next", generate_next},
         {"resistance", generate_resistance}, {"temperature", generate_temperature},
         {"either", generate_either},
+        {"replay", generate_replay},
     };
     if (argc != 4)
         return fprintf(stderr, "usage: generate NAME SEED COUNT\n"), 2;

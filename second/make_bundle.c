@@ -23,7 +23,12 @@ static size_t run_length(void)
     return 2 + 12 * run.rows + run.size;
 }
 
-static void add_row(unsigned position, unsigned direction, uint32_t time, const struct line *l)
+void begin_run(void)
+{
+    run.rows = run.size = 0;
+}
+
+void add_row(unsigned position, unsigned direction, uint32_t time, const struct line *l)
 {
     struct second_row row = {position, direction, time, 0, 2 * l->n};
     run.row[run.rows++] = row;
@@ -31,7 +36,7 @@ static void add_row(unsigned position, unsigned direction, uint32_t time, const 
         second_put_number(run.bodies + run.size, 2, l->c[i]);
 }
 
-static void join_run(void)
+void join_run(void)
 {
     size_t place = 2 + 12 * run.rows;
     second_put_number(bundle.b, 2, run.rows);
@@ -74,13 +79,12 @@ static unsigned some_position(void)
     return once_in(4) ? 1 + 47 * below(2) : between(1, 48);
 }
 
-static uint32_t run_time(void)
+uint32_t run_time(void)
 {
     return run.rows == 0 ? 0 : run.row[run.rows - 1].time;
 }
 
-/* A time that is not below the last row's. */
-static uint32_t later(void)
+uint32_t later_row(void)
 {
     uint32_t last = run_time(), left = UINT32_MAX - last;
     uint32_t more = once_in(3) ? 0 : once_in(20) ? (uint32_t)of_any_width() : below(5000);
@@ -93,7 +97,7 @@ static void few_rows(unsigned rows)
     struct line l = {{0}, 0};
     while (rows-- > 0) {
         unsigned position = some_position(), direction = below(2);
-        uint32_t time = later();
+        uint32_t time = later_row();
         some_body(&l);
         add_row(position, direction, time, &l);
     }
@@ -121,7 +125,7 @@ static void many_rows(size_t rows, size_t bytes)
     struct line l = {{0}, 0};
     while (run.rows < rows && run_length() + 14 <= bytes) {
         unsigned position = some_position(), direction = below(2), step = once_in(2) ? 0 : below(5000);
-        uint32_t time = later();
+        uint32_t time = later_row();
         common_body(&l);
         for (unsigned many = between(1, 200); many > 0 && run.rows < rows && run_length() + 14 <= bytes; many--) {
             size_t most = (bytes - run_length() - 12) / 2;
@@ -137,7 +141,7 @@ static void many_rows(size_t rows, size_t bytes)
 static void good_bundle(size_t bytes)
 {
     size_t rows = once_in(2) ? SECOND_ROWS : between(7, 511);
-    run.rows = run.size = 0;
+    begin_run();
     if (!once_in(12))
         few_rows(once_in(8) ? 0 : between(1, 6));
     else
@@ -157,8 +161,7 @@ static void break_field(uint8_t *row)
         row[at] ^= (uint8_t)one_bit(0, 7);
 }
 
-/* One rule broken, or none by luck. */
-static void break_bundle(void)
+void break_bundle(void)
 {
     unsigned rows = (unsigned)bundle.rows, n = (unsigned)bundle.n, at;
     switch (below(8)) {
@@ -259,7 +262,7 @@ void some_addition(struct addition *a, unsigned broken)
     if (once_in(broken))
         break_bundle();
     a->filled = bundle.n;
-    a->row.time = later();
+    a->row.time = later_row();
     if (once_in(12))
         a->row.time = once_in(2) ? run_time() - 1 : (uint32_t)chance();
     add_places(12 + n);

@@ -3,6 +3,7 @@
 #define SECOND_MAKE_BUNDLE_H
 
 #include "bundle.h"
+#include "make_frame.h"
 
 enum { BYTES_MOST = 70000, NEW_BODY_MOST = 2050 };
 
@@ -15,6 +16,16 @@ struct bundle {
 extern struct bundle bundle;
 
 void some_bundle(void);
+
+/* A bundle row by row: none yet, one more, the last one's time, a time that is not below it, and all put together. */
+void begin_run(void);
+void add_row(unsigned position, unsigned direction, uint32_t time, const struct line *l);
+uint32_t run_time(void);
+uint32_t later_row(void);
+void join_run(void);
+
+/* Breaks one rule of the bundle, or none by luck. */
+void break_bundle(void);
 
 /* A row's number, most often of one that is there. */
 uint64_t some_row(void);

@@ -1,7 +1,7 @@
 -- 01, "Error of indication": formulas A.1 and B.1 of 000. B.1 has one standard value: S1 = 0, S2 = Qa.
 use Prim.Native.Nat.{ℕ, _-_}
 use mathlib.Core.Bool.{Bool, _||_}
-use lib.Dec.{ltb, leb}
+use lib.Dec.{ltb, leb, eqb}
 use lib.IntN.{ℤ, pos, _-ℤ_, _*ℤ_}
 use Rattle.mbus_rules.specs.Answers.{Answer, reads, refusal, refuse}
 use Rattle.bench_indication.specs.Rounding.{rounded}
@@ -33,6 +33,14 @@ abbrev pub shownIndication : Answer ℤ → Indication
 shownIndication (reads e) = Error e
 shownIndication (refusal n) = Refused n
 
--- The error of one rise against another, x against y, and what it is on each side of zero. (Formula C.1 has this shape too.)
+-- The error of one rise against another, x against y. (Formula C.1, 02's 2026-04, has this shape too.)
 unfoldable pub tenths : ℕ → ℕ → ℤ
 tenths x y = rounded (pos 1000 *ℤ (pos x -ℤ pos y)) y
+
+-- 02, 2026-04: the largest of two rises as C.1 takes them, 10^9 ml times 1,800,000 ms
+abbrev pub riseMost : ℕ
+riseMost = 1800000000000000
+
+-- The error of rises of that size: 60 for a larger one, 62 where the standard's is none.
+abbrev pub riseErrorOf : ℕ → ℕ → Answer ℤ
+riseErrorOf x y = refuse 60 (ltb riseMost x || ltb riseMost y) (refuse 62 (eqb y 0) (reads (tenths x y)))

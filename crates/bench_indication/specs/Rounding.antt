@@ -2,7 +2,7 @@
 -- The core rounds naturals, halves up (02's 2026-13); the sign is put back afterwards (02's 2026-04 rounds the same way).
 use Prim.Native.Nat.{ℕ, suc, _+_, _*_, _-_, _/_, _≤_}
 use mathlib.Core.Path.{_≡_}
-use lib.IntN.{ℤ, pos, negsuc, negℤ}
+use lib.IntN.{ℤ, pos, negsuc, negℤ, natAbs, _-ℤ_, _*ℤ_}
 
 -- how far apart two naturals are
 abbrev pub apart : ℕ → ℕ → ℕ
@@ -21,3 +21,12 @@ nearest a d = (2 * a + d) / (2 * d)
 abbrev pub rounded : ℤ → ℕ → ℤ
 rounded (pos a) d = pos (nearest a d)
 rounded (negsuc a) d = negℤ (pos (nearest (suc a) d))
+
+-- how far q is from n / d, counted in dths
+abbrev pub off : ℤ → ℕ → ℤ → ℕ
+off n d q = natAbs (n -ℤ q *ℤ pos d)
+
+-- No integer is nearer to n / d than q, and an equally near one is not farther from zero.
+pub record Nearest (n : ℤ) (d : ℕ) (q : ℤ) : Type 0 where
+  pub near : (k : ℤ) → off n d q ≤ off n d k
+  pub away : (k : ℤ) → off n d q ≡ off n d k → natAbs k ≤ natAbs q

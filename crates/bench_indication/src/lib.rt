@@ -3,7 +3,9 @@ ghost use mathlib.Core.Path.{_≡_};
 ghost use Prim.Native.Nat.{_≤_, _<_, _^_};
 ghost use lib.IntN.{pos, negℤ};
 ghost use Rattle.bench_indication.specs.Rounding.{nearest};
-ghost use Rattle.bench_indication.specs.Errors.{tenths, countMost, indicationOf, shownIndication};
+ghost use Rattle.bench_indication.specs.Errors.{tenths, indicationOf, riseMost, shownIndication};
+
+pub mod rises;
 
 // An error in tenths of a percent, or refused by 60, 61 or 62.
 pub enum Indication {
@@ -11,7 +13,7 @@ pub enum Indication {
     Refused(u16),
 }
 
-// The largest count: with it, 1000 times a difference of counts stays far below the type's largest number.
+// The largest count.
 pub const COUNT_MOST: u64 = 1_000_000_000_000;
 
 // The whole number nearest to a / d, halves up.
@@ -32,7 +34,7 @@ fn minus(size: u64) -> i64
 
 // The error of the meter's rise against the standard's.
 fn tenths(meter: u64, standard: u64) -> i64
-    requires { ⌜ (meter ≤ countMost) × (0 < standard) × (standard ≤ countMost) ⌝ }
+    requires { ⌜ (meter ≤ riseMost) × (0 < standard) × (standard ≤ riseMost) ⌝ }
     ensures { λ r. ⌜ r ≡ tenths meter standard ⌝ }
 {
     if meter < standard {

@@ -3,7 +3,7 @@ ghost use mathlib.Core.Path.{_≡_};
 ghost use Prim.Native.Nat.{_+_, _≤_, min};
 ghost use lib.ListN.{length, take, drop};
 ghost use Rattle.mbus_rules.specs.Host.{chars};
-ghost use Rattle.bundle_rows.specs.Fields.{wrongField};
+ghost use Rattle.bundle_rows.specs.Fields.{wrongPosition, wrongField};
 ghost use Rattle.bundle_rows.specs.Rows.{rowOf, blankRow, uncheckedRow, bytesOfRow, bodyIn, uncheckedCharacters, Puts};
 use bytes_numbers::bytes_of;
 use bytes_numbers::number_at;
@@ -21,16 +21,19 @@ pub struct Row {
     pub length: u16,
 }
 
+// A position is outside 1 to 48.
+pub fn wrong_position(position: u8) -> bool
+    ensures { λ r. ⌜ r ≡ wrongPosition position ⌝ }
+{
+    (position < 1) | (48 < position)
+}
+
 // A position, direction or length is out of its range.
 pub fn wrong_field(position: u8, direction: u8, length: usize) -> bool
     ensures { λ r. ⌜ r ≡ wrongField position direction length ⌝ }
 {
-    (position < 1)
-        | (48 < position)
-        | (1 < direction)
-        | (length % 2 == 1)
-        | (length < 2)
-        | (1004 < length)
+    let outside = wrong_position(position);
+    outside | (1 < direction) | (length % 2 == 1) | (length < 2) | (1004 < length)
 }
 
 // The row whose twelve bytes begin at a place.

@@ -19,5 +19,6 @@ pub mod Resistance
 pub mod BothEnds
 pub mod Runs
 pub mod WrongEnds
+pub mod Replay
 pub mod Values
 pub mod Weekdays

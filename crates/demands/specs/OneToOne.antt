@@ -1,6 +1,6 @@
 -- 01, "The form to use in each place": where a program's answer is an enum, one definition gives its case for each answer of the rules. No two
 -- answers are shown alike.
-use Prim.Native.Nat.{_-_}
+use Prim.Native.Nat.{ℕ, _-_}
 use mathlib.Core.List.{List}
 use mathlib.Core.Path.{_≡_, sym, ap, _∙_}
 use lib.ListN.{length, take, replicate}
@@ -43,6 +43,9 @@ use Rattle.bundle_adding.specs.Shown.{shownAdded}
 use Rattle.bundle_adding.proofs.Laws.Shown as addings
 use Rattle.listing_text.specs.Shown.{shownListed}
 use Rattle.listing_text.proofs.Laws.Shown as listings
+use Rattle.replay_counting.specs.declared.Counted.{Counted}
+use Rattle.replay_counting.specs.Shown.{shownCounting}
+use Rattle.replay_error.specs.Shown.{shownReplay}
 
 -- Two answers that are shown alike are the same.
 abbrev pub Apart : {A B : Type 0} → (Answer A → B) → Type 0
@@ -128,3 +131,22 @@ added-apart = addings.shownAdded-same
 
 pub listed-apart : Apart shownListed
 listed-apart = listings.shownListed-same
+
+-- the replay: the rows that count, and the error, whatever their numbers are
+abbrev numbered : Counted → List ℕ
+numbered x = take (x .count) (x .rows)
+
+numbered-shown : (numbers : List ℕ) → numbered (shownCounting (reads numbers)) ≡ numbers
+numbered-shown numbers = take-append-seam numbers (replicate (512 - length numbers) 0)
+
+pub counting-apart : Apart shownCounting
+counting-apart (refusal m) (refusal n) e = let o : Refused m ≡ Refused n = ap (λ (x : Counted). x .outcome) e in cc
+counting-apart (refusal m) (reads l) e = let o : Refused m ≡ Accepted = ap (λ (x : Counted). x .outcome) e in cc
+counting-apart (reads l) (refusal n) e = let o : Accepted ≡ Refused n = ap (λ (x : Counted). x .outcome) e in cc
+counting-apart (reads l) (reads m) e = ap reads (sym (numbered-shown l) ∙ ap numbered e ∙ numbered-shown m)
+
+pub replay-apart : (numbers : List ℕ) → Apart (shownReplay numbers)
+replay-apart numbers (refusal m) (refusal n) e = cc
+replay-apart numbers (refusal m) (reads x) e = cc
+replay-apart numbers (reads x) (refusal n) e = cc
+replay-apart numbers (reads x) (reads y) e = cc

@@ -47,16 +47,20 @@ use Rattle.meter_steps.specs.declared.Meter.{Meter}
 use Rattle.meter_steps.specs.declared.Core.{Core}
 use Rattle.meter_steps.specs.Meters.{setUp, inForce, measured, returned, heardAt, measuredAt}
 use Rattle.bundle_rows.specs.declared.Row.{Row}
+use Rattle.bundle_rows.specs.Fields.{wrongPosition}
 use Rattle.bundle_rows.specs.Rows.{firstOffset, mostRows, rowsOf}
 use Rattle.bundle_check.specs.RowRules.{wrongRow, wrongRows, wrongPlaces, bodiesEnd}
 use Rattle.bundle_check.specs.Bundles.{mostBytes, countOf, contentsOf, checkRows, checkOf}
-use Rattle.bundle_check.specs.Records.{Recorded, rowFor}
+use Rattle.bundle_check.specs.Records.{Recorded, recordsOf, rowFor}
 use Rattle.bundle_check.specs.Handing.{placeOf, rowAt, bodyAt}
 use Rattle.bundle_columns.specs.Record.{columnsSize, columnsIn, columnsFrom}
 use Rattle.bundle_columns.specs.Lookups.{isPosition, inFront, firstFrom, rowKept, bodyKept, nextKept}
 use Rattle.bundle_columns.specs.Shown.{columnsInto, contentsInto}
 use Rattle.bundle_adding.specs.Adding.{lastTime, grown, noRoom, addOf}
 use Rattle.listing_text.specs.Shown.{listedIn}
+use Rattle.replay_counting.specs.Counting.{answersOf, countingOf}
+use Rattle.replay_calendar.specs.Days.{interval}
+use Rattle.replay_error.specs.Errors.{volumeOver, wrongInterval, errorByC1, errorOfFigures, rowTells, lastOf, errorFrom, replayOf}
 use Rattle.host_words.specs.Refusals as words
 use Rattle.host_words.specs.Refusals.{wordsIn, textOf}
 use Rattle.host_words.specs.Words.{text}
@@ -69,6 +73,7 @@ use Rattle.host_lines.specs.Calls.{readFor, writeFor, requestFor}
 use Rattle.host_search.specs.Finding.{findFor}
 use Rattle.host_either.specs.Finding.{eitherFor}
 use Rattle.host_bench.specs.Calls.{errorFor}
+use Rattle.host_replay.specs.Calls.{replayFor}
 use Rattle.host_exchange.specs.Calls as exchanges
 use Rattle.host_exchange.specs.Calls.{sendEndedFor, tickFor}
 use Rattle.host_meter.specs.Calls as meters
@@ -384,6 +389,38 @@ adding-by buffer filled k =
     (refuse-by ns 38 (noRoom buffer n (grown filled k)) _ refl
     (reads-by ns _)))))
 
+-- The rows that count: 30 to 37, and 34 for the position.
+pub counting-by : (b : List ℕ) (position : ℕ) → By bundleNumbers (countingOf b position)
+unfolding any countingOf
+counting-by b position = follow-by _ (checkOf b) _ (bundle-by b) (λ n. refuse-by _ 34 (wrongPosition position) _ refl (reads-by _ _))
+
+-- The replay: 63 to 65, 61 and 62 besides.
+abbrev pub replayNumbers : List ℕ
+replayNumbers = 63 ∷ 64 ∷ 65 ∷ 61 ∷ 62 ∷ bundleNumbers
+
+figures-by : (v1 v2 s1 s2 elapsed meter : ℕ) → By replayNumbers (errorOfFigures v1 v2 s1 s2 elapsed meter)
+unfolding any errorOfFigures
+figures-by v1 v2 s1 s2 elapsed meter =
+    refuse-by replayNumbers 64 (volumeOver v1 v2 s1 s2) _ refl
+    (refuse-by replayNumbers 65 (wrongInterval elapsed || wrongInterval meter) _ refl
+    (refuse-by replayNumbers 61 (ltb v2 v1) _ refl
+    (refuse-by replayNumbers 62 (leb s2 s1) _ refl
+    (reads-by replayNumbers (errorByC1 v1 v2 s1 s2 elapsed meter)))))
+
+answers-by : (ks : List Recorded) (s1 s2 elapsed : ℕ) → By replayNumbers (errorFrom ks s1 s2 elapsed)
+unfolding any
+answers-by [] s1 s2 elapsed = refusal-by ℤ replayNumbers 63 refl
+answers-by (only ∷ []) s1 s2 elapsed = refusal-by ℤ replayNumbers 63 refl
+answers-by (first ∷ (second ∷ later)) s1 s2 elapsed =
+    figures-by (rowTells first .volume) (rowTells (lastOf second later) .volume) s1 s2 elapsed
+    (interval (rowTells first .time) (rowTells (lastOf second later) .time))
+
+pub replay-by : (b : List ℕ) (position s1 s2 elapsed : ℕ) → By replayNumbers (replayOf b position s1 s2 elapsed)
+unfolding any replayOf
+replay-by b position s1 s2 elapsed =
+    follow-by _ (checkOf b) _ (more bundleNumbers replayNumbers _ refl (bundle-by b))
+    (λ n. refuse-by replayNumbers 34 (wrongPosition position) _ refl (answers-by (answersOf position (recordsOf b)) s1 s2 elapsed))
+
 -- Listing answers for every bundle; a refused one has its number in the text.
 pub listing-by : (text out : List ℕ) → By (21 ∷ []) (listedIn text out)
 unfolding any
@@ -464,6 +501,11 @@ request-for-by kind address method out = writing-by (bare (kindIn kind) address 
 pub error-for-by : (m1 m2 s1 s2 : ℕ) (out : List ℤ) → By (21 ∷ 60 ∷ 61 ∷ 62 ∷ []) (errorFor m1 m2 s1 s2 out)
 unfolding any
 error-for-by m1 m2 s1 s2 out = needs-by _ 1 out (indicationOf m1 m2 s1 s2) refl (more (60 ∷ 61 ∷ 62 ∷ []) _ _ refl (error-by m1 m2 s1 s2))
+
+pub replay-for-by : (b : List ℕ) (position s1 s2 elapsed : ℕ) (out : List ℤ) → By (21 ∷ replayNumbers) (replayFor b position s1 s2 elapsed out)
+unfolding any
+replay-for-by b position s1 s2 elapsed out =
+    needs-by _ 1 out (replayOf b position s1 s2 elapsed) refl (more replayNumbers _ _ refl (replay-by b position s1 s2 elapsed))
 
 -- the steps of an exchange that is kept in a record, or of none
 module _ (b : List ℕ) (t : ℕ) where

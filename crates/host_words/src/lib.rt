@@ -143,7 +143,10 @@ fn say_of_steps(out: &mut [u8], number: u32) -> u32
         a count over 10^12\n\
         meter count falls\n\
         standard's count does not rise\n\
-        \n\n\n\n\n\n\n\
+        replay: fewer than two answers\n\
+        replay: any of the four volumes over 10^9 ml\n\
+        replay: either interval not above 0 or over 1,800,000 ms\n\
+        \n\n\n\n\
         meter: time goes back\n\
         meter: a total would pass 99,999,999\n\
         meter: set up with data the writer refuses, or energy or volume not in structure 0C\n\

@@ -9,8 +9,8 @@ use borrow.Author.Tests.{ltb-false}
 use lib.IntN.{ℤ, pos, negℤ, _-ℤ_, _*ℤ_}
 use Rattle.mbus_rules.specs.Answers.{Answer, reads, refusal}
 use Rattle.bench_indication.proofs.Laws.Integers.{difference, difference-neg, times-neg}
-use Rattle.bench_indication.specs.Rounding.{nearest}
-use Rattle.bench_indication.proofs.Laws.Rounding.{Nearest, rounded-neg, rounded-nearest}
+use Rattle.bench_indication.specs.Rounding.{nearest, Nearest}
+use Rattle.bench_indication.proofs.Laws.Rounding.{rounded-neg, rounded-nearest}
 use Rattle.bench_indication.specs.Errors.{countMost, errorOf, countOver, indicationOf, shownIndication, tenths}
 
 -- 01, value 12: rises 10005, 9995, 10004 and 0 against 10000
@@ -36,6 +36,11 @@ error-nearest m1 m2 s1 s2 h = rounded-nearest (pos 1000 *ℤ ((pos m2 -ℤ pos m
 pub error-rises : (m1 m2 s1 s2 : ℕ) → m1 ≤ m2 → s1 ≤ s2 → errorOf m1 m2 s1 s2 ≡ tenths (m2 - m1) (s2 - s1)
 unfolding errorOf tenths
 error-rises m1 m2 s1 s2 h k = rw (difference m2 m1 h, difference s2 s1 k)
+
+-- The same of one rise against another.
+pub tenths-nearest : (x y : ℕ) → 0 < y → Nearest (pos 1000 *ℤ (pos x -ℤ pos y)) y (tenths x y)
+unfolding tenths
+tenths-nearest x y h = rounded-nearest (pos 1000 *ℤ (pos x -ℤ pos y)) y h
 
 pub tenths-more : (x y : ℕ) → y ≤ x → tenths x y ≡ pos (nearest (1000 * (x - y)) y)
 unfolding tenths

@@ -7,16 +7,7 @@ use native.Mathlib.Decide.{decLt}
 use native.Mathlib.Omega.{arith}
 use lib.IntN.{ℤ, pos, negsuc, negℤ, natAbs, _+ℤ_, _-ℤ_, _*ℤ_, negℤ-negℤ, negℤ-+ℤ}
 use Rattle.bench_indication.proofs.Laws.Integers.{natAbs-neg, natAbs-difference, neg-times}
-use Rattle.bench_indication.specs.Rounding.{apart, NearestUp, nearest, rounded}
-
--- how far q is from n / d, counted in dths
-abbrev pub off : ℤ → ℕ → ℤ → ℕ
-off n d q = natAbs (n -ℤ q *ℤ pos d)
-
--- No integer is nearer to n / d than q, and an equally near one is not farther from zero.
-pub record Nearest (n : ℤ) (d : ℕ) (q : ℤ) : Type 0 where
-  pub near : (k : ℤ) → off n d q ≤ off n d k
-  pub away : (k : ℤ) → off n d q ≡ off n d k → natAbs k ≤ natAbs q
+use Rattle.bench_indication.specs.Rounding.{apart, NearestUp, nearest, rounded, off, Nearest}
 
 -- Laws of the core: it has its property, nothing else has it, and it is at most a.
 multiple-below : (k q d : ℕ) → k < q → k * d + d ≤ q * d

@@ -1,0 +1,64 @@
+-- `replay_counting::ear::turn_at` meets its contract: the body of the row is that stretch of the bundle. Assumes nothing.
+use Prim.Native.Nat.{ℕ, _+_, _≤_}
+use mathlib.Core.List.{List}
+use mathlib.Core.Path.{ap, _∙_}
+use native.Mathlib.Omega.{arith}
+use lib.ListN.{length}
+use Rattle.bundle_rows.specs.declared.Row.{Row}
+use Rattle.bundle_rows.specs.Rows.{bodyIn}
+use Rattle.bundle_rows.proofs.Laws.CharacterLaws.{body-whole}
+use Rattle.replay_counting.specs.Ears.{rowWith, passedBy}
+use borrow.Author.Needs.{needs}
+use Rattle.replay_counting.proofs.ear.turn_at.Statement.{statement}
+use Rattle.replay_counting.proofs.ear.turn_at.Tie as tie
+
+unchecked-row-requires : tie.Need-unchecked-row-requires
+unchecked-row-requires c κs = search needs
+
+cast-at : tie.Need-cast-at
+cast-at c = search needs
+
+cast-end : tie.Need-cast-end
+cast-end c = search needs
+
+add-end : tie.Need-add-end
+add-end c = search needs
+
+sub-passed-by : tie.Need-sub-passed-by
+sub-passed-by c = search needs
+
+part-passed-by-start : tie.Need-part-passed-by-start
+part-passed-by-start c = search needs
+
+part-passed-by-end : tie.Need-part-passed-by-end
+part-passed-by-end c =
+    let back2 = c .before .before in
+    let r = back2 .unchecked-row .result in
+    let h : r .offset + r .length ≤ length (back2 .before .before .args .bundle .now) = rw (back2 .unchecked-row .ensures) (back2 .before .before .pre) in
+    omega arith
+
+passed-by-requires : tie.Need-passed-by-requires
+passed-by-requires c κs = search needs
+
+returns : tie.Need-returns
+returns c =
+    let back4 = c .before .before .before .before in
+    let a = back4 .before .before .args in
+    let r = back4 .unchecked-row .result in
+    c .passed-by .ensures
+    ∙ ap (λ (l : List ℕ). passedBy (a .position) (a .ear) (rowWith r l)) (body-whole (a .bundle .now) r)
+    ∙ ap (λ (q : Row). passedBy (a .position) (a .ear) (rowWith q (bodyIn (a .bundle .now) q))) (back4 .unchecked-row .ensures)
+
+pub turn-at-spec : {M : Type 1} → statement M
+turn-at-spec =
+    tie.close
+    (tie.spec
+    unchecked-row-requires
+    cast-at
+    cast-end
+    add-end
+    sub-passed-by
+    part-passed-by-start
+    part-passed-by-end
+    passed-by-requires
+    returns)

@@ -1,0 +1,19 @@
+-- `replay_error::figures::moment_in` meets its contract. Assumes nothing.
+use borrow.Author.Needs.{needs}
+use Rattle.replay_error.proofs.figures.moment_in.Statement.{statement}
+use Rattle.replay_error.proofs.figures.moment_in.Tie as tie
+
+enum-told : tie.Need-enum-told
+enum-told c = search needs
+
+enum-known-value : tie.Need-enum-known-value
+enum-known-value c = search needs
+
+returns : tie.Need-returns
+returns c = rw (c .enum-told .given .1)
+
+returns-2 : tie.Need-returns-2
+returns-2 c = search needs
+
+pub moment-in-spec : {M : Type 1} → statement M
+moment-in-spec = tie.close (tie.spec enum-told enum-known-value returns returns-2)

@@ -1,0 +1,49 @@
+-- `replay_error::figures::volume_of` meets its contract. Assumes nothing.
+use native.Mathlib.Omega.{arith}
+use Rattle.replay_error.proofs.Laws.Telling.{unit-above, volume-over, volume-small, volume-told}
+use borrow.Author.Needs.{needs}
+use Rattle.replay_error.proofs.figures.volume_of.Statement.{statement}
+use Rattle.replay_error.proofs.figures.volume_of.Tie as tie
+
+volume-count-requires : tie.Need-volume-count-requires
+volume-count-requires c κs = search needs
+
+ten-to-requires : tie.Need-ten-to-requires
+ten-to-requires c κs = search needs
+
+div-if1 : tie.Need-div-if1
+div-if1 c =
+    let back3 = c .before .before .before in
+    omega (arith, unit-above (back3 .args .e) (c .before .before .volume-count .ensures) (c .ten-to .ensures))
+
+add-result : tie.Need-add-result
+add-result c = search needs
+
+returns : tie.Need-returns
+returns c =
+    let back3 = c .before .before .before in
+    volume-over (back3 .before .args .e) (back3 .volume-count .ensures) (c .before .ten-to .ensures) (c .if1 .taken)
+
+mul-result : tie.Need-mul-result
+mul-result c =
+    omega (
+      arith,
+      volume-small (c .before .before .before .before .args .e) (c .before .before .before .volume-count .ensures) (c .before .ten-to .ensures) (c .if1 .left),
+    )
+
+returns-2 : tie.Need-returns-2
+returns-2 c =
+    let back3 = c .before .before .before in
+    volume-told (back3 .before .args .e) (back3 .volume-count .ensures) (c .before .ten-to .ensures) (c .if1 .left)
+
+pub volume-of-spec : {M : Type 1} → statement M
+volume-of-spec =
+    tie.close
+    (tie.spec
+    volume-count-requires
+    ten-to-requires
+    div-if1
+    add-result
+    returns
+    mul-result
+    returns-2)

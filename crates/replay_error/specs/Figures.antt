@@ -1,0 +1,47 @@
+-- 02, 2026-04: volumes are taken in millilitres, of which every unit byte gives a whole number; the meter's times.
+use Prim.Native.Nat.{ℕ, _*_, _%_, _^_}
+use mathlib.Core.Bool.{cond}
+use mathlib.Core.List.{List, [], _∷_}
+use lib.Dec.{eqb}
+use Rattle.mbus_rules.specs.declared.Entry.{Entry}
+use Rattle.mbus_rules.specs.declared.Moment.{Moment}
+use Rattle.mbus_rules.specs.declared.Telegram.{Telegram}
+use Rattle.mbus_rules.specs.declared.Value.{Value}
+use Rattle.mbus_rules.specs.declared.Value.the-variants.{Number, Time}
+use Rattle.mbus_rules.specs.Lines.{readLine}
+use Rattle.mbus_rules.specs.Quantities.{quantityOf, volume, time}
+use Rattle.mbus_rules.specs.Telegrams.{blankEntry, shown}
+
+-- A volume's value is a count of its last digit; a point in time is none.
+abbrev pub volumeCount : Value → ℕ
+volumeCount (Number d) = d .count
+volumeCount (Time m) = 0
+
+-- The volume in millilitres of an entry: the unit bytes 10 to 17 are 10^(n−6) m³, which are 10^n ml, n being the low three bits.
+unfoldable pub millilitres : Entry → ℕ
+millilitres e = volumeCount (e .value) * 10 ^ (e .unit % 8)
+
+-- the meter time of a value; a number is none
+abbrev pub noMoment : Moment
+noMoment = record { year = 0; month = 0; day = 0; hour = 0; minute = 0; second = 0; weekday = 0 }
+
+abbrev pub momentIn : Value → Moment
+momentIn (Number d) = noMoment
+momentIn (Time m) = m
+
+-- the entry that has the quantity; each comes at most once
+unfoldable pub entryWith : ℕ → List Entry → Entry
+entryWith q [] = blankEntry
+entryWith q (e ∷ es) = cond (eqb (quantityOf (e .unit)) q) e (entryWith q es)
+
+-- What an answer tells: its volume and its time. An accepted data line has both (16).
+pub record Told : Type 0 where
+  pub volume : ℕ
+  pub time : Moment
+
+abbrev pub toldBy : Telegram → Told
+toldBy t = record { volume = millilitres (entryWith volume (t .entries)); time = momentIn (entryWith time (t .entries) .value) }
+
+-- what the line of an answer tells
+abbrev pub lineTells : List ℕ → Told
+lineTells line = toldBy (shown (readLine line) .telegram)
