@@ -138,7 +138,8 @@ int main(void)
             {.structure = 0x0C, .unit = 0x11, .value.count = 12345678},
             {.structure = 0x0B, .unit = 0x59, .value.count = 7812},
             {.structure = 0x0B, .unit = 0x5D, .value.count = 6534},
-            {.structure = 0x06, .unit = 0x6D, .sort = SKARROWITH_TIME, .value.time = {.year = 18, .month = 7, .day = 23, .hour = 15, .minute = 51, .second = 28}},
+            {.structure = 0x06, .unit = 0x6D, .sort = SKARROWITH_TIME,
+                .value.time = {.year = 18, .month = 7, .day = 23, .hour = 15, .minute = 51, .second = 28}},
         },
     };
     struct skarrowith_telegram ack, first, second;
