@@ -1,4 +1,4 @@
--- The front page: what follows from the definitions. The three demands on Skarrowith, 01's thirteen values, and how much each promise says.
+-- The front page: what follows from the definitions. The three demands on Skarrowith, 01's thirteen values, how much each promise says, and what 02 adds.
 pub mod Lines
 pub mod Writer
 pub mod Search
