@@ -3,3 +3,6 @@ pub mod Parts
 pub mod Leading
 pub mod Trying
 pub mod NewBundle
+pub mod Answers
+pub mod Shown
+pub mod Proper
