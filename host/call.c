@@ -42,6 +42,7 @@ static const struct {
     [CONTENTS_OF] = {"skarrowith_contents_of", "0", "21 30 31 32 33 34 35 36 37"},
     [CONTENTS_ROW] = {"skarrowith_contents_row", "0", "21 39 101"},
     [CONTENTS_NEXT] = {"skarrowith_contents_next", "0", "39 101"},
+    [BUNDLE_SALVAGE] = {"skarrowith_bundle_salvage", "0", "21 30 31 32 33 38"},
 };
 
 static unsigned long seen[FUNCTIONS][ANSWERS], cases;

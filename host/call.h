@@ -31,6 +31,7 @@ enum function {
     CONTENTS_OF,
     CONTENTS_ROW,
     CONTENTS_NEXT,
+    BUNDLE_SALVAGE,
     FUNCTIONS
 };
 

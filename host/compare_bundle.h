@@ -1,4 +1,4 @@
-/* Run bundles, whole and damaged, their rows, columns, adding and listing: the archive against the second program. */
+/* Run bundles, whole and damaged, their rows, columns, salvage, adding and listing: the archive against the second program. */
 #ifndef COMPARE_BUNDLE_H
 #define COMPARE_BUNDLE_H
 
