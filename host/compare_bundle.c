@@ -143,11 +143,10 @@ static void contents_next(void)
     end(skarrowith_contents_next(in->to, n, (uint8_t)position, (size_t)tell("from", from), i->to), answer_for(refusal));
 }
 
-/* A bundle of its own making is salvaged. */
-static void salvage(void)
+/* What is in the bundle is salvaged into so many places. */
+static void salvage_into(size_t places, size_t size)
 {
     struct second_salvaged s = {0, 0, 0, 0};
-    size_t places = some_salvage(), size = some_places(sizeof(struct skarrowith_salvaged));
     int refusal = 21;
     begin(BUNDLE_SALVAGE);
     struct lent *damaged = lend("damaged", bundle.n, bundle.b, bundle.n), *out = lend("out", places, NULL, 0);
@@ -159,6 +158,24 @@ static void salvage(void)
         memcpy(told->second, &r, sizeof r);
     }
     end(skarrowith_bundle_salvage(damaged->to, bundle.n, out->to, places, told->to, size), answer_for(refusal));
+}
+
+static void salvage(void)
+{
+    size_t places = some_salvage();
+    salvage_into(places, some_places(sizeof(struct skarrowith_salvaged)));
+}
+
+void compare_all_cuts(void)
+{
+    FILE *file = fopen("../examples/night-shift.bundle", "rb");
+    size_t whole;
+    if (file == NULL)
+        abort();
+    whole = fread(bundle.b, 1, sizeof bundle.b, file);
+    fclose(file);
+    for (bundle.n = 0; bundle.n <= whole; bundle.n++)
+        salvage_into(whole, sizeof(struct skarrowith_salvaged));
 }
 
 /* A row is added to a bundle of its own making. */

@@ -2,6 +2,9 @@
 #ifndef COMPARE_BUNDLE_H
 #define COMPARE_BUNDLE_H
 
+/* The example bundle salvaged, cut at every length. */
+void compare_all_cuts(void);
+
 void compare_bundle(void);
 
 #endif

@@ -1,6 +1,6 @@
 -- What salvaging answers, and what it leaves in the second buffer.
 use Prim.Native.Nat.{ℕ}
-use mathlib.Core.List.{List}
+use mathlib.Core.List.{List, []}
 use mathlib.Core.Path.{_≡_}
 use Rattle.mbus_rules.specs.Answers.{Answer, reads, refusal}
 use Rattle.bytes_lent.specs.Lent.{stored}

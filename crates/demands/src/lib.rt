@@ -1,1 +1,1 @@
-// The front page: the three demands, the thirteen values and the resistance box, as theorems in specs/. There is no code here.
+// The front page: the three demands, the thirteen values, the resistance box, contents in columns and salvage, as theorems in specs/. There is no code here.

@@ -15,7 +15,12 @@ pub extern "C" fn skarrowith_bundle_salvage(damaged: &[u8], out: &mut [u8], told
     }
     match salvage(damaged, out) {
         SalvageTold::Told(s) => {
-            let words = [s.kept as u64, s.dropped as u64, s.rule as u64, s.filled as u64];
+            let words = [
+                s.kept as u64,
+                s.dropped as u64,
+                s.rule as u64,
+                s.filled as u64,
+            ];
             put_record(told, b"", &words, b"");
             0
         },

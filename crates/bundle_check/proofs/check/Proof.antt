@@ -17,7 +17,8 @@ counted : (c : tie.After-known-told) → opened (now (c .before .before .before 
     (reads (countOf (now (c .before .before .before .before .before .args .bundle)))) ≡ reads (c .before .count .given .0 .0)
 counted c =
     let b = now (c .before .before .before .before .before .args .bundle) in
-    shownChecked-same (opened b (reads (countOf b))) (reads (c .before .count .given .0 .0)) (sym (c .before .before .before .opened .ensures) ∙ c .before .count .given .1)
+    shownChecked-same (opened b (reads (countOf b))) (reads (c .before .count .given .0 .0)) (sym (c .before .before .before .opened .ensures)
+    ∙ c .before .count .given .1)
 
 opened-requires : tie.Need-opened-requires
 opened-requires c κs = search needs
@@ -50,6 +51,7 @@ returns-2 c =
     let k = c .before .number .given .0 .0 in
     ap shownChecked (sym (opened-refused b (checkRows (countOf b) b) k
     (shownChecked-same (opened b (reads (countOf b))) (refusal k) (sym (c .before .before .before .opened .ensures) ∙ c .before .number .given .1))))
+
 pub check-spec : {M : Type 1} → statement M
 check-spec =
     tie.close

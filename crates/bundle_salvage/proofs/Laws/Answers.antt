@@ -61,7 +61,8 @@ module _ (b : List ℕ) (n : ℕ) (e : opened b (reads (countOf b)) ≡ reads n)
       part = kept-few;
       places =
           ap (wrongPlaces (length b) (firstOffset n)) (sym kept-rows)
-          ∙ rw f (keep-places b 0 (firstOffset n) (take (leadingRows n b .kept) (rowsOf n (drop 2 b))) (leading-keep b 0 (firstOffset n) (rowsOf n (drop 2 b))));
+          ∙ rw f (keep-places b 0 (firstOffset n) (take (leadingRows n b .kept) (rowsOf n (drop 2 b))) (leading-keep b 0 (firstOffset n) (rowsOf n
+          (drop 2 b))));
     }
 
     pub end-is : l .end ≡ bodiesEnd (firstOffset n) (rowsOf (l .kept) (drop 2 b))

@@ -165,13 +165,12 @@ module _ (b : List ℕ) where
       let parts : (any over (chars own) || any over (chars rest)) ≡ false =
       sym (any-append over (chars own) (chars rest)) ∙ ap (any over) (sym (characters-append own rest even))
       ∙ ap (λ (l : List ℕ). any over (chars l)) (take-append-drop (r .length) (drop place b)) ∙ c in
-      let wide = neither (any over (chars own)) (any over (chars rest)) parts in
-      (
+      let wide = neither (any over (chars own)) (any over (chars rest)) parts in (
         rule-none b before place r (record {
           field = ff .0;
           placed = ww .0;
           range = ap (λ (k : ℕ). any over (chars (take (r .length) (drop k b)))) (q .0) ∙ wide .0;
         }),
         keep-all (r .time) (nextOffset place r) rows (ff .1) (ww .1)
-        (ap (λ (l : List ℕ). any over (chars l)) (sym (drop-drop (r .length) place b)) ∙ wide .1),
+            (ap (λ (l : List ℕ). any over (chars l)) (sym (drop-drop (r .length) place b)) ∙ wide .1),
       )

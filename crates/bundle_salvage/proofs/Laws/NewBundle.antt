@@ -63,7 +63,8 @@ module _ (b : List ℕ) (kept n : ℕ) (p : InPlace b kept n) where
     lowered-next h {r} e f k =
         let there : lowered (n - kept) r ≡ getD (loweredRows kept (n - kept) b) i (lowered (n - kept) blankRow) =
         ap (lowered (n - kept)) (e ∙ row-here b kept n i (p .whole) (p .part) h) ∙ sym (List·getD-map (lowered (n - kept)) rows i blankRow) in
-        pieced-next g (omega (arith, length-map rows (lowered (n - kept)), length-rows kept (drop 2 b))) (lowered (n - kept) blankRow) (f ∙ ap bytesOfRow there) k
+        pieced-next g (omega (arith, length-map rows (lowered (n - kept)), length-rows kept (drop 2 b))) (lowered (n - kept) blankRow) (f
+        ∙ ap bytesOfRow there) k
 
     pub lowered-all : kept ≤ i → now ≡ laid d 2 (bytesOfRows (loweredRows kept (n - kept) b))
     lowered-all h =
@@ -94,7 +95,8 @@ module _ (b : List ℕ) (kept n : ℕ) (p : InPlace b kept n) where
     pub new-is : bundleOf (take kept (recordsOf b)) ≡ bytesOf 2 kept ++ (bytesOfRows (loweredRows kept (n - kept) b) ++ take (end - firstOffset n) bodies)
     new-is =
         ap bundleOf records-kept
-        ∙ ap (λ (k : ℕ). bytesOf 2 k ++ (bytesOfRows (rowsFor (firstOffset k) (recordsIn rows bodies)) ++ bodiesFor (recordsIn rows bodies))) length-records-kept
+        ∙ ap (λ (k : ℕ). bytesOf 2 k ++ (bytesOfRows (rowsFor (firstOffset k) (recordsIn rows bodies)) ++ bodiesFor
+        (recordsIn rows bodies))) length-records-kept
         ∙ ap₂ (λ (l : List Row) (s : List ℕ). bytesOf 2 kept ++ (bytesOfRows l ++ s)) rows-kept bodies-kept
 
     pub length-new : length (bundleOf (take kept (recordsOf b))) ≡ newLength kept n end
@@ -126,6 +128,7 @@ module _ (b : List ℕ) (kept n : ℕ) (p : InPlace b kept n) where
         let last : z ≡ laid y (firstOffset kept) (take (end - firstOffset n) bodies) =
         ez ∙ ap (λ (k : ℕ). copied y (firstOffset kept) (take (k - firstOffset n) bodies)) t
         ∙ copied-fits y (firstOffset kept) (take (end - firstOffset n) bodies) (omega arith) in
-        laid-three d 0 2 (firstOffset kept) (bytesOf 2 kept) (bytesOfRows (loweredRows kept (n - kept) b)) (take (end - firstOffset n) bodies) zero-le (omega arith)
+        laid-three d 0 2 (firstOffset kept) (bytesOf 2 kept) (bytesOfRows (loweredRows kept (n - kept) b)) (take (end - firstOffset n) bodies) zero-le
+        (omega arith)
         (omega arith) first ey last
         ∙ ap (laid d 0) (sym new-is)

@@ -69,7 +69,9 @@ module _ {b : List ℕ} {n : ℕ} where
             whole = g .whole;
             inside = omega arith;
             near = place-right (length b) at r (rule-right b before at r zero .placed) .1;
-            so = g .so ∙ ap (raised i) step ∙ moved ∙ ap (λ (k : ℕ). raised (i + 1) (leading b (r .time) (nextOffset at r) (drop k (rowsOf n (drop 2 b))))) (sym (add-one i));
+            so =
+                g .so ∙ ap (raised i) step ∙ moved ∙ ap (λ (k : ℕ). raised (i + 1) (leading b (r .time) (nextOffset at r) (drop k (rowsOf n (drop 2 b)))))
+                (sym (add-one i));
           }
 
       pub trying-broken : not (eqb rule 0) ≡ true → record { kept = i; rule = rule; end = at } ≡ leadingRows n b

@@ -10,5 +10,6 @@ returns-2 c = rw (c .before .if1 .left, c .if2 .taken)
 
 returns-3 : tie.Need-returns-3
 returns-3 c = rw (c .before .if1 .left, c .if2 .left)
+
 pub rule-told-spec : {M : Type 1} → statement M
 rule-told-spec = tie.close (tie.spec returns returns-2 returns-3)

@@ -37,6 +37,7 @@ returns-2 c =
     let k = c .before .number .given .0 .0 in
     salvage-refused b (now (a .out)) k
     (shownChecked-same (opened b (reads (countOf b))) (refusal k) (sym (c .before .before .before .opened .ensures) ∙ c .before .number .given .1))
+
 pub salvage-spec : {M : Type 1} → statement M
 salvage-spec =
     tie.close

@@ -82,17 +82,20 @@ rule-told-requires : tie.Need-rule-told-requires
 rule-told-requires c κs = search needs
 
 sub-dropped : tie.Need-sub-dropped
-sub-dropped c = let back = c .before .before .before .before .before in kept-few (now (back .args .damaged)) (back .args .count) (back .pre) (c .before .before .leading-rows .ensures)
+sub-dropped c =
+    let back = c .before .before .before .before .before in kept-few (now (back .args .damaged)) (back .args .count) (back .pre)
+    (c .before .before .leading-rows .ensures)
 
 write-requires : tie.Need-write-requires
 write-requires c κs =
     let back = c .before .before .before .before .before .before in
     let b = now (back .args .damaged) in
-    let f = c .before .before .before .leading-rows .ensures in
-    (kept-in-place b (back .args .count) (back .pre) f,
-    count-is b (back .args .count) (back .pre),
-    end-is b (back .args .count) (back .pre) f,
-    ltb-false _ _ (c .before .before .if1 .left))
+    let f = c .before .before .before .leading-rows .ensures in (
+      kept-in-place b (back .args .count) (back .pre) f,
+      count-is b (back .args .count) (back .pre),
+      end-is b (back .args .count) (back .pre) f,
+      ltb-false _ _ (c .before .before .if1 .left),
+    )
 
 same-length : tie.Need-same-length
 same-length c = search needs
@@ -101,8 +104,10 @@ returns-2 : tie.Need-returns-2
 returns-2 c =
     let back6 = c .before .before .before .before .before .before in
     let back = back6 .before .before .before in
-    salvage-done (now (back .args .damaged)) (back .args .count) (back .pre) (back6 .leading-rows .ensures) (now (back .args .out)) (c .before .before .before .before .before .if1 .left)
+    salvage-done (now (back .args .damaged)) (back .args .count) (back .pre) (back6 .leading-rows .ensures) (now (back .args .out))
+    (c .before .before .before .before .before .if1 .left)
     (c .before .before .before .before .rule-told .ensures) (c .before .before .write .ensures)
+
 pub salvage-rows-spec : {M : Type 1} → statement M
 salvage-rows-spec =
     tie.close

@@ -36,7 +36,9 @@ cast-at : tie.Need-cast-at Inv-loop μ-loop
 cast-at c = search needs
 
 add-at-2 : tie.Need-add-at-2 Inv-loop μ-loop
-add-at-2 c = omega (arith, c .struct-known .given, c .before .before .before .before .before .loop .inv .near, c .before .before .before .before .before .loop .inv .whole .fits)
+add-at-2 c =
+    let g = c .before .before .before .before .before .loop .inv in
+    omega (arith, c .struct-known .given, g .near, g .whole .fits)
 
 add-i : tie.Need-add-i Inv-loop μ-loop
 add-i c = search needs
@@ -52,6 +54,7 @@ loop-again c =
 
 returns-2 : tie.Need-returns-2 Inv-loop μ-loop
 returns-2 c = trying-all (c .before .loop .inv) (c .loop-test .left)
+
 pub leading-rows-spec : {M : Type 1} → statement M
 leading-rows-spec =
     tie.close

@@ -98,6 +98,7 @@ returns-5 c =
     let a = back5 .before .before .before .before .before .before .args in
     sym (rule-none (now (a .damaged)) (a .before) (a .at) (a .row)
     (record { field = field-is (back5 .before .before) ∙ back5 .if1 .left; placed = placed (c .before); range = sym (stretch (c .before)) ∙ c .if4 .left }))
+
 pub rule-of-spec : {M : Type 1} → statement M
 rule-of-spec =
     tie.close

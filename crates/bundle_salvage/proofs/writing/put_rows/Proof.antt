@@ -40,7 +40,8 @@ sub-offset c =
     let back6 = c .before .before .before .before .before .before in
     omega (
       arith,
-      offset-room (now (back6 .args .damaged)) (back6 .args .kept) (back6 .args .count) (back6 .pre .0) (c .before .before .before .loop .i) (c .before .before .loop-test .taken),
+      offset-room (now (back6 .args .damaged)) (back6 .args .kept) (back6 .args .count) (back6 .pre .0) (c .before .before .before .loop .i)
+          (c .before .before .loop-test .taken),
       ap (λ (r : Row). r .offset) (c .before .unchecked-row .ensures),
     )
 
@@ -70,7 +71,8 @@ loop-again c =
     let back5 = c .before .before .before .before .before in
     let back9 = back5 .before .before .before .before in
     let back12 = back9 .before .before .before in
-    lowered-next (now (back12 .args .damaged)) (back12 .args .kept) (back12 .args .count) (back12 .pre .0) (back9 .loop .inv) (back5 .before .before .before .loop-test .taken)
+    lowered-next (now (back12 .args .damaged)) (back12 .args .kept) (back12 .args .count) (back12 .pre .0) (back9 .loop .inv)
+    (back5 .before .before .before .loop-test .taken)
     (back5 .before .before .unchecked-row .ensures) (back5 .row-bytes .ensures) (c .before .before .lay .ensures)
 
 same-length : tie.Need-same-length Inv-loop μ-loop
@@ -80,6 +82,7 @@ returns : tie.Need-returns Inv-loop μ-loop
 returns c =
     let back4 = c .before .before .before .before in
     lowered-all (now (back4 .args .damaged)) (back4 .args .kept) (back4 .args .count) (back4 .pre .0) (c .before .loop .inv) (c .loop-test .left)
+
 pub put-rows-spec : {M : Type 1} → statement M
 put-rows-spec =
     tie.close

@@ -56,6 +56,7 @@ returns c =
     let a = back .args in
     steps-leave (now (a .damaged)) (a .kept) (a .count) (back .pre .0) (back .pre .1) (now (a .out)) (a .end) (back .pre .2)
     (omega (arith, back .pre .2, back .pre .3)) (back11 .put-number .ensures) (back7 .put-rows .ensures) (c .before .before .lay .ensures)
+
 pub write-spec : {M : Type 1} → statement M
 write-spec =
     tie.close

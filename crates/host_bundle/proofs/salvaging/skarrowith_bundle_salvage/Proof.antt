@@ -53,7 +53,8 @@ returns-2 c =
     let back13 = back9 .before .before .before .before in
     let back15 = back13 .before .before in
     let a = back15 .before .before .before .before .args in
-    salvage-value (now (a .damaged)) (now (a .out)) (now (a .told)) (back15 .if1 .left) (back13 .salvage .ensures) (back9 .s .given .1) (c .before .before .put-record .ensures)
+    salvage-value (now (a .damaged)) (now (a .out)) (now (a .told)) (back15 .if1 .left) (back13 .salvage .ensures) (back9 .s .given .1)
+    (c .before .before .put-record .ensures)
 
 same-length-3 : tie.Need-same-length-3
 same-length-3 c = search needs
@@ -64,6 +65,7 @@ returns-3 c =
     let back7 = back5 .before .before in
     let a = back7 .before .before .before .before .args in
     salvage-number (now (a .damaged)) (now (a .out)) (now (a .told)) (back7 .if1 .left) (back5 .salvage .ensures) (c .before .number .given .1)
+
 pub skarrowith-bundle-salvage-spec : {M : Type 1} → statement M
 skarrowith-bundle-salvage-spec =
     tie.close
