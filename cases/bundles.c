@@ -7,6 +7,7 @@
 #include "../second/bundle.h"
 #include "../second/contents.h"
 #include "../second/replay.h"
+#include "../second/salvage.h"
 
 #include <inttypes.h>
 #include <stdio.h>
@@ -186,6 +187,24 @@ int answer_add(void)
     if (!refused(second_add(bundle.b, bundle.n, filled, row, body.b, &length)))
         printf("filled +%zu", length);
     say_bytes(bundle.b, bundle.n);
+    return 1;
+}
+
+/* The second buffer holds FF before the call; what stands there afterwards is told up to the last byte that is another. */
+int answer_salvage(void)
+{
+    static uint8_t out[BYTES_MOST];
+    struct second_salvaged told = {0, 0, 0, 0};
+    uint64_t places;
+    size_t n = BYTES_MOST;
+    if (!take(&places, BYTES_MOST) || !take_bytes(&bundle) || !is_whole())
+        return 0;
+    memset(out, 0xFF, sizeof out);
+    if (!refused(second_salvage(bundle.b, bundle.n, out, (size_t)places, &told)))
+        printf("kept +%zu dropped +%zu rule +%d filled +%zu", told.kept, told.dropped, told.rule, told.filled);
+    while (n > 0 && out[n - 1] == 0xFF)
+        n--;
+    say_bytes(out, n);
     return 1;
 }
 

@@ -18,7 +18,7 @@ static const struct {
     {"read", answer_read},   {"write", answer_write}, {"find", answer_find},         {"wake", answer_wake},
     {"gap", answer_gap},     {"error", answer_error}, {"exchange", answer_exchange}, {"meter", answer_meter},
     {"check", answer_check}, {"row", answer_row},     {"body", answer_body},         {"add", answer_add},
-    {"list", answer_list},   {"kept", answer_kept},   {"next", answer_next},
+    {"list", answer_list},   {"kept", answer_kept},   {"next", answer_next},         {"salvage", answer_salvage},
     {"resistance", answer_resistance}, {"temperature", answer_temperature},
     {"either", answer_either},
     {"replay", answer_replay},

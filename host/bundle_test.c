@@ -190,6 +190,31 @@ static void test_refusals(void)
     refused("a buffer of no bytes", skarrowith_bundle_add(NULL, 0, &lent.number, 7, 1, 0, ack, sizeof ack), 31);
 }
 
+/* Two rows cut short: what is kept stands in the second buffer, and nothing beyond is touched. */
+static void test_salvage(void)
+{
+    static const uint8_t two[30] = {2, 0, 7, 1, 0, 0, 0, 0, 26, 0, 0, 0, 2, 0, 48,
+                                    1, 0x78, 0x56, 0x34, 0x12, 28, 0, 0, 0, 2, 0, 0xE5, 1, 0xE5, 1};
+    struct skarrowith_salvaged told;
+    expect("the size of what is told", sizeof told, 32);
+    begin(two, 0);
+    expect("the last body missing", skarrowith_bundle_salvage(two, 28, lent.bytes, 16, &told, sizeof told), 0);
+    expect("one row kept", (uint32_t)told.kept, 1);
+    expect("one row dropped", (uint32_t)told.dropped, 1);
+    expect("its body past the end", (uint32_t)told.rule, 35);
+    expect("the bytes of the new bundle", (uint32_t)told.filled, 16);
+    expect("the example made", memcmp(lent.bytes, example, 16) != 0, 0);
+    expect("nothing beyond", memcmp(lent.bytes + 16, before.bytes + 16, sizeof lent.bytes - 16) != 0, 0);
+    expect("a whole bundle", skarrowith_bundle_salvage(two, 30, lent.bytes, 30, &told, sizeof told), 0);
+    expect("itself", memcmp(lent.bytes, two, 30) != 0, 0);
+    expect("no rule broken", (uint32_t)told.rule, 0);
+    remember();
+    refused("a byte too few", skarrowith_bundle_salvage(two, 30, lent.bytes, 29, &told, sizeof told), 38);
+    refused("no room for what is told", skarrowith_bundle_salvage(two, 1, lent.bytes, 0, &told, sizeof told - 1), 21);
+    refused("one byte", skarrowith_bundle_salvage(two, 1, lent.bytes, sizeof lent.bytes, &told, sizeof told), 31);
+    refused("contents cut", skarrowith_bundle_salvage(two, 25, lent.bytes, sizeof lent.bytes, &told, sizeof told), 33);
+}
+
 static void test_adding(void)
 {
     static const uint8_t none[2] = {0, 0};
@@ -262,6 +287,7 @@ int main(void)
     test_example();
     test_contents();
     test_refusals();
+    test_salvage();
     test_adding();
     test_full();
     if (wrong == 0)

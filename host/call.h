@@ -32,6 +32,7 @@ enum function {
     CONTENTS_ROW,
     CONTENTS_NEXT,
     REPLAY_ERROR,
+    BUNDLE_SALVAGE,
     FUNCTIONS
 };
 

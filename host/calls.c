@@ -32,6 +32,7 @@ static struct skarrowith_telegram telegram;
 static struct skarrowith_exchange waiting, exchange;
 static struct skarrowith_meter set_up, meter;
 static struct skarrowith_contents contents;
+static struct skarrowith_salvaged salvaged;
 
 /* ---- what is called */
 
@@ -76,6 +77,12 @@ static uint32_t resistance(void) { return skarrowith_resistance(5019, &number); 
 static uint32_t temperature(void) { return skarrowith_temperature(1200000, &number); }
 static uint32_t check_bundle(void) { return skarrowith_bundle_check(bytes, count, &told); }
 static uint32_t make_contents(void) { return skarrowith_contents_of(bytes, count, &contents, sizeof contents); }
+
+/* The last body is cut off: 511 rows are kept. */
+static uint32_t salvage_bundle(void)
+{
+    return skarrowith_bundle_salvage(bytes, count - 2, text, sizeof text, &salvaged, sizeof salvaged);
+}
 
 /* A position that no row has: all rows are passed over. */
 static uint32_t scan_none(void) { return skarrowith_contents_next(&contents, sizeof contents, 49, 0, &told); }
@@ -276,6 +283,7 @@ static const struct {
     {"check-bundle", put_bundle, check_bundle, NULL},
     {"list-bundle", put_bundle, list_bundle, NULL},
     {"contents-bundle", put_bundle, make_contents, NULL},
+    {"salvage-bundle", put_bundle, salvage_bundle, NULL},
     {"scan-none", put_contents, scan_none, scan_none_in_file},
     {"scan-all", put_contents, scan_all, scan_all_in_file},
     {"replay-bundle", put_talk, replay_bundle, replay_by_second},

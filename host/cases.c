@@ -12,6 +12,7 @@
 #include "../second/meter.h"
 #include "../second/replay.h"
 #include "../second/resistance.h"
+#include "../second/salvage.h"
 #include "../second/wake.h"
 
 #include <string.h>
@@ -305,6 +306,15 @@ int second_add(uint8_t *buffer, size_t places, uint64_t filled, struct second_ro
     *length = (size_t)filled;
     return refusal_in(skarrowith_bundle_add(buffer, places, length, (uint8_t)row.position, (uint8_t)row.direction,
                                             row.time, body, row.length));
+}
+
+int second_salvage(const uint8_t *damaged, size_t n, uint8_t *out, size_t places, struct second_salvaged *told)
+{
+    struct skarrowith_salvaged r;
+    int refusal = refusal_in(skarrowith_bundle_salvage(damaged, n, out, places, &r, sizeof r));
+    if (refusal == 0)
+        *told = (struct second_salvaged){(size_t)r.kept, (size_t)r.dropped, (int)r.rule, (size_t)r.filled};
+    return refusal;
 }
 
 void second_list(const uint8_t *bundle, size_t n, FILE *to, int end)

@@ -1,4 +1,4 @@
-/* Run bundles, whole and damaged, their rows, columns, adding and listing: the archive against the second program. */
+/* Run bundles, whole and damaged, their rows, columns, salvage, adding and listing: the archive against the second program. */
 #define _POSIX_C_SOURCE 200809L
 
 #include "compare_bundle.h"
@@ -9,6 +9,7 @@
 #include "../second/chance.h"
 #include "../second/contents.h"
 #include "../second/make_bundle.h"
+#include "../second/salvage.h"
 
 #include <stdio.h>
 #include <stdlib.h>
@@ -142,6 +143,41 @@ static void contents_next(void)
     end(skarrowith_contents_next(in->to, n, (uint8_t)position, (size_t)tell("from", from), i->to), answer_for(refusal));
 }
 
+/* What is in the bundle is salvaged into so many places. */
+static void salvage_into(size_t places, size_t size)
+{
+    struct second_salvaged s = {0, 0, 0, 0};
+    int refusal = 21;
+    begin(BUNDLE_SALVAGE);
+    struct lent *damaged = lend("damaged", bundle.n, bundle.b, bundle.n), *out = lend("out", places, NULL, 0);
+    struct lent *told = lend("told", size, NULL, 0);
+    if (size >= sizeof(struct skarrowith_salvaged))
+        refusal = second_salvage(bundle.b, bundle.n, out->second, places, &s);
+    if (refusal == 0) {
+        struct skarrowith_salvaged r = {s.kept, s.dropped, (uint64_t)s.rule, s.filled};
+        memcpy(told->second, &r, sizeof r);
+    }
+    end(skarrowith_bundle_salvage(damaged->to, bundle.n, out->to, places, told->to, size), answer_for(refusal));
+}
+
+static void salvage(void)
+{
+    size_t places = some_salvage();
+    salvage_into(places, some_places(sizeof(struct skarrowith_salvaged)));
+}
+
+void compare_all_cuts(void)
+{
+    FILE *file = fopen("../examples/night-shift.bundle", "rb");
+    size_t whole;
+    if (file == NULL)
+        abort();
+    whole = fread(bundle.b, 1, sizeof bundle.b, file);
+    fclose(file);
+    for (bundle.n = 0; bundle.n <= whole; bundle.n++)
+        salvage_into(whole, sizeof(struct skarrowith_salvaged));
+}
+
 /* A row is added to a bundle of its own making. */
 static void add(void)
 {
@@ -173,5 +209,6 @@ void compare_bundle(void)
     contents_of();
     contents_row();
     contents_next();
+    salvage();
     add();
 }

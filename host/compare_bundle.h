@@ -1,6 +1,9 @@
-/* Run bundles, whole and damaged, their rows, columns, adding and listing: the archive against the second program. */
+/* Run bundles, whole and damaged, their rows, columns, salvage, adding and listing: the archive against the second program. */
 #ifndef COMPARE_BUNDLE_H
 #define COMPARE_BUNDLE_H
+
+/* The example bundle salvaged, cut at every length. */
+void compare_all_cuts(void);
 
 void compare_bundle(void);
 

@@ -408,6 +408,28 @@ uint32_t skarrowith_contents_next(const struct skarrowith_contents *contents, si
 uint32_t skarrowith_bundle_add(uint8_t *buffer, size_t len, size_t *filled, uint8_t position, uint8_t direction,
                                uint32_t time, const uint8_t *body, size_t body_len);
 
+/* What became of a damaged bundle: 32 bytes. */
+struct skarrowith_salvaged {
+    uint64_t kept;    /* rows */
+    uint64_t dropped; /* rows */
+    uint64_t rule;    /* the lowest of 34, 35 and 37 that the first dropped row breaks; 36 or 0 where all are kept */
+    uint64_t filled;  /* the bytes of the new bundle */
+};
+
+/*
+ * Salvages a bundle that was cut short or damaged behind its contents: the largest number of leading rows that each keep
+ * the rules 34, 35 and 37 are written into a second buffer as a bundle of their own, with new offsets.
+ *
+ * damaged, len: its bytes; they are not changed.
+ * out, out_len: takes the new bundle in its first bytes, and keeps what it has beyond.
+ * told, size:   takes what became of it; size is sizeof(struct skarrowith_salvaged). 36 is told where all rows are kept and
+ *               bytes are left over behind the last body.
+ *
+ * Refuses by 21, by 30 to 33 as the check does, and by 38 if the new bundle exceeds the second buffer.
+ */
+uint32_t skarrowith_bundle_salvage(const uint8_t *damaged, size_t len, uint8_t *out, size_t out_len,
+                                   struct skarrowith_salvaged *told, size_t size);
+
 /*
  * Lists a bundle as text: a line "position,direction,time,line" and a line for each row, such as "7,heard,0,ack". A bundle
  * that is refused is listed as a line "refused 31", with its number; that is an answer and no refusal of this function.

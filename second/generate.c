@@ -286,6 +286,13 @@ static void generate_next(void)
     print_bytes(bundle.b, bundle.n, bundle.rows);
 }
 
+static void generate_salvage(void)
+{
+    size_t places = some_salvage();
+    printf("salvage +%zu", places);
+    print_bytes(bundle.b, bundle.n, bundle.rows);
+}
+
 static void generate_add(void)
 {
     static struct addition a;
@@ -328,7 +335,7 @@ int main(int argc, char **argv)
         {"read", generate_read},   {"write", generate_write}, {"find", generate_find},         {"wake", generate_wake},
         {"gap", generate_gap},     {"error", generate_error}, {"exchange", generate_exchange}, {"meter", generate_meter},
         {"check", generate_check}, {"row", generate_row},     {"body", generate_body},         {"add", generate_add},
-        {"list", generate_list},   {"kept", generate_kept},   {"next", generate_next},
+        {"list", generate_list},   {"kept", generate_kept},   {"next", generate_next},         {"salvage", generate_salvage},
         {"resistance", generate_resistance}, {"temperature", generate_temperature},
         {"either", generate_either},
         {"replay", generate_replay},

@@ -5,6 +5,7 @@
 #include "make_line.h"
 #include "make_telegram.h"
 #include "number.h"
+#include "salvage.h"
 
 #include <string.h>
 
@@ -250,6 +251,20 @@ unsigned some_row_position(void)
     if (bundle.rows > 0 && !once_in(4))
         return bundle.b[2 + 12 * below((unsigned)bundle.rows)];
     return once_in(2) ? below(256) : some_position();
+}
+
+size_t some_salvage(void)
+{
+    static uint8_t out[SECOND_BUNDLE];
+    struct second_salvaged told = {0, 0, 0, 0};
+    size_t contents;
+    some_bundle();
+    contents = 2 + 12 * bundle.rows;
+    if (once_in(2) && bundle.n > contents)
+        bundle.n = contents + below((unsigned)(bundle.n - contents) + 1);
+    if (once_in(20) || second_salvage(bundle.b, bundle.n, out, sizeof out, &told) != 0)
+        return below(4000);
+    return told.filled + (once_in(2) ? 0 : once_in(4) ? below(40) : 0) - once_in(4);
 }
 
 void some_addition(struct addition *a, unsigned broken)

@@ -33,6 +33,9 @@ uint64_t some_row(void);
 /* A position, most often that of some row. */
 unsigned some_row_position(void);
 
+/* A bundle, most often cut short or with a row broken; a number of places for what is kept of it, often enough or nearly. */
+size_t some_salvage(void);
+
 /* A row that is to be added to the bundle, and how many bytes the bundle is said to fill; one in so many bundles is broken. */
 struct addition {
     struct second_row row;

@@ -2,6 +2,7 @@
 pub mod Walks
 pub mod RowRules
 pub mod Walking
+pub mod Opened
 pub mod Accepted
 pub mod RecordLaws
 pub mod HoldingLaws

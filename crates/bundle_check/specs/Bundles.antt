@@ -39,12 +39,15 @@ checkRows n b =
     (refuse 37 (any over (chars (drop (firstOffset n) b)))
     (reads n))))
 
--- The number of rows, or the refusal. 30 too long; 31 under two bytes; 32 count over 512; 33 contents cut; then 34 to 37. Lowest first
--- over the whole bundle.
-unfoldable pub checkOf : List ℕ → Answer ℕ
-checkOf b =
+-- What is asked of a bundle before its rows: 30 too long; 31 under two bytes; 32 count over 512; 33 contents cut.
+abbrev pub opened : {A : Type 0} → List ℕ → Answer A → Answer A
+opened b next =
     refuse 30 (ltb mostBytes (length b))
     (refuse 31 (ltb (length b) 2)
     (refuse 32 (ltb mostRows (countOf b))
     (refuse 33 (ltb (length b) (firstOffset (countOf b)))
-    (checkRows (countOf b) b))))
+    next)))
+
+-- The number of rows, or the refusal: 30 to 33, then 34 to 37. Lowest first over the whole bundle.
+unfoldable pub checkOf : List ℕ → Answer ℕ
+checkOf b = opened b (checkRows (countOf b) b)

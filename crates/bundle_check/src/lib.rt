@@ -3,7 +3,8 @@ ghost use mathlib.Core.Path.{_≡_};
 ghost use Prim.Native.Nat.{_≤_};
 ghost use lib.ListN.{length};
 ghost use Rattle.bundle_rows.specs.Rows.{mostRows, firstOffset};
-ghost use Rattle.bundle_check.specs.Bundles.{checkRows, checkOf};
+ghost use Rattle.mbus_rules.specs.Answers.{reads};
+ghost use Rattle.bundle_check.specs.Bundles.{countOf, opened, checkRows, checkOf};
 ghost use Rattle.bundle_check.specs.Shown.{shownChecked};
 use crate::walk::walk_rows;
 use bundle_rows::MOST_ROWS;
@@ -47,9 +48,9 @@ fn check_rows(bundle: &[u8], count: usize) -> Checked
     Checked::Rows(count)
 }
 
-// The number of rows, or the lowest refusal that applies to the whole bundle.
-pub fn check(bundle: &[u8]) -> Checked
-    ensures { λ r. ⌜ r ≡ shownChecked (checkOf (now (bundle .entry))) ⌝ }
+// The number of rows that the contents have, or 30 to 33 where they are not whole.
+pub fn opened(bundle: &[u8]) -> Checked
+    ensures { λ r. ⌜ r ≡ shownChecked (opened (now (bundle .entry)) (reads (countOf (now (bundle .entry))))) ⌝ }
 {
     let long = MOST_BYTES < bundle.len();
     if long {
@@ -68,5 +69,15 @@ pub fn check(bundle: &[u8]) -> Checked
     if cut {
         return Checked::Refused(33);
     }
-    check_rows(bundle, count)
+    Checked::Rows(count)
+}
+
+// The number of rows, or the lowest refusal that applies to the whole bundle.
+pub fn check(bundle: &[u8]) -> Checked
+    ensures { λ r. ⌜ r ≡ shownChecked (checkOf (now (bundle .entry))) ⌝ }
+{
+    match opened(bundle) {
+        Checked::Rows(count) => check_rows(bundle, count),
+        Checked::Refused(number) => Checked::Refused(number),
+    }
 }

@@ -7,6 +7,7 @@ pub mod Exchange
 pub mod Meter
 pub mod Bundle
 pub mod Columns
+pub mod Salvage
 pub mod Listing
 pub mod Records
 pub mod Refusals

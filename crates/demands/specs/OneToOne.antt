@@ -39,6 +39,8 @@ use Rattle.bundle_check.specs.RowsShown.{shownRow, shownBody}
 use Rattle.bundle_check.proofs.Laws.RowsShown as rows
 use Rattle.bundle_columns.specs.Shown.{shownNext}
 use Rattle.bundle_columns.proofs.Laws.Shown as columns
+use Rattle.bundle_salvage.specs.Shown.{shownSalvage}
+use Rattle.bundle_salvage.proofs.Laws.Shown as salvages
 use Rattle.bundle_adding.specs.Shown.{shownAdded}
 use Rattle.bundle_adding.proofs.Laws.Shown as addings
 use Rattle.listing_text.specs.Shown.{shownListed}
@@ -125,6 +127,9 @@ body-apart = rows.shownBody-same
 
 pub next-apart : Apart shownNext
 next-apart = columns.shownNext-same
+
+pub salvage-apart : Apart shownSalvage
+salvage-apart = salvages.shownSalvage-same
 
 pub added-apart : Apart shownAdded
 added-apart = addings.shownAdded-same

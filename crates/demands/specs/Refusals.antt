@@ -50,12 +50,13 @@ use Rattle.bundle_rows.specs.declared.Row.{Row}
 use Rattle.bundle_rows.specs.Fields.{wrongPosition}
 use Rattle.bundle_rows.specs.Rows.{firstOffset, mostRows, rowsOf}
 use Rattle.bundle_check.specs.RowRules.{wrongRow, wrongRows, wrongPlaces, bodiesEnd}
-use Rattle.bundle_check.specs.Bundles.{mostBytes, countOf, contentsOf, checkRows, checkOf}
+use Rattle.bundle_check.specs.Bundles.{mostBytes, countOf, contentsOf, opened, checkRows, checkOf}
 use Rattle.bundle_check.specs.Records.{Recorded, recordsOf, rowFor}
 use Rattle.bundle_check.specs.Handing.{placeOf, rowAt, bodyAt}
 use Rattle.bundle_columns.specs.Record.{columnsSize, columnsIn, columnsFrom}
 use Rattle.bundle_columns.specs.Lookups.{isPosition, inFront, firstFrom, rowKept, bodyKept, nextKept}
 use Rattle.bundle_columns.specs.Shown.{columnsInto, contentsInto}
+use Rattle.bundle_salvage.specs.Salvaging.{tellOf, leadingRows, salvageOf, salvageInto}
 use Rattle.bundle_adding.specs.Adding.{lastTime, grown, noRoom, addOf}
 use Rattle.listing_text.specs.Shown.{listedIn}
 use Rattle.replay_counting.specs.Counting.{answersOf, countingOf}
@@ -343,6 +344,19 @@ row-by b i =
 
 pub body-place-by : (b : List ℕ) (i : ℕ) → By (39 ∷ bundleNumbers) (bodyAt b i)
 body-place-by b i = within-by _ placeOf (rowAt b i) (row-by b i)
+
+-- 2026-11: 30 to 33 as before, and 38
+pub salvage-by : (b out : List ℕ) → By (30 ∷ 31 ∷ 32 ∷ 33 ∷ 38 ∷ []) (salvageInto b out)
+unfolding any salvageOf
+salvage-by b out =
+    let ns : List ℕ = 30 ∷ 31 ∷ 32 ∷ 33 ∷ 38 ∷ [] in
+    follow-by ns (salvageOf b) _
+    (refuse-by ns 30 (ltb mostBytes (length b)) _ refl
+    (refuse-by ns 31 (ltb (length b) 2) _ refl
+    (refuse-by ns 32 (ltb mostRows (countOf b)) _ refl
+    (refuse-by ns 33 (ltb (length b) (firstOffset (countOf b))) _ refl
+    (reads-by ns (tellOf (countOf b) b (leadingRows (countOf b) b)))))))
+    (λ s. refuse-by ns 38 (ltb (length out) (s .filled)) (reads s) refl (reads-by ns s))
 
 -- 2026-10: the lists of a bundle; and of a record of them the contents, a row, its body and the next row of a position
 pub lists-by : (b : List ℕ) → By (101 ∷ []) (columnsFrom b)

@@ -18,6 +18,8 @@ use Rattle.bundle_check.specs.Stretches.{Handed}
 use Rattle.bundle_check.specs.declared.Checked.{Checked}
 use Rattle.bundle_columns.specs.Columns.{Columns}
 use Rattle.bundle_columns.specs.Shown.{Turns}
+use Rattle.bundle_salvage.specs.declared.SalvageTold.{SalvageTold}
+use Rattle.bundle_salvage.specs.Shown.{Salvages}
 use Rattle.bundle_adding.specs.declared.Added.{Added}
 use Rattle.bundle_adding.specs.Shown.{Adds}
 use Rattle.listing_text.specs.declared.Listed.{Listed}
@@ -29,6 +31,7 @@ use Rattle.meter_steps.specs.Meters.{Deed}
 use Rattle.host_meter.specs.Calls as meters
 use Rattle.host_bundle.specs.Lent.{Gives}
 use Rattle.host_bundle.specs.Bundled.{AddsIn, ListsIn}
+use Rattle.host_bundle.specs.Salvaging.{SalvagesIn}
 
 -- Any two results that the promise allows are the same. (A result is the answer, and beside it what is left in each thing lent.)
 abbrev pub Settled : {R : Type 0} → (R → Type 0) → Type 0
@@ -54,6 +57,9 @@ adding-settled before filled k x y p q = two-equations _ _ x y (p .answers, p .l
 pub turning-settled : (written : Columns → List ℕ) (a : Answer Columns) (before : List ℕ)
     → Settled (λ (x : Checked × List ℕ). Turns written a before (x .0) (x .1))
 turning-settled written a before x y p q = two-equations _ _ x y (p .answer, p .left) (q .answer, q .left)
+
+pub salvaging-settled : (b before : List ℕ) → Settled (λ (x : SalvageTold × List ℕ). Salvages b before (x .0) (x .1))
+salvaging-settled b before x y p q = two-equations _ _ x y (p .answer, p .left) (q .answer, q .left)
 
 pub listing-settled : (b before : List ℕ) → Settled (λ (x : Listed × List ℕ). Lists b before (x .0) (x .1))
 listing-settled b before x y p q = two-equations _ _ x y (p .answer, p .holds) (q .answer, q .holds)
@@ -88,6 +94,10 @@ add-settled buffer filled k x y p q i =
 pub list-settled : (b out : List ℕ) (written : ℕ) → Settled (λ (x : (ℕ × ℕ) × List ℕ). ListsIn b out written (x .0 .0) (x .1) (x .0 .1))
 list-settled b out written x y p q i =
     (gives-settled _ written (x .0) (y .0) (p .gives) (q .gives) i, equation _ (x .1) (y .1) (p .holds) (q .holds) i)
+
+pub salvage-settled : (b out told : List ℕ) → Settled (λ (x : (ℕ × List ℕ) × List ℕ). SalvagesIn b out told (x .0 .0) (x .1) (x .0 .1))
+salvage-settled b out told x y p q i =
+    (leaves-settled _ _ _ told (x .0) (y .0) (p .tells) (q .tells) i, equation _ (x .1) (y .1) (p .holds) (q .holds) i)
 
 pub words-settled : (said : Answer (List ℕ)) (out : List ℕ) → Settled (λ (x : ℕ × List ℕ). Says said out (x .0) (x .1))
 words-settled said out x y p q = two-equations _ _ x y (p .answer, p .holds) (q .answer, q .holds)

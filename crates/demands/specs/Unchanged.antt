@@ -22,6 +22,9 @@ use Rattle.bundle_check.specs.Stretches.{bytesAt, Handed}
 use Rattle.bundle_check.specs.declared.Checked.{Checked}
 use Rattle.bundle_columns.specs.Columns.{Columns}
 use Rattle.bundle_columns.specs.Shown.{Turns}
+use Rattle.bundle_salvage.specs.declared.SalvageTold.{SalvageTold}
+use Rattle.bundle_salvage.specs.Salvaging.{salvageInto, newBundle}
+use Rattle.bundle_salvage.specs.Shown.{Salvages}
 use Rattle.bundle_adding.specs.declared.Added.{Added}
 use Rattle.bundle_adding.specs.Adding.{addOf}
 use Rattle.bundle_adding.specs.Adding as adding
@@ -37,6 +40,7 @@ use Rattle.meter_steps.specs.Meters.{Deed}
 use Rattle.host_meter.specs.Calls as meters
 use Rattle.host_bundle.specs.Lent.{Gives, leftIn}
 use Rattle.host_bundle.specs.Bundled.{AddsIn, ListsIn}
+use Rattle.host_bundle.specs.Salvaging.{salvageFor, SalvagesIn}
 
 -- The number alone, and what was lent as it was.
 pub record Untouched {B : Type 0} (n r : ℕ) (before after : B) : Type 0 where
@@ -71,6 +75,9 @@ module _ (n : ℕ) where
   pub turning-unchanged : (written : Columns → List ℕ) (a : Answer Columns) (before after : List ℕ) (r : Checked) → a ≡ refusal n
       → Turns written a before r after → after ≡ before
   turning-unchanged written a before after r e p = by-answer (stored written before) before (λ m. refl) a n after e (p .left)
+
+  pub salvaging-unchanged : (b before after : List ℕ) (r : SalvageTold) → salvageInto b before ≡ refusal n → Salvages b before r after → after ≡ before
+  salvaging-unchanged b before after r e p = by-answer (stored (newBundle b) before) before (λ m. refl) (salvageInto b before) n after e (p .left)
 
   pub listing-unchanged : (b before after : List ℕ) (r : Listed) → listedIn (listingOf b) before ≡ refusal n → Lists b before r after → after ≡ before
   listing-unchanged b before after r e p =
@@ -117,6 +124,10 @@ module _ (n : ℕ) where
       → AddsIn buffer filled k r after now → after ≡ buffer
   buffer-unchanged buffer filled k r after now e p =
       by-answer (λ a. adding.bufferAfter a buffer filled k) buffer (λ m. refl) (addOf buffer filled k) n after e (p .holds)
+
+  pub second-buffer-unchanged : (b out told : List ℕ) (r : ℕ) (after then : List ℕ) → salvageFor b out told ≡ refusal n → SalvagesIn b out told r after then
+      → after ≡ out
+  second-buffer-unchanged b out told r after then e p = by-answer (stored (newBundle b) out) out (λ m. refl) (salvageFor b out told) n after e (p .holds)
 
   pub places-unchanged : (b out : List ℕ) (written r : ℕ) (after : List ℕ) (now : ℕ) → listedIn (listingOf b) out ≡ refusal n
       → ListsIn b out written r after now → after ≡ out

@@ -1,2 +1,1 @@
-// The front page: the three demands, the thirteen values, the resistance box, both ends of the line and the replay, as theorems in specs/. There is
-// no code here.
+// The front page: the three demands, the thirteen values, and what 02 adds, as theorems in specs/. There is no code here.

@@ -2,3 +2,4 @@
 pub mod Lent
 pub mod Bundled
 pub mod Rows
+pub mod Salvaging

@@ -18,6 +18,7 @@ use listing_text::list;
 
 pub mod contents;
 mod record;
+pub mod salvaging;
 
 // 0 and the count of rows, or 256 plus 30 to 37.
 #[no_mangle]

@@ -1,57 +1,64 @@
--- `bundle_check::check` meets its contract: each way out by the tests that led there. Assumes nothing.
+-- `bundle_check::check` meets its contract: what is asked of the rows, where the contents are whole. Assumes nothing.
 use borrow.Author.Needs.{needs}
-use Rattle.bundle_check.specs.Bundles.{checkOf}
+use Prim.Native.Nat.{ℕ}
+use mathlib.Core.Path.{_≡_, sym, ap, _∙_}
+use denote.Ref.{now}
+use native.Mathlib.Omega.{arith}
+use Rattle.mbus_rules.specs.Answers.{reads, refusal}
+use Rattle.bundle_check.specs.Bundles.{countOf, opened, checkRows, checkOf}
+use Rattle.bundle_check.specs.Shown.{shownChecked}
+use Rattle.bundle_check.proofs.Laws.Opened.{opened-whole, opened-next, opened-refused}
+use Rattle.bundle_check.proofs.Laws.Shown.{shownChecked-same}
 use Rattle.bundle_check.proofs.check.Statement.{statement}
 use Rattle.bundle_check.proofs.check.Tie as tie
 
+-- the count as it was found
+counted : (c : tie.After-known-told) → opened (now (c .before .before .before .before .before .args .bundle))
+    (reads (countOf (now (c .before .before .before .before .before .args .bundle)))) ≡ reads (c .before .count .given .0 .0)
+counted c =
+    let b = now (c .before .before .before .before .before .args .bundle) in
+    shownChecked-same (opened b (reads (countOf b))) (reads (c .before .count .given .0 .0)) (sym (c .before .before .before .opened .ensures)
+    ∙ c .before .count .given .1)
+
+opened-requires : tie.Need-opened-requires
+opened-requires c κs = search needs
+
+enum-known-count : tie.Need-enum-known-count
+enum-known-count c = search needs
+
+check-rows-requires : tie.Need-check-rows-requires
+check-rows-requires c κs =
+    let b = now (c .before .before .before .before .before .args .bundle) in
+    let o = opened-whole b (c .before .count .given .0 .0) (counted c) in
+    (omega (arith, o .count, o .few), omega (arith, o .count, o .there))
+
+enum-known-number : tie.Need-enum-known-number
+enum-known-number c = search needs
+
 returns : tie.Need-returns
 unfolding checkOf
-returns c = rw (c .if1 .taken)
+returns c =
+    let back1 = c .before in
+    let b = now (back1 .before .before .before .before .before .args .bundle) in
+    let n = back1 .before .count .given .0 .0 in
+    let o = opened-whole b n (counted back1) in
+    c .check-rows .ensures ∙ ap shownChecked (ap (λ (m : ℕ). checkRows m b) (o .count) ∙ sym (opened-next b n (counted back1) (checkRows (countOf b) b)))
 
 returns-2 : tie.Need-returns-2
 unfolding checkOf
-returns-2 c = rw (c .before .if1 .left, c .if2 .taken)
-
-number-at-requires : tie.Need-number-at-requires
-number-at-requires c κs = search needs
-
-returns-3 : tie.Need-returns-3
-unfolding checkOf
-returns-3 c = rw (c .before .before .before .if1 .left, c .before .before .if2 .left, ← (c .before .number-at .ensures .so), c .if3 .taken)
-
-mul-cut : tie.Need-mul-cut
-mul-cut c = search needs
-
-add-cut : tie.Need-add-cut
-add-cut c = search needs
-
-returns-4 : tie.Need-returns-4
-unfolding checkOf
-returns-4 c =
-    let back4 = c .before .before .before .before in
-    rw (back4 .if1 .left, c .before .before .before .if2 .left, ← (c .before .before .number-at .ensures .so), c .before .if3 .left, c .if4 .taken)
-
-check-rows-requires : tie.Need-check-rows-requires
-check-rows-requires c κs = search needs
-
-returns-5 : tie.Need-returns-5
-unfolding checkOf
-returns-5 c =
-    let back4 = c .before .before .before .before in
-    let back5 = back4 .before in
-    rw (back5 .if1 .left, back4 .if2 .left, ← (c .before .before .before .number-at .ensures .so), c .before .before .if3 .left, c .before .if4 .left)
-    (c .check-rows .ensures)
+returns-2 c =
+    let b = now (c .before .before .before .before .before .args .bundle) in
+    let k = c .before .number .given .0 .0 in
+    ap shownChecked (sym (opened-refused b (checkRows (countOf b) b) k
+    (shownChecked-same (opened b (reads (countOf b))) (refusal k) (sym (c .before .before .before .opened .ensures) ∙ c .before .number .given .1))))
 
 pub check-spec : {M : Type 1} → statement M
 check-spec =
     tie.close
     (tie.spec
-    returns
-    returns-2
-    number-at-requires
-    returns-3
-    mul-cut
-    add-cut
-    returns-4
+    opened-requires
+    enum-known-count
     check-rows-requires
-    returns-5)
+    enum-known-number
+    returns
+    returns-2)
