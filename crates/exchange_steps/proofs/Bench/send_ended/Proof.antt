@@ -28,9 +28,11 @@ returns c =
 
 returns-2 : tie.Need-returns-2
 returns-2 c =
-    rw
-    (← c .before .before .before .before .in-progress .ensures, c .before .before .bench .given .1,
-    ← c .before .before .before .before .before .view-of .ensures)
+    rw (
+      ← c .before .before .before .before .in-progress .ensures,
+      c .before .before .bench .given .1,
+      ← c .before .before .before .before .before .view-of .ensures,
+    )
     (c .resent .ensures)
 
 pub send-ended-spec : {M : Type 1} → statement M
