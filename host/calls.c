@@ -216,8 +216,8 @@ static void put_starts(void)
         characters[count] = 0x168;
 }
 
-/* 512 rows: a read request and 000's data line in turn, at one position or at all of them. */
-static void put_rows(unsigned position)
+/* 512 rows so far apart: a read request and 000's data line in turn, at one position or at all of them. */
+static void put_rows(unsigned position, unsigned apart)
 {
     static uint8_t lines[2][2 * SECOND_EXAMPLE];
     size_t lengths[2], at = 2 + 12 * ROWS;
@@ -227,7 +227,7 @@ static void put_rows(unsigned position)
     memcpy(lines[1], bytes, lengths[1] = 2 * count);
     second_put_number(bytes, 2, ROWS);
     for (unsigned i = 0; i < ROWS; i++) {
-        struct second_row row = {position == 0 ? 1 + i % 48 : position, i % 2, 100 * i, (uint32_t)at, lengths[i % 2]};
+        struct second_row row = {position == 0 ? 1 + i % 48 : position, i % 2, apart * i, (uint32_t)at, lengths[i % 2]};
         second_put_row(bytes + 2 + 12 * i, &row);
         memcpy(bytes + at, lines[i % 2], lengths[i % 2]);
         at += lengths[i % 2];
@@ -235,7 +235,7 @@ static void put_rows(unsigned position)
     count = at;
 }
 
-static void put_bundle(void) { put_rows(0); }
+static void put_bundle(void) { put_rows(0, 1000); }
 
 static void put_contents(void)
 {
@@ -247,7 +247,7 @@ static void put_contents(void)
 static void put_talk(void)
 {
     uint8_t *last;
-    put_rows(7);
+    put_rows(7, 100);
     last = bytes + count - 2 * SECOND_EXAMPLE;
     second_put_number(last + 2 * 55, 2, second_character(0x1D));
     second_put_number(last + 2 * 61, 2, second_character(0x03));

@@ -1,5 +1,5 @@
 -- 02, "Real-time method, from the record": which answers count, what has no part in them, days and millilitres, and the error.
-use Prim.Native.Nat.{ℕ, _+_, _*_, _-_, _%_, _≤_, _<_}
+use Prim.Native.Nat.{ℕ, _+_, _*_, _-_, _/_, _%_, _≤_, _<_}
 use mathlib.Core.Bool.{Bool, true, false}
 use mathlib.Core.List.{List, [], _∷_, _++_, map}
 use mathlib.Core.Path.{_≡_, refl}
@@ -11,7 +11,7 @@ use Rattle.mbus_rules.specs.declared.View.the-variants.{Asks}
 use Rattle.mbus_rules.specs.Answers.{reads, refusal}
 use Rattle.mbus_rules.specs.Host.{chars}
 use Rattle.mbus_rules.specs.Lists.{any}
-use Rattle.mbus_rules.specs.Moments.{daysIn}
+use Rattle.mbus_rules.specs.Moments.{daysIn, momentOf}
 use Rattle.mbus_rules.specs.Quantities.{quantityOf, powerOf}
 use Rattle.bench_clock.specs.Times.{replyTime}
 use Rattle.bench_clock.specs.Wakes.{isWake}
@@ -143,17 +143,15 @@ pub replay-values :
 unfolding errorOfFigures tenths
 replay-values = (refl, refl, refl, refl, refl, refl, refl, refl, refl, refl, refl)
 
--- Over the last of a month, of a leap year's February and of a year, a second is a second.
+-- Over the last of a month, of February and of a year, a second is a second.
+abbrev moment : ℕ → ℕ → ℕ → ℕ → ℕ → ℕ → Moment
+moment year month day hour minute second = momentOf (second ∷ minute ∷ hour ∷ (32 * (year % 8) + day) ∷ (16 * (year / 8) + month) ∷ 0 ∷ [])
+
 pub interval-values :
-    (interval (record { year = 18; month = 7; day = 23; hour = 15; minute = 51; second = 28; weekday = 0 })
-    (record { year = 18; month = 7; day = 23; hour = 15; minute = 51; second = 29; weekday = 0 }) ≡ 1000)
-    × (interval (record { year = 23; month = 4; day = 30; hour = 23; minute = 59; second = 59; weekday = 0 })
-    (record { year = 23; month = 5; day = 1; hour = 0; minute = 0; second = 0; weekday = 0 }) ≡ 1000)
-    × (interval (record { year = 24; month = 2; day = 28; hour = 23; minute = 59; second = 59; weekday = 0 })
-    (record { year = 24; month = 2; day = 29; hour = 0; minute = 0; second = 0; weekday = 0 }) ≡ 1000)
-    × (interval (record { year = 23; month = 2; day = 28; hour = 23; minute = 59; second = 59; weekday = 0 })
-    (record { year = 23; month = 3; day = 1; hour = 0; minute = 0; second = 0; weekday = 0 }) ≡ 1000)
-    × (interval (record { year = 98; month = 12; day = 31; hour = 23; minute = 59; second = 59; weekday = 0 })
-    (record { year = 99; month = 1; day = 1; hour = 0; minute = 0; second = 0; weekday = 0 }) ≡ 1000)
+    (interval (moment 18 7 23 15 51 28) (moment 18 7 23 15 51 29) ≡ 1000)
+    × (interval (moment 23 4 30 23 59 59) (moment 23 5 1 0 0 0) ≡ 1000)
+    × (interval (moment 24 2 28 23 59 59) (moment 24 2 29 0 0 0) ≡ 1000)
+    × (interval (moment 23 2 28 23 59 59) (moment 23 3 1 0 0 0) ≡ 1000)
+    × (interval (moment 98 12 31 23 59 59) (moment 99 1 1 0 0 0) ≡ 1000)
 unfolding interval yearDays monthDays
 interval-values = (refl, refl, refl, refl, refl)

@@ -9,6 +9,7 @@ use Rattle.mbus_rules.specs.declared.Telegram.{Telegram}
 use Rattle.mbus_rules.specs.declared.Value.{Value}
 use Rattle.mbus_rules.specs.declared.Value.the-variants.{Number, Time}
 use Rattle.mbus_rules.specs.Lines.{readLine}
+use Rattle.mbus_rules.specs.Moments.{momentOf}
 use Rattle.mbus_rules.specs.Quantities.{quantityOf, volume, time}
 use Rattle.mbus_rules.specs.Telegrams.{blankEntry, shown}
 
@@ -21,9 +22,9 @@ volumeCount (Time m) = 0
 unfoldable pub millilitres : Entry → ℕ
 millilitres e = volumeCount (e .value) * 10 ^ (e .unit % 8)
 
--- the meter time of a value; a number is none
+-- the meter time of a value; a number is none, and zeros stand for it
 abbrev pub noMoment : Moment
-noMoment = record { year = 0; month = 0; day = 0; hour = 0; minute = 0; second = 0; weekday = 0 }
+noMoment = momentOf []
 
 abbrev pub momentIn : Value → Moment
 momentIn (Number d) = noMoment

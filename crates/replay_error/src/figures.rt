@@ -5,6 +5,7 @@ ghost use Rattle.bundle_rows.specs.Rows.{uncheckedCharacters};
 ghost use Rattle.replay_error.specs.Figures.{volumeCount, millilitres, momentIn, entryWith, toldBy, lineTells};
 ghost use Rattle.replay_error.specs.Shown.{cappedVolume, shownTold};
 use bundle_rows::unchecked_characters;
+use mbus_fields::moments::moment_of;
 use mbus_fields::quantities::TIME;
 use mbus_fields::quantities::VOLUME;
 use mbus_fields::quantities::quantity_of;
@@ -71,15 +72,7 @@ fn moment_in(value: Value) -> Moment
     ensures { λ r. ⌜ r ≡ momentIn value ⌝ }
 {
     match value {
-        Value::Number(_) => Moment {
-            year: 0,
-            month: 0,
-            day: 0,
-            hour: 0,
-            minute: 0,
-            second: 0,
-            weekday: 0,
-        },
+        Value::Number(_) => moment_of(b""),
         Value::Time(m) => m,
     }
 }

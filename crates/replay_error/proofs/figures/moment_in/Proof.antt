@@ -6,14 +6,28 @@ use Rattle.replay_error.proofs.figures.moment_in.Tie as tie
 enum-told : tie.Need-enum-told
 enum-told c = search needs
 
+slice-aggregate-moment-of : tie.Need-slice-aggregate-moment-of
+slice-aggregate-moment-of c = search needs
+
+moment-of-requires : tie.Need-moment-of-requires
+moment-of-requires c κs = search needs
+
 enum-known-value : tie.Need-enum-known-value
 enum-known-value c = search needs
 
 returns : tie.Need-returns
-returns c = rw (c .enum-told .given .1)
+returns c = rw (c .before .before .enum-told .given .1) (c .moment-of .ensures)
 
 returns-2 : tie.Need-returns-2
 returns-2 c = search needs
 
 pub moment-in-spec : {M : Type 1} → statement M
-moment-in-spec = tie.close (tie.spec enum-told enum-known-value returns returns-2)
+moment-in-spec =
+    tie.close
+    (tie.spec
+    enum-told
+    slice-aggregate-moment-of
+    moment-of-requires
+    enum-known-value
+    returns
+    returns-2)
