@@ -14,6 +14,7 @@ use Rattle.mbus_shape.specs.Shapes.{askedOf}
 use Rattle.exchange_steps.specs.declared.Exchange.{Exchange}
 use Rattle.exchange_steps.specs.declared.Bench.the-variants.{Busy}
 use Rattle.exchange_steps.specs.Steps.{begun, heardIn, tickIn, sendEndedOn}
+use Rattle.exchange_steps.specs.Histories.{exchangeAfter}
 use Rattle.meter_template.specs.declared.Pair.{Pair}
 use Rattle.meter_steps.specs.declared.Meter.{Meter}
 use Rattle.meter_steps.specs.Meters.{Said, silence, says, Deed, heardAt, measuredAt, shownMeterStep}
@@ -38,11 +39,6 @@ ownEnds = record {
   hears = λ m line t. heardAt m line t;
   measure = λ m v e t. measuredAt m v e t;
 }
-
--- the exchange after a step: as it then stands, and after a refusal as it stood
-abbrev pub exchangeAfter : Exchange → Answer Exchange → Exchange
-exchangeAfter x (refusal n) = x
-exchangeAfter x (reads y) = y
 
 -- the meter that a step at t hands back
 abbrev pub meterAfter : Meter → Clock → Answer Deed → Meter

@@ -32,6 +32,11 @@ answer b (sendEnded telegram t) = sendEndedOn b (viewed (reads telegram)) t
 answer b (heard line t) = heardOn b (viewed (readLine line)) t
 answer b (tick t) = tickOn b t
 
+-- An exchange after a step: as it then stands, and after a refusal as it stood.
+abbrev pub exchangeAfter : Exchange → Answer Exchange → Exchange
+exchangeAfter x (refusal n) = x
+exchangeAfter x (reads y) = y
+
 -- The exchange as it then stands; a refused step leaves it, or none, as it stood.
 abbrev pub stands : Bench → Answer Exchange → Bench
 stands b (refusal n) = b

@@ -6,7 +6,7 @@ use Rattle.mbus_rules.specs.Answers.{Answer}
 use Rattle.bench_clock.specs.declared.Clock.{Clock}
 use Rattle.exchange_steps.specs.declared.Exchange.{Exchange}
 use Rattle.exchange_steps.specs.Steps.{heardIn, shownStep, endsWell}
-use Rattle.exchange_steps.specs.Histories.{stands}
+use Rattle.exchange_steps.specs.Histories.{exchangeAfter}
 use Rattle.bundle_check.specs.Records.{Recorded}
 use Rattle.replay_counting.specs.Counting.{rowView}
 
@@ -21,7 +21,7 @@ rowHeard x k = heardIn x (rowView k) (rowClock (k .time))
 -- the exchange after it was told of rows heard; a refused step leaves it as it stood
 unfoldable pub toldRows : Exchange → List Recorded → Exchange
 toldRows x [] = x
-toldRows x (k ∷ ks) = toldRows (stands x (rowHeard x k)) ks
+toldRows x (k ∷ ks) = toldRows (exchangeAfter x (rowHeard x k)) ks
 
 -- the exchange ends well by a row
 abbrev pub endsWellBy : Exchange → Recorded → Bool

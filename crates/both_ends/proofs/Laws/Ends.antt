@@ -27,9 +27,10 @@ use Rattle.exchange_steps.specs.Steps.{begun, isWell}
 use Rattle.meter_steps.specs.declared.Core.{Core}
 use Rattle.meter_steps.specs.declared.Meter.{Meter}
 use Rattle.meter_steps.specs.declared.Mode.the-variants.{Use}
+use Rattle.exchange_steps.specs.Histories.{exchangeAfter}
 use Rattle.meter_steps.specs.Histories.{isRead}
 use Rattle.meter_steps.specs.Meters.{Said, says, Deed, modeAt, returned, addressed, instructed}
-use Rattle.both_ends.specs.Line.{Between, Happening, reachesMeter, reachesBench, ownEnds, exchangeAfter, requestLine, linesSaid, linesAnswered}
+use Rattle.both_ends.specs.Line.{Between, Happening, reachesMeter, reachesBench, ownEnds, requestLine, linesSaid, linesAnswered}
 use Rattle.both_ends.specs.Line.{meterHears, atBench, happens, happened, opening, aloneAfter, alone}
 use Rattle.both_ends.specs.Hypotheses.{timeAt, Rising, Fair}
 use Rattle.both_ends.specs.Statements.{Done, clearsAtMost, obeying, HasDone, BothTold, Entering, Leaving}

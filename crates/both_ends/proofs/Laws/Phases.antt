@@ -29,10 +29,11 @@ use Rattle.meter_steps.specs.declared.Core.{Core}
 use Rattle.meter_steps.specs.declared.Meter.{Meter}
 use Rattle.meter_steps.specs.declared.Mode.{Mode}
 use Rattle.meter_steps.specs.declared.Mode.the-variants.{Use, Verifying}
+use Rattle.exchange_steps.specs.Histories.{exchangeAfter}
 use Rattle.meter_steps.specs.Histories.{isRead}
 use Rattle.meter_steps.specs.Meters.{Deed, quiet, zeros, modeAt, withMode, returned, clearedFrom, instructed}
 use Rattle.both_ends.specs.Line.{Between, Happening, reachesMeter, lostToMeter, reachesBench, lostToBench, ticks, sendEnds, measures}
-use Rattle.both_ends.specs.Line.{ownEnds, exchangeAfter, requestLine, linesSent, clearedBy, withoutFirst, withBench, withMeter, meterHears}
+use Rattle.both_ends.specs.Line.{ownEnds, requestLine, linesSent, clearedBy, withoutFirst, withBench, withMeter, meterHears}
 use Rattle.both_ends.specs.Line.{atMeter, atBench, happens, aloneAfter}
 use Rattle.both_ends.specs.Hypotheses.{timeAt, UpToThree, FewInFirst, FewFlipped}
 use Rattle.both_ends.specs.Statements.{Done, clearsAtMost, obeying}

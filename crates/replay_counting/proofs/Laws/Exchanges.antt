@@ -18,7 +18,7 @@ use Rattle.exchange_steps.specs.declared.State.{State}
 use Rattle.exchange_steps.specs.Steps.{begun, waits, moved, failed, causeOf, afterLine, isWell, endsWell, shownStep}
 use Rattle.exchange_steps.specs.declared.Cause.the-variants.{Silent}
 use Rattle.exchange_steps.specs.declared.State.the-variants.{Well}
-use Rattle.exchange_steps.specs.Histories.{stands}
+use Rattle.exchange_steps.specs.Histories.{exchangeAfter}
 use Rattle.bundle_check.specs.Records.{Recorded}
 use Rattle.replay_counting.specs.Counting.{isSent, rowView, sendEnd, beginsFrom, answersRead, counts, onward, keptIf, countedAfter}
 use Rattle.replay_counting.proofs.Laws.Others.{counted-append, stretch-since}
@@ -37,7 +37,7 @@ module _ (x : Exchange) (w : waits (x .state) ≡ false) where
 ended-stays : (x : Exchange) → waits (x .state) ≡ false → (ks : List Recorded) → toldRows x ks ≡ x
 unfolding toldRows
 ended-stays x w [] = refl
-ended-stays x w (k ∷ ks) = ap (λ (y : Exchange). toldRows y ks) (row-refused x w k (λ a. stands x a ≡ x) refl refl) ∙ ended-stays x w ks
+ended-stays x w (k ∷ ks) = ap (λ (y : Exchange). toldRows y ks) (row-refused x w k (λ a. exchangeAfter x a ≡ x) refl refl) ∙ ended-stays x w ks
 
 ended-not-well : (x : Exchange) → waits (x .state) ≡ false → (k : Recorded) → endsWellBy x k ≡ false
 ended-not-well x w k = row-refused x w k (λ a. endsWell (shownStep a) ≡ false) refl refl
@@ -79,7 +79,7 @@ module _ (address end : ℕ) where
   still-fresh [] e = refl
   still-fresh (k ∷ since) e =
       let p = neither (beginsFrom end k) (any (beginsFrom end) since) e in
-      ap (λ (a : Answer Exchange). toldRows (stands fresh a) since) (early-refused k (p .0)) ∙ still-fresh since (p .1)
+      ap (λ (a : Answer Exchange). toldRows (exchangeAfter fresh a) since) (early-refused k (p .0)) ∙ still-fresh since (p .1)
 
   decided : (since : List Recorded) → any (beginsFrom end) since ≡ true → waits (toldRows fresh since .state) ≡ false
   unfolding toldRows any
@@ -87,10 +87,10 @@ module _ (address end : ℕ) where
   decided (k ∷ since) e =
       by-test (beginsFrom end k)
       (λ h.
-      ap (λ (a : Answer Exchange). waits (toldRows (stands fresh a) since .state)) (later-taken k h)
+      ap (λ (a : Answer Exchange). waits (toldRows (exchangeAfter fresh a) since .state)) (later-taken k h)
       ∙ ap (λ (x : Exchange). waits (x .state)) (ended-stays (after k) (decides k) since) ∙ decides k)
       (λ h.
-      ap (λ (a : Answer Exchange). waits (toldRows (stands fresh a) since .state)) (early-refused k h)
+      ap (λ (a : Answer Exchange). waits (toldRows (exchangeAfter fresh a) since .state)) (early-refused k h)
       ∙ decided since (ap (λ (t : Bool). t || any (beginsFrom end) since) (sym h) ∙ e))
 
   pub ends-well-by : (since : List Recorded) (k : Recorded) → answersRead address end since k ≡ endsWellBy (toldRows fresh since) k
