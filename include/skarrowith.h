@@ -21,7 +21,7 @@
  * uint16_t, uint32_t, int64_t and size_t is aligned as C aligns these types; bytes and records may stand at any address.
  *
  * Stack, as measured. skarrowith_bundle_list takes 28,000 bytes, skarrowith_replay_error 5,800, the simulated meter up to
- * 4,300, every other function fewer than 1,500.
+ * 4,300, every other function fewer than 1,600.
  *
  * Lines. But for skarrowith_check_line and the bodies of a bundle, which are bytes, a line is its characters: each a
  * uint16_t with the byte received in the low eight bits and the parity bit received as bit 8. Lengths and places count
