@@ -6,21 +6,20 @@ ghost use lib.ListN.{length};
 ghost use Rattle.bytes_lent.specs.Copying.{copied};
 ghost use Rattle.bytes_lent.specs.Same.{same};
 
-// The two are the same bytes.
+// The two are the same bytes. All of them are compared, which takes sixteen at a time.
 pub fn is_same(s: &[u8], t: &[u8]) -> bool
     ensures { λ r. ⌜ r ≡ same (now (s .entry)) (now (t .entry)) ⌝ }
 {
     if s.len() != t.len() {
         return false;
     }
+    let mut alike = true;
     let mut i = 0;
     while i < s.len() {
-        if s[i] != t[i] {
-            return false;
-        }
+        alike = alike & (s[i] == t[i]);
         i += 1;
     }
-    true
+    alike
 }
 
 // So many bytes from a place on reach past the end.

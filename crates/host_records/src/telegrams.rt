@@ -2,6 +2,8 @@
 ghost use mathlib.Core.Path.{_≡_};
 ghost use Prim.Native.Nat.{_+_, _≤_};
 ghost use lib.ListN.{length};
+ghost use Rattle.bytes_numbers.specs.Numbers.{bytesOf};
+ghost use Rattle.mbus_rules.specs.declared.Value.the-variants.{Time};
 ghost use Rattle.mbus_rules.specs.Telegrams.{shown};
 ghost use Rattle.host_records.specs.Telegrams.{sortOf, valueRecord, entryBytes, entriesBytes, telegramHead, telegramBytes, entryIn, entryAt, entriesIn};
 ghost use Rattle.host_records.specs.Telegrams.{headerIn, telegramIn, telegramFrom};
@@ -35,22 +37,30 @@ fn sort_of(value: Value) -> u8
     }
 }
 
+// The eight bytes of a point in time as one word.
+fn moment_word(m: Moment) -> u64
+    ensures { λ r. ⌜ bytesOf 8 r ≡ valueRecord (Time m) ⌝ }
+{
+    let date = m.year as u64 + 256 * m.month as u64 + 65536 * m.day as u64;
+    let time = m.hour as u64 + 256 * m.minute as u64 + 65536 * m.second as u64;
+    date + 16777216 * time + 281474976710656 * m.weekday as u64
+}
+
+// The eight bytes of a value as one word: they are then written at once, whichever sort it is.
+fn value_word(value: Value) -> u64
+    ensures { λ r. ⌜ bytesOf 8 r ≡ valueRecord value ⌝ }
+{
+    match value {
+        Value::Number(d) => d.count,
+        Value::Time(m) => moment_word(m),
+    }
+}
+
 fn value_bytes(value: Value) -> [u8; 8]
     ensures { λ r. ⌜ r ≡ valueRecord value ⌝ }
 {
-    match value {
-        Value::Number(d) => bytes_of(d.count),
-        Value::Time(m) => [
-            m.year,
-            m.month,
-            m.day,
-            m.hour,
-            m.minute,
-            m.second,
-            m.weekday,
-            0,
-        ],
-    }
+    let word = value_word(value);
+    bytes_of(word)
 }
 
 fn entry_bytes(e: Entry) -> [u8; 16]

@@ -1,6 +1,6 @@
 -- Laws of `specs/Same`.
 use Prim.Native.Nat.{ℕ, _+_, _≤_, _<_, zero-le}
-use mathlib.Core.Bool.{true, false, true≢false, and-eq-true-iff}
+use mathlib.Core.Bool.{Bool, true, false, _&&_, true≢false, and-eq-true-iff, and-true, and-assoc}
 use mathlib.Core.List.{List, [], _∷_, _++_}
 use mathlib.Core.Path.{_≡_, refl, sym, ap, ap₂, _∙_}
 use native.Mathlib.Numerals.{add-one}
@@ -8,7 +8,7 @@ use native.Mathlib.Omega.{arith}
 use borrow.Author.Tests.{eqb-true, eq-eqb}
 use lib.Dec.{eqb}
 use lib.ListN.{length, getD, take}
-use lib.Seq.{take-suc, take-length}
+use lib.Seq.{take-suc, take-all, length-take-le}
 use Rattle.mbus_rules.proofs.Laws.Tests.{by-test}
 use Rattle.bytes_lent.specs.Same.{same}
 
@@ -29,37 +29,39 @@ same-itself (x ∷ s) = rw (eq-eqb x x refl) (same-itself s)
 pub same-not : (s t : List ℕ) → (s ≡ t → ⊥) → same s t ≡ false
 same-not s t f = by-test (same s t) (λ e. absurd (f (same-equal s t e))) (λ e. e)
 
--- A loop over two lists of one length: alike so far.
-pub record Alike (s t : List ℕ) (i : ℕ) : Type 0 where
+same-last : (s t : List ℕ) (x y : ℕ) → length s ≡ length t → same (s ++ (x ∷ [])) (t ++ (y ∷ [])) ≡ (same s t && eqb x y)
+unfolding same
+same-last [] [] x y e = and-true (eqb x y)
+same-last [] (b ∷ t) x y e = absurd (omega (arith, e))
+same-last (a ∷ s) [] x y e = absurd (omega (arith, e))
+same-last (a ∷ s) (b ∷ t) x y e = ap (λ (r : Bool). eqb a b && r) (same-last s t x y (omega (arith, e))) ∙ sym (and-assoc (eqb a b) (same s t) (eqb x y))
+
+-- A loop over two lists of one length: whether they are alike so far.
+pub record Alike (s t : List ℕ) (i : ℕ) (alike : Bool) : Type 0 where
   pub places : length s ≡ length t
   pub inside : i ≤ length s
-  pub so : take i s ≡ take i t
+  pub so : alike ≡ same (take i s) (take i t)
 
-pub alike-none : {s t : List ℕ} → length s ≡ length t → Alike s t 0
+pub alike-none : {s t : List ℕ} → length s ≡ length t → Alike s t 0 true
+unfolding same
 alike-none e = record { places = e; inside = zero-le; so = refl }
 
-pub alike-next : {s t : List ℕ} {i : ℕ} → Alike s t i → i < length s → getD s i 0 ≡ getD t i 0 → Alike s t (i + 1)
-alike-next {s} {t} {i} g h e =
+pub alike-next : {s t : List ℕ} {i : ℕ} {alike : Bool} → Alike s t i alike → i < length s → Alike s t (i + 1) (alike && eqb (getD s i 0) (getD t i 0))
+alike-next {s} {t} {i} {alike} g h =
     let places : length s ≡ length t = g .places in
+    let level : length (take i s) ≡ length (take i t) = length-take-le i s (omega arith) ∙ sym (length-take-le i t (omega arith)) in
     record {
       places = places;
       inside = omega arith;
       so =
           rw add-one
-          (take-suc s i 0 h ∙ ap₂ (λ (l : List ℕ) (x : ℕ). l ++ (x ∷ [])) (g .so) e ∙ sym (take-suc t i 0 (omega arith)));
+          (ap (λ (r : Bool). r && eqb (getD s i 0) (getD t i 0)) (g .so)
+          ∙ sym (same-last (take i s) (take i t) (getD s i 0) (getD t i 0) level)
+          ∙ sym (ap₂ same (take-suc s i 0 h) (take-suc t i 0 (omega arith))));
     }
 
-pub alike-all : {s t : List ℕ} {i : ℕ} → Alike s t i → length s ≤ i → true ≡ same s t
-alike-all {s} {t} {i} g h =
-    let inside : i ≤ length s = g .inside in
-    let places : length s ≡ length t = g .places in
-    let e : i ≡ length s = omega arith in
-    let d : i ≡ length t = omega arith in
-    let st : s ≡ t = sym (take-length s) ∙ ap (λ (n : ℕ). take n s) (sym e) ∙ g .so ∙ ap (λ (n : ℕ). take n t) d ∙ take-length t in
-    sym (rw (← st) (same-itself s))
-
-pub differ : (s t : List ℕ) (i : ℕ) → (getD s i 0 ≡ getD t i 0 → ⊥) → false ≡ same s t
-differ s t i f = sym (same-not s t (λ e. f (ap (λ (l : List ℕ). getD l i 0) e)))
+pub alike-all : {s t : List ℕ} {i : ℕ} {alike : Bool} → Alike s t i alike → length s ≤ i → alike ≡ same s t
+alike-all {s} {t} {i} g h = g .so ∙ ap₂ same (take-all i s h) (take-all i t (omega (arith, g .places)))
 
 pub differ-length : (s t : List ℕ) → (length s ≡ length t → ⊥) → false ≡ same s t
 differ-length s t f = sym (same-not s t (λ e. f (ap length e)))

@@ -1,5 +1,5 @@
 -- Laws about the record of a telegram: what is written for a telegram is read as that telegram.
-use Prim.Native.Nat.{ℕ, _*_, _^_, _<_}
+use Prim.Native.Nat.{ℕ, _+_, _*_, _^_, _<_}
 use mathlib.Core.List.{List, [], _∷_, _++_}
 use mathlib.Core.Path.{_≡_, refl, sym, ap, ap₂, _∙_}
 use native.Mathlib.Omega.{arith}
@@ -7,14 +7,17 @@ use lib.ListN.{length, take, drop}
 use lib.Seq.{take-at, drop-at, drop-drop}
 use Rattle.mbus_rules.specs.declared.Value.{Value}
 use Rattle.mbus_rules.specs.declared.Value.the-variants.{Number, Time}
+use Rattle.mbus_rules.specs.declared.Moment.{Moment}
 use Rattle.mbus_rules.specs.declared.Entry.{Entry}
 use Rattle.mbus_rules.specs.declared.Telegram.{Telegram}
 use Rattle.mbus_rules.specs.Answers.{reads, refusal}
 use Rattle.mbus_rules.specs.Lists.{at}
+use Rattle.mbus_rules.proofs.Laws.ByteLaws.{byte-at}
 use Rattle.mbus_telegrams.proofs.Laws.Kinds.{kind-read}
 use Rattle.bytes_lent.proofs.Laws.PieceLaws.{pieces-length}
 use Rattle.bytes_numbers.specs.Numbers.{number, bytesOf}
 use Rattle.bytes_numbers.proofs.Laws.Numbers.{number-bytes}
+use Rattle.bytes_numbers.proofs.Laws.NumberLaws.{bytes-read}
 use Rattle.host_records.specs.Recorded.{noRecord}
 use Rattle.host_records.proofs.Laws.Recorded.{record-read, record-written, wrong-size}
 use Rattle.host_records.specs.Telegrams.{valueRecord, entryBytes, entriesBytes, telegramBytes, entryIn, entryAt, entriesIn, telegramIn, telegramFrom}
@@ -35,6 +38,17 @@ entries-length es = pieces-length entryBytes 16 entry-length es
 pub telegram-length : (t : Telegram) → length (t .entries) ≡ 7 → length (telegramBytes t) ≡ 136
 unfolding telegramBytes bytesOf
 telegram-length t h = omega (arith, entries-length (t .entries))
+
+-- ---- a point in time as one word
+
+pub moment-word : (m : Moment) {w : ℕ} → m .year < 256 → m .month < 256 → m .day < 256 → m .hour < 256 → m .minute < 256 → m .second < 256
+    → m .weekday < 256
+    → w ≡ m .year + 256 * m .month + 65536 * m .day + 16777216 * (m .hour + 256 * m .minute + 65536 * m .second) + 281474976710656 * m .weekday
+    → bytesOf 8 w ≡ valueRecord (Time m)
+unfolding number
+moment-word m {w} y mo d h mi s wd e =
+    let so : w ≡ number (valueRecord (Time m)) = omega (arith, e) in
+    ap (bytesOf 8) so ∙ bytes-read (valueRecord (Time m)) (byte-at (valueRecord (Time m)) (y, (mo, (d, (h, (mi, (s, (wd, (omega arith, tt)))))))))
 
 -- ---- what fits the types
 
