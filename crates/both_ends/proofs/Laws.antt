@@ -3,3 +3,4 @@ pub mod Meters
 pub mod Arrivals
 pub mod Phases
 pub mod Ends
+pub mod Turns

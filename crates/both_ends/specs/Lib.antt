@@ -2,3 +2,4 @@
 pub mod Line
 pub mod Hypotheses
 pub mod Statements
+pub mod Turning

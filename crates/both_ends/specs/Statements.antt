@@ -55,12 +55,23 @@ pub record AsObeyedOnce (ends : Ends) (m : Meter) (hs : List Happening) (request
   pub as-obeyed : withMode (w .meter .core) Use ≡ withMode (alone ends (obeying at request (alone ends m before)) behind .core) Use
   pub cleared-from-use : 1 ≤ w .clearings → modeAt at (alone ends m before .core .mode) ≡ Use
 
--- If it ends well, the meter has done what was asked. If it ends badly, the meter either has done so or is as it would be without the exchange. In
--- both cases its totals were cleared at most once, and only if it came from use.
+-- If it ends well, the meter has done what was asked.
+abbrev pub IfWell : Request → Clock → Clock → Between → Type 0
+IfWell request first end w = w .bench .state ≡ Well → HasDone request first end w
+
+-- If it ends badly, the meter either has done so or is as it would be without the exchange.
+abbrev pub IfBadly : Ends → Meter → List Happening → Request → Clock → Clock → Between → Type 0
+IfBadly ends m hs request first end w = (cause : Cause) → w .bench .state ≡ Failed cause → HasDone request first end w ⊎ AsAlone ends m hs end w
+
+-- In both cases its totals were cleared at most once,
+abbrev pub ClearedOnce : Request → Between → Type 0
+ClearedOnce request w = w .clearings ≤ clearsAtMost request
+
+-- and only if it came from use.
 pub record BothTold (ends : Ends) (m : Meter) (hs : List Happening) (request : Request) (first end : Clock) (w : Between) : Type 0 where
-  pub well : w .bench .state ≡ Well → HasDone request first end w
-  pub badly : (cause : Cause) → w .bench .state ≡ Failed cause → HasDone request first end w ⊎ AsAlone ends m hs end w
-  pub once : w .clearings ≤ clearsAtMost request
+  pub well : IfWell request first end w
+  pub badly : IfBadly ends m hs request first end w
+  pub once : ClearedOnce request w
   pub totals : ((w .clearings ≡ 0) × AsAlone ends m hs end w) ⊎ AsObeyedOnce ends m hs request w
 
 -- ---- the statements, of any two ends

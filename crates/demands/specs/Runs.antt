@@ -5,19 +5,17 @@ use mathlib.Core.Path.{_≡_, refl}
 use lib.Count.{onesIn}
 use lib.Dec.{lit<, lit≤}
 use Rattle.mbus_rules.specs.declared.Request.{Request}
-use Rattle.mbus_rules.specs.declared.Request.the-variants.{Enter, Leave}
 use Rattle.mbus_rules.specs.Lists.{any, total}
 use Rattle.mbus_rules.specs.Characters.{odd, carrier}
 use Rattle.mbus_rules.specs.Flips.{Place, flipBit, flips, repeated}
 use Rattle.mbus_rules.specs.Lines.{readBody, readLine}
-use Rattle.mbus_rules.specs.Telegrams.{ack, blank}
+use Rattle.mbus_rules.specs.Telegrams.{ack}
 use Rattle.mbus_rules.specs.Writing.{lineOf}
 use Rattle.exchange_steps.specs.declared.Cause.the-variants.{Silent}
 use Rattle.exchange_steps.specs.declared.State.{State}
 use Rattle.exchange_steps.specs.declared.State.the-variants.{Well, Failed}
 use Rattle.exchange_steps.specs.Steps.{begun}
 use Rattle.meter_template.specs.declared.Pair.{Pair}
-use Rattle.meter_steps.specs.declared.Meter.{Meter}
 use Rattle.meter_steps.specs.declared.Mode.{Mode}
 use Rattle.meter_steps.specs.declared.Mode.the-variants.{Use, Verifying}
 use Rattle.meter_steps.specs.Meters.{zeros, returned}
@@ -25,35 +23,16 @@ use Rattle.both_ends.specs.Line.{ownEnds, Between, Happening, reachesMeter, los
 use Rattle.both_ends.specs.Line.{requestLine, happens, happened, opening, alone}
 use Rattle.both_ends.specs.Hypotheses.{UpToThree}
 use Rattle.both_ends.specs.Statements.{HasDone}
+use Rattle.both_ends.specs.Turning.{pairOf, meterWith, enter90, leave5, oneFlip, atOnce}
 use Rattle.demands.specs.BothEnds.{entering}
 use Rattle.exchange_steps.specs.Values.{clockAt}
 use Rattle.demands.specs.Values.{Hold}
 
 -- ---- what the runs begin with
 
-abbrev pub pairOf : ℕ → ℕ → Pair
-pairOf v e = record { volume = v; energy = e }
-
--- a meter at address 5, with 100 and 200 in its use pair and 3 and 4 left in its verification pair
-abbrev pub meterWith : Mode → Meter
-meterWith mode = record {
-  last = clockAt 0;
-  core = record { address = 5; mode = mode; used = pairOf 100 200; verified = pairOf 3 4; template = blank };
-}
-
 -- the first send of a request ends at 0
 abbrev pub started : Request → Mode → Between
 started request mode = opening request (clockAt 0) (meterWith mode)
-
-abbrev pub enter90 : Request
-enter90 = Enter 0xFE 0x90
-
-abbrev pub leave5 : Request
-leave5 = Leave 5
-
--- one bit of a line's first character
-abbrev pub oneFlip : List Place
-oneFlip = record { character = 0; bit = 3 } ∷ []
 
 -- what is looked at in the end: the exchange's state, the meter's mode with the return then due, its verification pair, and how often that was cleared
 pub record Final : Type 0 where
@@ -93,10 +72,6 @@ abbrev pub damagedAck : List Happening
 damagedAck =
     reachesMeter (clockAt 100) [] ∷ measures 5 7 (clockAt 200) ∷ reachesBench (clockAt 300) oneFlip ∷ sendEnds (clockAt 600)
     ∷ reachesMeter (clockAt 700) [] ∷ reachesBench (clockAt 800) [] ∷ []
-
--- nothing disturbs it
-abbrev pub atOnce : List Happening
-atOnce = reachesMeter (clockAt 100) [] ∷ reachesBench (clockAt 300) [] ∷ []
 
 -- the first send is damaged, and the second comes through
 abbrev pub damagedOnce : List Happening

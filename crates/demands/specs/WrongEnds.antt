@@ -27,12 +27,13 @@ use Rattle.meter_steps.specs.declared.Mode.{Mode}
 use Rattle.meter_steps.specs.declared.Mode.the-variants.{Use, Verifying}
 use Rattle.meter_steps.specs.Meters.{Deed, says, zeros, withMode, instructedAt}
 use Rattle.meter_steps.specs.Histories.{isEnter, isLeave, instructs}
-use Rattle.both_ends.specs.Line.{Ends, ownEnds, reachesMeter, lostToMeter, reachesBench, lostToBench, ticks, sendEnds, measures}
+use Rattle.both_ends.specs.Line.{Ends, ownEnds}
 use Rattle.both_ends.specs.Line.{happens, happened, alone}
 use Rattle.both_ends.specs.Hypotheses.{UpToThree}
 use Rattle.both_ends.specs.Statements.{Entering, Leaving}
 use Rattle.exchange_steps.specs.Values.{clockAt}
-use Rattle.demands.specs.Runs.{meterWith, oneFlip, atOnce, no-flips}
+use Rattle.both_ends.specs.Turning.{meterWith, oneFlip, atOnce, enteredTwice, damagedThrice, damagedAtOnce, ackedSecond, lostAndTicked}
+use Rattle.demands.specs.Runs.{no-flips}
 
 -- ---- wrong programs
 
@@ -116,9 +117,7 @@ methodIn (Verifying s since) = s
 pub repeated-enter-clears : Entering clearsAgain → ⊥
 unfolding happened happens readLine readBody any odd onesIn total carrier lineOf flips flipBit
 repeated-enter-clears e =
-    let r = e 0xFE 0x90 (lit< tt) refl (clockAt 0) (clockAt 700) (lit< tt) (meterWith Use) (lit≤ tt)
-    (reachesMeter (clockAt 100) [] ∷ measures 5 7 (clockAt 200) ∷ lostToBench ∷ ticks (clockAt 451) ∷ sendEnds (clockAt 600)
-    ∷ reachesMeter (clockAt 700) [] ∷ [])
+    let r = e 0xFE 0x90 (lit< tt) refl (clockAt 0) (clockAt 700) (lit< tt) (meterWith Use) (lit≤ tt) enteredTwice
     (lit≤ tt, (lit≤ tt, (lit≤ tt, (lit≤ tt, (lit≤ tt, (lit≤ tt, lit≤ tt))))))
     (no-flips _, (tt, (tt, (tt, (tt, (no-flips _, tt)))))) in
     omega (arith, r .once)
@@ -128,8 +127,7 @@ pub damaged-line-puts-off : Entering putsOffReturn → ⊥
 unfolding happened happens alone readLine readBody any odd onesIn total carrier lineOf flips flipBit methodIn
 damaged-line-puts-off e =
     let r = e 0xFE 0x90 (lit< tt) refl (clockAt 4319000) (clockAt 4320551) (lit< tt) (meterWith (Verifying 0x91 (clockAt 0))) (lit≤ tt)
-    (reachesMeter (clockAt 4319100) oneFlip ∷ ticks (clockAt 4319451) ∷ sendEnds (clockAt 4319600) ∷ reachesMeter (clockAt 4319700) oneFlip
-    ∷ ticks (clockAt 4320051) ∷ sendEnds (clockAt 4320100) ∷ reachesMeter (clockAt 4320150) oneFlip ∷ ticks (clockAt 4320551) ∷ [])
+    damagedThrice
     (lit≤ tt, (lit≤ tt, (lit≤ tt, (lit≤ tt, (lit≤ tt, (lit≤ tt, (lit≤ tt, (lit≤ tt, lit≤ tt))))))))
     (one-flip _ refl, (tt, (tt, (one-flip _ refl, (tt, (tt, (one-flip _ refl, (tt, tt)))))))) in
     ⊎-elim (λ done. omega (arith, ap methodIn (done .1))) (λ alike. omega (arith, ap (λ (c : Core). methodIn (c .mode)) alike)) (r .badly Silent refl)
@@ -138,8 +136,7 @@ damaged-line-puts-off e =
 pub damaged-line-acked : Entering acksEveryLine → ⊥
 unfolding happened happens readLine readBody any odd onesIn total carrier lineOf flips flipBit methodIn
 damaged-line-acked e =
-    let r = e 0xFE 0x90 (lit< tt) refl (clockAt 0) (clockAt 300) (lit< tt) (meterWith Use) (lit≤ tt)
-    (reachesMeter (clockAt 100) oneFlip ∷ reachesBench (clockAt 300) [] ∷ [])
+    let r = e 0xFE 0x90 (lit< tt) refl (clockAt 0) (clockAt 300) (lit< tt) (meterWith Use) (lit≤ tt) damagedAtOnce
     (lit≤ tt, (lit≤ tt, lit≤ tt)) (one-flip _ refl, (tt, tt)) in
     omega (arith, ap methodIn (r .well refl .1))
 
@@ -155,15 +152,14 @@ leave-without-leaving e =
 pub resend-changes-request : Entering changesRequest → ⊥
 unfolding happened happens readLine readBody any odd onesIn total carrier lineOf flips flipBit methodIn
 resend-changes-request e =
-    let r = e 0xFE 0x90 (lit< tt) refl (clockAt 0) (clockAt 800) (lit< tt) (meterWith Use) (lit≤ tt)
-    (lostToMeter ∷ ticks (clockAt 451) ∷ sendEnds (clockAt 600) ∷ reachesMeter (clockAt 700) [] ∷ reachesBench (clockAt 800) [] ∷ [])
-    (lit≤ tt, (lit≤ tt, (lit≤ tt, (lit≤ tt, (lit≤ tt, lit≤ tt))))) (tt, (tt, (tt, (no-flips _, (tt, tt))))) in
+    let r = e 0xFE 0x90 (lit< tt) refl (clockAt 0) (clockAt 800) (lit< tt) (meterWith Use) (lit≤ tt) ackedSecond
+    (lit≤ tt, (lit≤ tt, (lit≤ tt, (lit≤ tt, (lit≤ tt, lit≤ tt))))) (no-flips _, (tt, (tt, (no-flips _, (tt, tt))))) in
     omega (arith, ap methodIn (r .well refl .1))
 
 -- the line is lost, and a tick ends the exchange well
 pub tick-ends-well : Entering endsWellByTick → ⊥
 unfolding happened happens readLine readBody any odd onesIn total carrier lineOf flips flipBit methodIn
 tick-ends-well e =
-    let r = e 0xFE 0x90 (lit< tt) refl (clockAt 0) (clockAt 451) (lit< tt) (meterWith Use) (lit≤ tt) (lostToMeter ∷ ticks (clockAt 451) ∷ [])
+    let r = e 0xFE 0x90 (lit< tt) refl (clockAt 0) (clockAt 451) (lit< tt) (meterWith Use) (lit≤ tt) lostAndTicked
     (lit≤ tt, (lit≤ tt, lit≤ tt)) (tt, (tt, tt)) in
     omega (arith, ap methodIn (r .well refl .1))
