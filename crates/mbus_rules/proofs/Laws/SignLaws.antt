@@ -19,7 +19,7 @@ use Rattle.mbus_rules.proofs.Laws.DigitLaws.{packed-digits, digits-belo
 
 -- ---- the mark, taken off and put on
 
-size-length : (b : List ℕ) → length (sizeBytes b) ≡ length b
+pub size-length : (b : List ℕ) → length (sizeBytes b) ≡ length b
 unfolding sizeBytes
 size-length [] = refl
 size-length (b ∷ []) = refl
