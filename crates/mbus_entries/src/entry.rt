@@ -1,10 +1,11 @@
 // One entry: what 11 to 14 say of it.
 ghost use mathlib.Core.Path.{_≡_};
 ghost use Rattle.mbus_entries.specs.Trying.{Long, valued, valuedShown, tried, triedShown, nextOf};
-use mbus_fields::digits::packed_of;
+use mbus_fields::digits::signed_of;
 use mbus_fields::moments::timed_of;
 use mbus_fields::quantities::UNIT_OF_TIME;
 use mbus_fields::quantities::goes_with;
+use mbus_fields::quantities::may_fall;
 use mbus_fields::quantities::quantity_of;
 use mbus_rules::Decimal;
 use mbus_rules::Entry;
@@ -35,8 +36,9 @@ fn value_of(unit: u8, value: &[u8]) -> Valued
         let moment = time.moment;
         return Valued::Holds(Value::Time(moment));
     }
-    let number = packed_of(value);
-    if number.wrong {
+    let number = signed_of(value);
+    let may = may_fall(unit);
+    if number.wrong | (number.falls & !may) {
         return Valued::Refused(12);
     }
     Valued::Holds(Value::Number(Decimal {

@@ -36,8 +36,11 @@ abbrev pub mayFall : ℕ → Bool
 mayFall unit = eqb (quantityOf unit) inlet || eqb (quantityOf unit) outlet || eqb (quantityOf unit) flow
 
 -- 12: a BCD digit over 9 in an entry; minus zero, or a minus where none is allowed (02, 2026-07)
+abbrev pub wrongNumber : ℕ → List ℕ → Bool
+wrongNumber unit b = not (isTime unit) && (wrongSigned b || minus b && not (mayFall unit))
+
 abbrev pub wrongDigit : List ℕ → Bool
-wrongDigit s = not (isTime (at s 1)) && (wrongSigned (valueBytes s) || minus (valueBytes s) && not (mayFall (at s 1)))
+wrongDigit s = wrongNumber (at s 1) (valueBytes s)
 
 -- 13: time rule broken
 abbrev pub wrongTime : List ℕ → Bool

@@ -15,7 +15,7 @@ use Rattle.mbus_rules.specs.Lists.{at, any}
 use Rattle.mbus_rules.specs.Answers.{reads, refuse}
 use Rattle.mbus_rules.specs.Moments.{dateExists, timeExists, weekdayExists, wrongMoment}
 use Rattle.mbus_rules.specs.Quantities.{quantityOf, widthOf, paired, isTime, isPacked, unknown, between}
-use Rattle.mbus_rules.specs.Entries.{mayFall, valueBytes, entryWidth, valueOf, entryOf, unfit, wrongDigit, wrongTime, seen, missing, readEntries}
+use Rattle.mbus_rules.specs.Entries.{mayFall, valueBytes, entryWidth, valueOf, entryOf, unfit, wrongNumber, wrongDigit, wrongTime, seen, missing, readEntries}
 use Rattle.mbus_rules.specs.Writing.{bytesOfValue, bytesOfEntry, bytesOfEntries, wrongValue, wrongEntry, repeats}
 use Rattle.mbus_rules.proofs.Laws.TestLaws.{none, refusals, all-passed, all-passing}
 use Rattle.mbus_rules.proofs.Laws.Tests.{by-test, neither, passed}
@@ -33,8 +33,7 @@ record ValueRead (w u : ℕ) (b : List ℕ) : Type 0 where
   pub back : bytesOfValue w (valueOf u b) ≡ b
   pub right : wrongValue w u (valueOf u b) ≡ false
 
-value-read : (w u : ℕ) (b : List ℕ) → length b ≡ w → (isTime u ≡ true → w ≡ 6) → Bytes b
-    → (not (isTime u) && (wrongSigned b || minus b && not (mayFall u))) ≡ false
+value-read : (w u : ℕ) (b : List ℕ) → length b ≡ w → (isTime u ≡ true → w ≡ 6) → Bytes b → wrongNumber u b ≡ false
     → (isTime u && wrongMoment b) ≡ false → ValueRead w u b
 value-read w u b e six bytes digits moment = by-test (isTime u) timed counted
   where
@@ -58,7 +57,7 @@ value-read w u b e six bytes digits moment = by-test (isTime u) timed counted
 record ValueWritten (w u : ℕ) (v : Value) : Type 0 where
   pub width : length (bytesOfValue w v) ≡ w
   pub back : valueOf u (bytesOfValue w v) ≡ v
-  pub digits : (not (isTime u) && (wrongSigned (bytesOfValue w v) || minus (bytesOfValue w v) && not (mayFall u))) ≡ false
+  pub digits : wrongNumber u (bytesOfValue w v) ≡ false
   pub moment : (isTime u && wrongMoment (bytesOfValue w v)) ≡ false
   pub bytes : Bytes (bytesOfValue w v)
 

@@ -1,4 +1,4 @@
--- `mbus_entries::entry::value_of` meets its contract: a point in time, or packed digits. Assumes nothing.
+-- `mbus_entries::entry::value_of` meets its contract: a point in time, or packed digits with a sign. Assumes nothing.
 use borrow.Author.Needs.{needs}
 use mathlib.Core.Path.{ap, _∙_}
 use native.Mathlib.Omega.{arith}
@@ -6,7 +6,7 @@ use borrow.Author.Tests.{eq-eqb}
 use denote.Ref.{now}
 use lib.ListN.{length-take}
 use lib.Seq.{take-all}
-use Rattle.mbus_fields.specs.Fields.{packedOf, timedOf}
+use Rattle.mbus_fields.specs.Fields.{signedIn, timedOf}
 use Rattle.mbus_entries.proofs.Laws.TryLaws.{time-refused, time-holds, number-refused, number-holds}
 use Rattle.mbus_entries.proofs.entry.value_of.Statement.{statement}
 use Rattle.mbus_entries.proofs.entry.value_of.Tie as tie
@@ -30,18 +30,25 @@ returns-2 c = time-holds (now (c .before .before .before .before .before .before
     (take-all 6 (now (c .before .before .before .before .before .before .args .value))
     (c .before .before .before .before .before .before .pre .most))) (c .before .if2 .left)
 
-packed-of-requires : tie.Need-packed-of-requires
-packed-of-requires c κs = search needs
+signed-of-requires : tie.Need-signed-of-requires
+signed-of-requires c κs = search needs
+
+may-fall-requires : tie.Need-may-fall-requires
+may-fall-requires c κs = search needs
 
 returns-3 : tie.Need-returns-3
-returns-3 c = number-refused (now (c .before .before .before .before .args .value)) (c .before .before .if1 .left)
-    (c .before .packed-of .ensures ∙ ap packedOf
-    (take-all 8 (now (c .before .before .before .before .args .value)) (omega (arith, c .before .before .before .before .pre .most)))) (c .if3 .taken)
+returns-3 c =
+    let value = now (c .before .before .before .before .before .before .before .args .value) in
+    number-refused value (c .before .before .before .before .before .if1 .left)
+    (c .before .before .before .before .signed-of .ensures ∙ ap signedIn (take-all 8 value (omega (arith, c .before .before .before .before .before .before .before .pre .most))))
+    (c .before .before .before .may-fall .ensures) (c .if3 .taken)
 
 returns-4 : tie.Need-returns-4
-returns-4 c = number-holds (now (c .before .before .before .before .args .value)) (c .before .before .if1 .left)
-    (c .before .packed-of .ensures ∙ ap packedOf
-    (take-all 8 (now (c .before .before .before .before .args .value)) (omega (arith, c .before .before .before .before .pre .most)))) (c .if3 .left)
+returns-4 c =
+    let value = now (c .before .before .before .before .before .before .before .before .args .value) in
+    number-holds value (c .before .before .before .before .before .before .if1 .left)
+    (c .before .before .before .before .before .signed-of .ensures ∙ ap signedIn (take-all 8 value (omega (arith, c .before .before .before .before .before .before .before .before .pre .most))))
+    (c .before .before .before .before .may-fall .ensures) (c .before .if3 .left)
 
 pub value-of-spec : {M : Type 1} → statement M
 value-of-spec =
@@ -51,6 +58,7 @@ value-of-spec =
     timed-of-requires
     returns
     returns-2
-    packed-of-requires
+    signed-of-requires
+    may-fall-requires
     returns-3
     returns-4)
