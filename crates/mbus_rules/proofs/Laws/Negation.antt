@@ -1,9 +1,9 @@
 -- A size with a minus sign in the signed type of 64 bits: of a size below 2 ^ 63 the signed reading is the size, and the type holds its negation.
 use Prim.Native.Nat.{ℕ, zero, suc, _+_, _-_, _<_, _^_, zero-le}
 use mathlib.Core.Bool.{true, false, not, true≢false, false≢true}
-use mathlib.Core.Path.{_≡_, refl, _∙_, ap}
+use mathlib.Core.Path.{_≡_, refl, sym, _∙_, ap}
 use native.Mathlib.Omega.{arith}
-use borrow.Author.Tests.{le-ltb}
+use borrow.Author.Tests.{lt-ltb, le-ltb, ne-eqb}
 use lib.IntN.{ℤ, pos, negsuc, negℤ, natAbs, _+ℤ_, _-ℤ_, +ℤ-idl, +ℤ-one, negℤ-negℤ}
 use lib.Dec.{T, ltb}
 use lib.Signed.{ltZ, nonNeg}
@@ -68,5 +68,5 @@ above-cast (negsuc n) f e = absurd (true≢false e)
 -- its size is not 0 where it is not zero
 pub size-used : (z : ℤ) → ltb 0 (natAbs z) ≡ not (isZero z)
 size-used (pos zero) = refl
-size-used (pos (suc n)) = refl
-size-used (negsuc n) = refl
+size-used (pos (suc n)) = lt-ltb 0 (suc n) (omega arith) ∙ sym (ap not (ne-eqb (suc n) 0 (λ z. absurd (omega arith))))
+size-used (negsuc n) = lt-ltb 0 (suc n) (omega arith)

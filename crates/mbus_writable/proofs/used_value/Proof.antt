@@ -14,7 +14,7 @@ enum-told : tie.Need-enum-told
 enum-told c = search needs
 
 returns : tie.Need-returns
-returns c = ?
+returns c = rw (c .before .before .before .value .given .1, c .size-of .ensures) (size-used _)
 
 returns-2 : tie.Need-returns-2
 returns-2 c = search needs

@@ -2,6 +2,9 @@
 use borrow.Author.Needs.{needs}
 use mathlib.Core.Path.{ap, _∙_}
 use native.Mathlib.Omega.{arith}
+use Prim.Native.Nat.{ℕ}
+use mir.Syntax.{w64}
+use mir.ValLaws.{toZ-ofZ}
 use borrow.Author.Tests.{eq-eqb}
 use denote.Ref.{now}
 use lib.ListN.{length-take}
@@ -46,9 +49,11 @@ returns-3 c =
 returns-4 : tie.Need-returns-4
 returns-4 c =
     let value = now (c .before .before .before .before .before .before .before .before .args .value) in
-    number-holds value (c .before .before .before .before .before .before .if1 .left)
-    (c .before .before .before .before .before .signed-of .ensures ∙ ap signedIn (take-all 8 value (omega (arith, c .before .before .before .before .before .before .before .before .pre .most))))
-    (c .before .before .before .before .may-fall .ensures) (c .before .if3 .left)
+    let x = c .before .before .before .before .before .signed-of in
+    let g = c .struct-told .given in
+    rw (toZ-ofZ w64 (x .result .count) (record { sfits = omega arith }))
+    (number-holds value (c .before .before .before .before .before .before .if1 .left) (x .ensures ∙ ap signedIn (take-all 8 value (omega (arith, c .before .before .before .before .before .before .before .before .pre .most))))
+    (c .before .before .before .before .may-fall .ensures) (c .before .if3 .left))
 
 pub value-of-spec : {M : Type 1} → statement M
 value-of-spec =
