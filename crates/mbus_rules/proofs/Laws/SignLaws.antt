@@ -42,7 +42,7 @@ unfolding minus
 minus-cons b [] h = absurd (omega arith)
 minus-cons b (c ∷ t) h = refl
 
-marked-cons : (b : ℕ) (t : List ℕ) → 1 ≤ length t → marked (b ∷ t) ≡ b ∷ marked t
+pub marked-cons : (b : ℕ) (t : List ℕ) → 1 ≤ length t → marked (b ∷ t) ≡ b ∷ marked t
 unfolding marked
 marked-cons b [] h = absurd (omega arith)
 marked-cons b (c ∷ t) h = refl

@@ -1,35 +1,40 @@
+-- `mbus_writable::is_long` meets its contract: each sign by its law. Assumes nothing.
 use borrow.Author.Needs.{needs}
+use mathlib.Core.Path.{sym, ap, _∙_}
+use lib.IntN.{natAbs}
+use mir.Syntax.{w64}
+use mir.ValLaws.{toZ-ofZ}
+use Rattle.mbus_rules.specs.Signs.{belowZero}
+use Rattle.mbus_rules.specs.Quantities.{widthOf}
+use Rattle.mbus_writable.proofs.Laws.Sizes.{limit-some, long-below, long-above}
 use Rattle.mbus_writable.proofs.is_long.Statement.{statement}
 use Rattle.mbus_writable.proofs.is_long.Tie as tie
-use Rattle.mbus_writable.proofs.is_long.Reads as reads
-use Rattle.mbus_writable.proofs.is_long.Lts as lts
-use Rattle.mbus_fields.proofs.digits.is_below_zero.Reads as is-below-zero-reads
-use Rattle.mbus_fields.proofs.digits.size_of.Reads as size-of-reads
-use Rattle.mbus_writable.proofs.limit_of.Reads as limit-of-reads
 
--- src/lib.rt:117:9
 limit-of-requires : tie.Need-limit-of-requires
 limit-of-requires c κs = search needs
 
--- src/lib.rt:118:9
 size-of-requires : tie.Need-size-of-requires
 size-of-requires c κs = search needs
 
--- src/lib.rt:119:9
 is-below-zero-requires : tie.Need-is-below-zero-requires
 is-below-zero-requires c κs = search needs
 
--- src/lib.rt:121:17
 sub-result : tie.Need-sub-result
-sub-result c = ?
+sub-result c = rw (c .before .before .before .limit-of .ensures) (limit-some (widthOf (c .before .before .before .before .args .structure)))
 
--- src/lib.rt:121:9
 returns : tie.Need-returns
-returns c = ?
+returns c =
+    let a = c .before .before .before .before .args in
+    let t = toZ-ofZ w64 (a .count) (c .before .before .before .before .fits .count) in
+    rw (c .before .before .before .limit-of .ensures, c .before .before .size-of .ensures ∙ ap natAbs t)
+    (long-below (widthOf (a .structure)) (a .count) (sym (c .before .is-below-zero .ensures ∙ ap belowZero t) ∙ c .if1 .taken))
 
--- src/lib.rt:114:1
 returns-2 : tie.Need-returns-2
-returns-2 c = ?
+returns-2 c =
+    let a = c .before .before .before .before .args in
+    let t = toZ-ofZ w64 (a .count) (c .before .before .before .before .fits .count) in
+    rw (c .before .before .before .limit-of .ensures, c .before .before .size-of .ensures ∙ ap natAbs t)
+    (long-above (widthOf (a .structure)) (a .count) (sym (c .before .is-below-zero .ensures ∙ ap belowZero t) ∙ c .if1 .left))
 
 pub is-long-spec : {M : Type 1} → statement M
 is-long-spec =
