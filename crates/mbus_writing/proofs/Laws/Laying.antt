@@ -136,7 +136,9 @@ sign-wide zero (negsuc n) f e = absurd (none-fits n (ltb-true (10 * suc n) (100 
 
 number-cut : (w : ℕ) (z : ℤ) → w ≤ 6 → fitsSigned w z ≡ true → take w (signedSix w z) ≡ signedBytes w z
 number-cut w (pos n) h f = packed-cut 6 w n h
-number-cut (suc w) (negsuc n) h f = mark-cut 6 w (suc n) h (ltb-true (10 * suc n) (100 ^ suc w) f)
+number-cut (suc w) (negsuc n) h f =
+    let last : suc w - 1 ≡ w = omega arith in
+    rw last (mark-cut 6 w (suc n) h (ltb-true (10 * suc n) (100 ^ suc w) f))
 number-cut zero (negsuc n) h f = absurd (not-suc-le-zero (sign-wide zero (negsuc n) f refl))
 
 value-cut : (w u : ℕ) (v : Value) → w ≤ 6 → (isTime u ≡ true → w ≡ 6) → wrongValue w u v ≡ false
