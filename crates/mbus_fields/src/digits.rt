@@ -9,7 +9,7 @@ ghost use lib.ListN.{take};
 ghost use Rattle.mbus_rules.specs.Lists.{any};
 ghost use Rattle.mbus_rules.specs.Digits.{overNine, digitsOf};
 ghost use Rattle.bytes_numbers.specs.Numbers.{number, bytesOf};
-ghost use Rattle.mbus_fields.specs.Fields.{packedOf, markOf, signOn, signedIn};
+ghost use Rattle.mbus_fields.specs.Fields.{packedOf, markOf, signOn, markedIn, signedIn};
 use bytes_numbers::number_at;
 
 // What packed digits hold: a digit is over nine, and the number that they are.
@@ -168,13 +168,24 @@ fn sign_on(falls: bool, size: Packed) -> Signed
     }
 }
 
-// What the first eight bytes hold as digits with a sign. F stands in the highest place where the word reaches its mark.
+// What a word with a digit over nine holds as digits with a sign: F stands in the highest place where it reaches the mark.
+fn marked_of(word: u64, mark: u64) -> Signed
+    ensures { λ r. ⌜ r ≡ markedIn mark word ⌝ }
+{
+    let falls = mark <= word;
+    let size = packed_in(unmarked(word, mark));
+    sign_on(falls, size)
+}
+
+// What the first eight bytes hold as digits with a sign. A sign is looked for only where a digit is over nine.
 pub fn signed_of(value: &[u8]) -> Signed
     ensures { λ r. ⌜ r ≡ signedIn (take 8 (now (value .entry))) ⌝ }
 {
     let word = word_of(value);
-    let mark = mark_of(value.len());
-    let falls = mark <= word;
-    let size = packed_in(unmarked(word, mark));
-    sign_on(falls, size)
+    let plain = packed_in(word);
+    if plain.wrong {
+        let mark = mark_of(value.len());
+        return marked_of(word, mark);
+    }
+    sign_on(false, plain)
 }

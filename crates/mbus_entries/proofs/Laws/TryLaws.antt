@@ -39,15 +39,16 @@ module _ {unit : ℕ} (b : List ℕ) {x : Timed} (u : unit ≡ 0x6D) (e : x ≡ 
   pub time-holds : x .wrong ≡ false → Valued.Holds (Time (x .moment)) ≡ valuedShown (valued unit b)
   time-holds w = rw (eq-eqb unit 0x6D u, rule-time w, ap (λ (y : Timed). y .moment) e)
 
-module _ {unit : ℕ} (b : List ℕ) {x : Signed} {may : Bool} (u : unit ≡ 0x6D → ⊥) (e : x ≡ signedIn b) (f : may ≡ mayFall unit) where
-  rule-number : {t : Bool} → (x .wrong || x .falls && not may) ≡ t → wrongNumber unit b ≡ t
-  rule-number w = rw (ne-eqb unit 0x6D u) (rw (e, f) at w)
+module _ {unit : ℕ} (b : List ℕ) {x : Signed} {w : Bool} (u : unit ≡ 0x6D → ⊥) (e : x ≡ signedIn b)
+    (f : w ≡ (x .wrong || x .falls && not (mayFall unit))) where
+  rule-number : wrongNumber unit b ≡ w
+  rule-number = rw (ne-eqb unit 0x6D u) (sym (f ∙ ap (λ (y : Signed). y .wrong || y .falls && not (mayFall unit)) e))
 
-  pub number-refused : (x .wrong || x .falls && not may) ≡ true → Valued.Refused 12 ≡ valuedShown (valued unit b)
-  number-refused w = rw (rule-number w)
+  pub number-refused : w ≡ true → Valued.Refused 12 ≡ valuedShown (valued unit b)
+  number-refused t = rw (rule-number, t)
 
-  pub number-holds : (x .wrong || x .falls && not may) ≡ false → Valued.Holds (Number (record { count = x .count })) ≡ valuedShown (valued unit b)
-  number-holds w = rw (rule-number w, ne-eqb unit 0x6D u, ap (λ (y : Signed). y .count) e)
+  pub number-holds : w ≡ false → Valued.Holds (Number (record { count = x .count })) ≡ valuedShown (valued unit b)
+  number-holds t = rw (rule-number, t, ne-eqb unit 0x6D u, ap (λ (y : Signed). y .count) e)
 
 value-refused : {n : ℕ} (a : Answer Value) → valuedShown a ≡ Valued.Refused n → a ≡ refusal n
 value-refused (refusal m) e = cc

@@ -11,10 +11,11 @@ use Rattle.mbus_rules.specs.Bytes.{Bytes}
 use Rattle.mbus_rules.specs.Digits.{digitsOf}
 use Rattle.mbus_rules.specs.Signs.{minus, sizeBytes}
 use Rattle.mbus_rules.proofs.Laws.Tests.{by-test}
-use Rattle.mbus_rules.proofs.Laws.SignLaws.{size-length}
+use Rattle.mbus_rules.proofs.Laws.SignLaws.{size-length, plain}
 use Rattle.bytes_numbers.specs.Numbers.{number, bytesOf}
 use Rattle.bytes_numbers.proofs.Laws.Numbers.{length-bytes}
-use Rattle.mbus_fields.specs.Fields.{packedOf, markOf, signOn, signedIn}
+use Rattle.mbus_fields.specs.declared.digits.Packed.{Packed}
+use Rattle.mbus_fields.specs.Fields.{packedOf, markOf, signOn, markedIn, signedIn}
 use Rattle.mbus_fields.proofs.Laws.GatherLaws.{word-whole, digits-most}
 use Rattle.mbus_fields.proofs.Laws.JoinLaws.{bytes-word}
 
@@ -67,11 +68,17 @@ word-small n =
     omega arith
 
 -- the sign, and the digits of the word without its mark, are what the bytes hold
-pub signed-word : (b : List ℕ) → Bytes b → length b ≤ 8
-    → signOn (leb (markOf (length b)) (number b))
-    (packedOf (bytesOf 8 (cond (leb (markOf (length b)) (number b)) (number b - markOf (length b)) (number b)))) ≡ signedIn b
+pub signed-word : (b : List ℕ) → Bytes b → length b ≤ 8 → markedIn (markOf (length b)) (number b) ≡ signedIn b
 signed-word b h l =
     by-test (minus b)
     (λ m. rw (sym (minus-word b h) ∙ m, m, mark-off b h m)
     (ap (signOn true) (word-whole (sizeBytes b) (bytes-size b h) (omega (arith, size-length b)))))
     (λ m. rw (sym (minus-word b h) ∙ m, m) (ap (signOn false) (word-whole b h l)))
+
+-- and where no digit of the word is over nine, its digits alone
+pub plain-word : (b : List ℕ) → Bytes b → length b ≤ 8 → {p : Packed} → p ≡ packedOf (bytesOf 8 (number b)) → p .wrong ≡ false
+    → signOn false p ≡ signedIn b
+plain-word b h l e w =
+    let so = e ∙ word-whole b h l in
+    let m : minus b ≡ false = plain b (sym (ap (λ (x : Packed). x .wrong) so) ∙ w) in
+    rw m (ap (signOn false) so)

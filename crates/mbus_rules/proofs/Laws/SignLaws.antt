@@ -89,7 +89,7 @@ minus-marked (suc k) n h =
     ap minus (marked-cons x t (omega arith)) ∙ minus-cons x (marked t) (omega (arith, marked-length t)) ∙ minus-marked k (n / 100) (omega arith)
 
 -- plain digits have no mark
-plain : (b : List ℕ) → any overNine b ≡ false → minus b ≡ false
+pub plain : (b : List ℕ) → any overNine b ≡ false → minus b ≡ false
 unfolding any minus
 plain [] e = refl
 plain (b ∷ []) e =

@@ -48,9 +48,11 @@ eight-on w h a b c d = omega arith
 returns-9 : tie.Need-returns-9
 unfolding markOf
 returns-9 c =
-    let w = c .before .before .before .before .before .before .before .before .args .width in
-    let low = four-on w (c .before .before .before .if5 .left) (c .before .before .if6 .left) (c .before .before .before .before .before .before .if2 .left) (c .before .before .before .before .before .if3 .left) in
-    sym (ap markOf (eight-on w low (c .before .before .before .before .before .before .before .if1 .left) (c .before .if7 .left) (c .before .before .before .before .if4 .left) (c .if8 .left)))
+    let back4 = c .before .before .before .before in
+    let back6 = back4 .before .before in
+    let w = back6 .before .before .args .width in
+    let low = four-on w (c .before .before .before .if5 .left) (c .before .before .if6 .left) (back6 .if2 .left) (back4 .before .if3 .left) in
+    sym (ap markOf (eight-on w low (back6 .before .if1 .left) (c .before .if7 .left) (back4 .if4 .left) (c .if8 .left)))
 
 pub mark-of-spec : {M : Type 1} → statement M
 mark-of-spec =
