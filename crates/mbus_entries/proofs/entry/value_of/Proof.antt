@@ -47,12 +47,19 @@ number-told value most e = e ∙ ap signedIn (take-all 8 value (omega arith))
 
 returns-3 : tie.Need-returns-3
 returns-3 c =
-    let start = c .before .before .before .before .before .before in
-    let told = number-told (now (start .args .value)) (start .pre .most) (c .before .before .before .signed-of .ensures) in
-    number-refused (now (start .args .value)) (c .before .before .before .before .if1 .left) told (c .before .before .wrong-number .ensures) (c .if3 .taken)
+    let start = c .before .before .before .before .before in
+    let told = number-told (now (start .args .value)) (start .pre .most) (c .before .before .signed-of .ensures) in
+    number-refused (now (start .args .value)) (c .before .before .before .if1 .left) told (c .before .wrong-number .ensures) (c .if3 .taken)
 
 returns-4 : tie.Need-returns-4
-returns-4 c = ?
+returns-4 c =
+    let start = c .before .before .before .before .before .before in
+    let x = c .before .before .before .signed-of in
+    let g = c .struct-told .given in
+    let told = number-told (now (start .args .value)) (start .pre .most) (x .ensures) in
+    rw (toZ-ofZ w64 (x .result .count) (record { sfits = omega arith }))
+    (number-holds (now (start .args .value)) (c .before .before .before .before .if1 .left) told (c .before .before .wrong-number .ensures)
+    (c .before .if3 .left))
 
 pub value-of-spec : {M : Type 1} → statement M
 value-of-spec =
