@@ -15,7 +15,8 @@ use Rattle.mbus_rules.specs.Lists.{at, any}
 use Rattle.mbus_rules.specs.Answers.{reads, refuse}
 use Rattle.mbus_rules.specs.Moments.{dateExists, timeExists, weekdayExists, wrongMoment}
 use Rattle.mbus_rules.specs.Quantities.{quantityOf, widthOf, paired, isTime, isPacked, unknown, between}
-use Rattle.mbus_rules.specs.Entries.{mayFall, valueBytes, entryWidth, valueOf, entryOf, unfit, wrongNumber, wrongDigit, wrongTime, seen, missing, readEntries}
+use Rattle.mbus_rules.specs.Entries.{mayFall, valueBytes, entryWidth, valueOf, entryOf, unfit, wrongNumber, wrongDigit, wrongTime}
+use Rattle.mbus_rules.specs.Entries.{seen, missing, readEntries}
 use Rattle.mbus_rules.specs.Writing.{bytesOfValue, bytesOfEntry, bytesOfEntries, wrongValue, wrongEntry, repeats}
 use Rattle.mbus_rules.proofs.Laws.TestLaws.{none, refusals, all-passed, all-passing}
 use Rattle.mbus_rules.proofs.Laws.Tests.{by-test, neither, passed}

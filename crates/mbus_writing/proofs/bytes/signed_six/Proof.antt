@@ -13,11 +13,15 @@ use Rattle.mbus_writing.proofs.bytes.signed_six.Statement.{statement}
 use Rattle.mbus_writing.proofs.bytes.signed_six.Tie as tie
 
 below : (c : tie.Then1) → belowZero (c .before .before .before .before .args .count) ≡ true
-below c = sym (c .before .before .before .is-below-zero .ensures ∙ ap belowZero (toZ-ofZ w64 (c .before .before .before .before .args .count) (c .before .before .before .before .fits .count)))
-    ∙ c .if1 .taken
+below c =
+    let start = c .before .before .before .before in
+    let t = toZ-ofZ w64 (start .args .count) (start .fits .count) in
+    sym (c .before .before .before .is-below-zero .ensures ∙ ap belowZero t) ∙ c .if1 .taken
 
 wide : (c : tie.Then1) → 1 ≤ c .before .before .before .before .args .width
-wide c = sign-wide (c .before .before .before .before .args .width) (c .before .before .before .before .args .count) (c .before .before .before .before .pre .0) (below c)
+wide c =
+    let start = c .before .before .before .before in
+    sign-wide (start .args .width) (start .args .count) (start .pre .0) (below c)
 
 is-below-zero-requires : tie.Need-is-below-zero-requires
 is-below-zero-requires c κs = search needs

@@ -36,7 +36,8 @@ returns : tie.Need-returns
 returns c =
     let v = c .before .before .before .value .given in
     let g = c .before .struct-told .given in
-    rw (v .1) (c .signed-six .ensures ∙ ap (signedSix (c .before .before .before .before .before .args .width)) (toZ-ofZ w64 (v .0 .0 .count) (record { sfits = omega arith })))
+    let t = toZ-ofZ w64 (v .0 .0 .count) (record { sfits = omega arith }) in
+    rw (v .1) (c .signed-six .ensures ∙ ap (signedSix (c .before .before .before .before .before .args .width)) t)
 
 returns-2 : tie.Need-returns-2
 returns-2 c = rw (c .before .before .value2 .given .1) (c .moment-bytes .ensures)
