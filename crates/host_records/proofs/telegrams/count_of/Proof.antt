@@ -15,14 +15,16 @@ returns : tie.Need-returns
 returns c =
     toZ-ofZ w64 (pos (c .before .args .word)) (record { sfits = c .if1 .taken }) ∙ count-above (c .before .args .word) (c .if1 .taken)
 
-sub-result : tie.Need-sub-result
-sub-result c = search needs
+sub-below-one : tie.Need-sub-below-one
+sub-below-one c = search needs
 
 below-one-requires : tie.Need-below-one-requires
 below-one-requires c κs = search needs
 
 returns-2 : tie.Need-returns-2
-returns-2 c = c .below-one .ensures ∙ count-below (c .before .before .args .word) (c .before .if1 .left)
+returns-2 c =
+    toZ-ofZ w64 (c .below-one .result) (record { sfits = c .below-one .ok }) ∙ c .below-one .ensures
+    ∙ count-below (c .before .before .args .word) (c .before .if1 .left)
 
 pub count-of-spec : {M : Type 1} → statement M
-count-of-spec = tie.close (tie.spec cast-result returns sub-result below-one-requires returns-2)
+count-of-spec = tie.close (tie.spec cast-result returns sub-below-one below-one-requires returns-2)
