@@ -1,8 +1,10 @@
 -- 02, 2026-07: minus signs in packed digits. F in the highest place means minus, the remaining digits are the size.
-use Prim.Native.Nat.{ℕ, suc, _*_, _<_, _^_}
-use mathlib.Core.Bool.{Bool, true, false, not, _&&_, _||_, or-true}
+use Prim.Native.Nat.{ℕ, _/_, _%_, _≤_}
+use mathlib.Core.Bool.{true, false, not, _&&_, _||_, or-true, and-false, true≢false}
 use mathlib.Core.List.{List, [], _∷_}
-use mathlib.Core.Path.{_≡_, refl, sym, ap, _∙_}
+use mathlib.Core.Path.{_≡_, refl, sym, ap₂, _∙_}
+use native.Mathlib.Omega.{arith}
+use borrow.Author.Tests.{not-false, ltb-false, le-ltb}
 use lib.Count.{onesIn}
 use lib.Dec.{ltb, eqb}
 use lib.IntN.{ℤ, pos, negsuc, negℤ}
@@ -56,7 +58,7 @@ chilled-is-read = (refl, refl, refl, refl)
 
 -- a number is read from its bytes, and no other bytes of that width are read as it
 pub one-form : (a b : List ℕ) → Bytes a → Bytes b → wrongSigned a ≡ false → wrongSigned b ≡ false → length a ≡ length b → signedOf a ≡ signedOf b → a ≡ b
-one-form a b ha hb wa wb l e = sym (signed-read a ha wa .back) ∙ rw (l, e) (signed-read b hb wb .back)
+one-form a b ha hb wa wb l e = sym (signed-read a ha wa .back) ∙ ap₂ signedBytes l e ∙ signed-read b hb wb .back
 
 -- every number whose size leaves room for its sign has such bytes
 pub every-number : (w : ℕ) (z : ℤ) → fitsSigned w z ≡ true
@@ -87,16 +89,34 @@ sign-allowed unit b t w m =
 
 -- .. and there it is
 pub sign-read : (unit : ℕ) (b : List ℕ) → mayFall unit ≡ true → wrongSigned b ≡ false → wrongNumber unit b ≡ false
-sign-read unit b f w = ?
+sign-read unit b f w = rw (w, f, and-false (minus b), and-false (not (isTime unit)))
 
--- F, or A to E, in a lower place is refused whatever the quantity
+-- F, or A to E, in a lower place is refused whatever the quantity; A to E in the highest place are, as F is where it is no minus
+sizes-kept : (b : List ℕ) → any overNine b ≡ false → any overNine (sizeBytes b) ≡ false
+unfolding any sizeBytes
+sizes-kept [] e = refl
+sizes-kept (b ∷ []) e =
+    let h = neither (overNine b) false e in
+    let k = neither (ltb 9 (b % 16)) (ltb 9 (b / 16)) (h .0) in
+    let low : b % 16 % 16 ≤ 9 = omega (arith, ltb-false 9 (b % 16) (k .0)) in
+    rw (le-ltb 9 (b % 16 % 16) low, le-ltb 9 (b % 16 / 16) (omega arith))
+sizes-kept (b ∷ c ∷ s) e =
+    let h = neither (overNine b) (any overNine (c ∷ s)) e in
+    ap₂ _||_ (h .0) (sizes-kept (c ∷ s) (h .1))
+
 pub lower-place : (unit : ℕ) (b : List ℕ) → isTime unit ≡ false → any overNine (sizeBytes b) ≡ true → wrongNumber unit b ≡ true
-lower-place unit b t o = ?
+lower-place unit b t o =
+    by-test (minus b) (λ m. rw (t, m, o))
+    (λ m. by-test (any overNine b) (λ d. rw (t, m, d)) (λ d. absurd (true≢false (sym o ∙ sizes-kept b d))))
 
--- in a meter number it is 10
+pub highest-place : (unit : ℕ) (b : List ℕ) → isTime unit ≡ false → minus b ≡ false → any overNine b ≡ true → wrongNumber unit b ≡ true
+highest-place unit b t m o = rw (t, m, o)
+
+-- in a meter number F is 10, as any digit over 9
 pub number-without-sign : (part : List ℕ) → any overNine (take 4 part) ≡ true → wrongHeader part ≡ true
-number-without-sign part o = ?
+unfolding wrongHeader
+number-without-sign part o = rw o
 
--- a number below zero cannot be written for any other quantity, nor one whose size does not fit beside its sign
+-- a number below zero cannot be written for any other quantity
 pub not-written : (w unit n : ℕ) → mayFall unit ≡ false → wrongValue w unit (Number (record { count = negsuc n })) ≡ true
-not-written w unit n f = ?
+not-written w unit n f = rw (f, or-true (isTime unit || not (fitsSigned w (negsuc n))))
