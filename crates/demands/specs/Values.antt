@@ -105,9 +105,11 @@ most =
     )
 
 pub shortest-data : (readLine (lineOf fewest) ≡ reads fewest) × (at (map byteOf (lineOf fewest)) 1 ≡ 39)
-unfolding readLine readBody readEntries any total odd carrier onesIn lineOf wrongHeader digitsOf minus wrongMoment quantityOf widthOf paired packed bytesOfEntries
+unfolding readLine readBody readEntries any total odd carrier onesIn lineOf wrongHeader digitsOf minus wrongMoment quantityOf widthOf paired packed
+    bytesOfEntries
 shortest-data = (refl, refl)
 
 pub longest-data : (readLine (lineOf most) ≡ reads most) × (at (map byteOf (lineOf most)) 1 ≡ 71) × (length (lineOf most) ≡ 77)
-unfolding readLine readBody readEntries any total odd carrier onesIn lineOf wrongHeader digitsOf minus wrongMoment quantityOf widthOf paired packed bytesOfEntries
+unfolding readLine readBody readEntries any total odd carrier onesIn lineOf wrongHeader digitsOf minus wrongMoment quantityOf widthOf paired packed
+    bytesOfEntries
 longest-data = (refl, refl, refl)
