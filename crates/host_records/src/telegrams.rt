@@ -15,8 +15,6 @@ use bytes_lent::lay;
 use bytes_numbers::bytes_of;
 use bytes_numbers::number_at;
 use bytes_numbers::put_record;
-use mbus_fields::digits::is_below_zero;
-use mbus_fields::digits::size_of;
 use mbus_rules::Decimal;
 use mbus_rules::Entry;
 use mbus_rules::Header;
@@ -51,16 +49,14 @@ fn moment_word(m: Moment) -> u64
     date + 16777216 * time + 281474976710656 * m.weekday as u64
 }
 
-// A number in two's complement.
+// A number in two's complement. Written so that the back end sees that nothing is to be done.
 fn word_of(count: i64) -> u64
     ensures { λ r. ⌜ r ≡ ofZ w64 count ⌝ }
 {
-    let size = size_of(count);
-    let below = is_below_zero(count);
-    if below {
-        return 0xFFFF_FFFF_FFFF_FFFF - (size - 1);
+    if count < 0 {
+        return 0xFFFF_FFFF_FFFF_FFFF - (-(count + 1)) as u64;
     }
-    size
+    count as u64
 }
 
 // The number that is so much below -1.

@@ -13,14 +13,6 @@ use Rattle.mbus_rules.proofs.Laws.Negation.{negation-fits, negated}
 
 -- ---- from a number to its word, by its size
 
-pub some-size : (z : ℤ) → belowZero z ≡ true → 1 ≤ natAbs z
-some-size (pos n) e = absurd (false≢true e)
-some-size (negsuc n) e = omega arith
-
-pub size-small : (z : ℤ) → SFits w64 z → natAbs z ≤ 2 ^ 63
-size-small (pos n) f = let h : n < 2 ^ 63 = f .sfits in omega arith
-size-small (negsuc n) f = let h : n < 2 ^ 63 = f .sfits in omega arith
-
 pub word-below : (z : ℤ) → belowZero z ≡ true → 0xFFFFFFFFFFFFFFFF - (natAbs z - 1) ≡ ofZ w64 z
 word-below (pos n) e = absurd (false≢true e)
 word-below (negsuc n) e = omega arith

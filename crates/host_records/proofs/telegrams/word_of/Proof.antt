@@ -1,53 +1,66 @@
--- `host_records::telegrams::word_of` meets its contract: below zero, what is left of the words by the size. Assumes nothing.
+-- `host_records::telegrams::word_of` meets its contract: below zero, one more than the number is turned round. Assumes nothing.
 use borrow.Author.Needs.{needs}
-use Prim.Native.Nat.{ℕ, _≤_, _^_}
-use mathlib.Core.Bool.{Bool}
-use mathlib.Core.Path.{_≡_, sym, ap, _∙_}
 use native.Mathlib.Omega.{arith}
-use lib.IntN.{natAbs}
+use Prim.Native.Nat.{_-_}
+use mathlib.Core.Path.{_≡_, sym, ap, _∙_}
+use mathlib.Core.Bool.{true}
+use lib.IntN.{pos, natAbs}
 use mir.Syntax.{w64}
 use mir.ValLaws.{toZ-ofZ}
 use Rattle.mbus_rules.specs.Signs.{belowZero}
-use Rattle.host_records.proofs.Laws.TwosComplement.{some-size, size-small, word-below, word-above}
+use Rattle.mbus_rules.proofs.Laws.Negation.{negation-fits, under, risen, turned, below-tested, above-cast}
+use Rattle.host_records.proofs.Laws.TwosComplement.{word-below, word-above}
 use Rattle.host_records.proofs.telegrams.word_of.Statement.{statement}
 use Rattle.host_records.proofs.telegrams.word_of.Tie as tie
 
-size-of-requires : tie.Need-size-of-requires
-size-of-requires c κs = search needs
+below : (c : tie.Then1) → belowZero (c .before .args .count) ≡ true
+below c = sym (below-tested (c .before .args .count) (c .before .fits .count)) ∙ c .if1 .taken
 
-is-below-zero-requires : tie.Need-is-below-zero-requires
-is-below-zero-requires c κs = search needs
-
--- what both calls told
-size : (c : tie.After-is-below-zero) → c .before .size-of .result ≡ natAbs (c .before .before .args .count)
-size c = c .before .size-of .ensures ∙ ap natAbs (toZ-ofZ w64 (c .before .before .args .count) (c .before .before .fits .count))
-
-below : (c : tie.After-is-below-zero) {t : Bool} → c .is-below-zero .result ≡ t → belowZero (c .before .before .args .count) ≡ t
-below c e =
-    sym (c .is-below-zero .ensures ∙ ap belowZero (toZ-ofZ w64 (c .before .before .args .count) (c .before .before .fits .count))) ∙ e
+add-result : tie.Need-add-result
+add-result c = rw (risen (c .before .args .count) (c .before .fits .count) (below c))
+    (negation-fits (natAbs (c .before .args .count) - 1) (under (c .before .args .count) (c .before .fits .count) (below c)))
 
 sub-result : tie.Need-sub-result
-sub-result c = rw (size (c .before)) (some-size (c .before .before .before .args .count) (below (c .before) (c .if1 .taken)))
+sub-result c = rw (turned (c .before .args .count) (c .before .fits .count) (below c))
+    (record { sfits = under (c .before .args .count) (c .before .fits .count) (below c) })
+
+cast-result : tie.Need-cast-result
+cast-result c =
+    let u = under (c .before .args .count) (c .before .fits .count) (below c) in
+    rw (
+      turned (c .before .args .count) (c .before .fits .count) (below c),
+      toZ-ofZ w64 (pos (natAbs (c .before .args .count) - 1)) (record { sfits = u }),
+    ) (tt, omega arith)
 
 sub-result-2 : tie.Need-sub-result-2
 sub-result-2 c =
-    let z = c .before .before .before .args .count in
-    let few : natAbs z ≤ 2 ^ 63 = size-small z (c .before .before .before .fits .count) in
-    rw (size (c .before)) (omega arith)
+    let u = under (c .before .args .count) (c .before .fits .count) (below c) in
+    rw (
+      turned (c .before .args .count) (c .before .fits .count) (below c),
+      toZ-ofZ w64 (pos (natAbs (c .before .args .count) - 1)) (record { sfits = u }),
+    ) (omega arith)
 
 returns : tie.Need-returns
-returns c = rw (size (c .before)) (word-below (c .before .before .before .args .count) (below (c .before) (c .if1 .taken)))
+returns c =
+    let u = under (c .before .args .count) (c .before .fits .count) (below c) in
+    rw (
+      turned (c .before .args .count) (c .before .fits .count) (below c),
+      toZ-ofZ w64 (pos (natAbs (c .before .args .count) - 1)) (record { sfits = u }),
+    ) (word-below (c .before .args .count) (below c))
+
+cast-result-2 : tie.Need-cast-result-2
+cast-result-2 c =
+    let z = c .before .args .count in
+    let f = c .before .fits .count in
+    rw (toZ-ofZ w64 z f) (above-cast z f (sym (below-tested z f) ∙ c .if1 .left))
 
 returns-2 : tie.Need-returns-2
-returns-2 c = size (c .before) ∙ word-above (c .before .before .before .args .count) (below (c .before) (c .if1 .left))
+returns-2 c =
+    let z = c .before .args .count in
+    let f = c .before .fits .count in
+    ap natAbs (toZ-ofZ w64 z f) ∙ word-above z (sym (below-tested z f) ∙ c .if1 .left)
 
 pub word-of-spec : {M : Type 1} → statement M
 word-of-spec =
     tie.close
-    (tie.spec
-    size-of-requires
-    is-below-zero-requires
-    sub-result
-    sub-result-2
-    returns
-    returns-2)
+    (tie.spec add-result sub-result cast-result sub-result-2 returns cast-result-2 returns-2)
