@@ -17,7 +17,7 @@ static int take_entry(struct second_entry *e)
     e->structure = (unsigned)structure;
     e->unit = (unsigned)unit;
     if (take_name("number"))
-        return take(&e->count, UINT64_MAX);
+        return take_signed(&e->count);
     e->is_time = take_name("time");
     if (!e->is_time)
         return 0;
@@ -75,7 +75,7 @@ static void say_entry(const struct second_entry *e)
 {
     printf(" %02X %02X", e->structure, e->unit);
     if (!e->is_time) {
-        printf(" number +%" PRIu64, e->count);
+        printf(" number %+" PRId64, e->count);
         return;
     }
     printf(" time");

@@ -6,10 +6,14 @@
 
 enum { LETTERS_MOST = 12 };
 
+/* The size of the smallest number below zero that there is a word for. */
+#define SIZE_MOST (UINT64_C(1) << 63)
+
 struct word {
     int is_name;
     char name[LETTERS_MOST + 1];
-    uint64_t number;
+    int is_negative;
+    uint64_t number; /* of a number below zero its size */
 };
 
 static struct word words[WORDS_MOST];
@@ -24,27 +28,34 @@ static int add_digit(uint64_t *number, unsigned base, unsigned digit)
     return 1;
 }
 
-static int number_from(const char *text, size_t n, uint64_t *number)
+/* So many digits at most, and one at least. */
+static int digits_from(const char *text, size_t n, unsigned base, size_t most, uint64_t *number)
 {
     static const char digits[] = "0123456789ABCDEF";
-    unsigned base = text[0] == '+' ? 10 : 16;
-    size_t first = text[0] == '+', most = text[0] == '+' ? 20 : 16;
     *number = 0;
-    if (n == first || n - first > most)
-        return 0;
-    for (size_t i = first; i < n; i++) {
+    for (size_t i = 0; i < n; i++) {
         const char *found = memchr(digits, text[i], base);
         if (found == NULL || !add_digit(number, base, (unsigned)(found - digits)))
             return 0;
     }
-    return 1;
+    return n > 0 && n <= most;
+}
+
+static int number_from(const char *text, size_t n, struct word *w)
+{
+    w->is_negative = text[0] == '-';
+    if (w->is_negative)
+        return digits_from(text + 1, n - 1, 10, 19, &w->number) && w->number > 0 && w->number <= SIZE_MOST;
+    if (text[0] == '+')
+        return digits_from(text + 1, n - 1, 10, 20, &w->number);
+    return digits_from(text, n, 16, 16, &w->number);
 }
 
 static int word_from(const char *text, size_t n, struct word *w)
 {
     w->is_name = n > 0 && text[0] >= 'a' && text[0] <= 'z';
     if (!w->is_name)
-        return n > 0 && number_from(text, n, &w->number);
+        return n > 0 && number_from(text, n, w);
     if (n > LETTERS_MOST)
         return 0;
     for (size_t i = 0; i < n; i++)
@@ -76,9 +87,18 @@ int take_line(int c)
 
 int take(uint64_t *number, uint64_t most)
 {
-    if (at >= words_count || words[at].is_name || words[at].number > most)
+    if (at >= words_count || words[at].is_name || words[at].is_negative || words[at].number > most)
         return 0;
     *number = words[at++].number;
+    return 1;
+}
+
+int take_signed(int64_t *number)
+{
+    if (at >= words_count || words[at].is_name || (!words[at].is_negative && words[at].number >= SIZE_MOST))
+        return 0;
+    *number = words[at].is_negative ? -(int64_t)(words[at].number - 1) - 1 : (int64_t)words[at].number;
+    at++;
     return 1;
 }
 

@@ -12,6 +12,7 @@ int take_line(int c);
 
 /* Each takes what comes next and says whether the case is good so far. */
 int take(uint64_t *number, uint64_t most);
+int take_signed(int64_t *number);
 int take_name(const char *name);
 int take_characters(uint16_t *characters, size_t *n);
 

@@ -120,12 +120,12 @@ static void say_live(const uint16_t *optical, size_t count)
     printf("live interface: %s, with a line of %lu characters\n", live == SKARROWITH_MBUS ? "M-Bus" : "optical", (unsigned long)found.length);
 }
 
-/* The volume that an answer gives, a count of its last digit. */
+/* The volume that an answer gives, a count of its last digit; no volume is below 0. */
 static uint64_t volume_in(const struct skarrowith_telegram *answer)
 {
     for (uint64_t i = 0; i < answer->count; i++)
         if (answer->entries[i].unit >= 0x10 && answer->entries[i].unit <= 0x17)
-            return answer->entries[i].value.count;
+            return (uint64_t)answer->entries[i].value.count;
     return 0;
 }
 

@@ -130,6 +130,80 @@ static void expect_one_pass(void)
     }
 }
 
+static void hold(const char *name, int64_t got, int64_t right_one)
+{
+    if (got != right_one) {
+        printf("test: %s: %lld, and not %lld\n", name, (long long)got, (long long)right_one);
+        wrong = 1;
+    } else {
+        right++;
+    }
+}
+
+/* Where 000's data line has its meter number and the values of energy and inlet, and which entries these are. */
+enum { NUMBER_AT = 7, ENERGY_AT = 21, INLET_AT = 33, ENERGY = 0, INLET = 2 };
+
+/* 000's data line with other bytes somewhere, its sum right. */
+static void changed_example(uint16_t line[SECOND_EXAMPLE], size_t at, const uint8_t *value, size_t n)
+{
+    uint8_t b[SECOND_EXAMPLE];
+    memcpy(b, second_example, sizeof b);
+    memcpy(b + at, value, n);
+    b[SECOND_EXAMPLE - 2] = (uint8_t)second_sum(b + 4, SECOND_EXAMPLE - 6);
+    for (size_t i = 0; i < SECOND_EXAMPLE; i++)
+        line[i] = second_character(b[i]);
+}
+
+/* A minus in the highest place, read and written back. */
+static void expect_minus(const char *name, const uint8_t value[3], int64_t count)
+{
+    uint16_t line[SECOND_EXAMPLE], out[SKARROWITH_LINE_MOST];
+    struct skarrowith_telegram t;
+    changed_example(line, INLET_AT, value, 3);
+    hold(name, skarrowith_read_line(line, SECOND_EXAMPLE, &t, sizeof t), SKARROWITH_DATA);
+    hold(name, t.entries[INLET].value.count, count);
+    hold(name, skarrowith_write_line(&t, sizeof t, out, SKARROWITH_LINE_MOST), SECOND_EXAMPLE);
+    hold(name, memcmp(line, out, sizeof line), 0);
+}
+
+/* A line that is refused because of these bytes in it. */
+static void expect_no_minus(const char *name, size_t at, const uint8_t *value, size_t n, uint32_t refusal)
+{
+    uint16_t line[SECOND_EXAMPLE];
+    struct skarrowith_telegram t;
+    changed_example(line, at, value, n);
+    hold(name, skarrowith_read_line(line, SECOND_EXAMPLE, &t, sizeof t), SKARROWITH_REFUSED + refusal);
+}
+
+/* 000's data with another count in one of its entries: the characters written, or the refusal. */
+static void expect_count(const char *name, size_t entry, int64_t count, uint32_t answer)
+{
+    uint16_t line[SECOND_EXAMPLE], out[SKARROWITH_LINE_MOST];
+    struct skarrowith_telegram t;
+    second_example_line(line);
+    skarrowith_read_line(line, SECOND_EXAMPLE, &t, sizeof t);
+    t.entries[entry].value.count = count;
+    hold(name, skarrowith_write_line(&t, sizeof t, out, SKARROWITH_LINE_MOST), answer);
+}
+
+static void expect_signs(void)
+{
+    expect_minus("an inlet of -1.50", (const uint8_t[]){0x50, 0x01, 0xF0}, -150);
+    expect_minus("the smallest inlet", (const uint8_t[]){0x99, 0x99, 0xF9}, -99999);
+    expect_minus("the largest inlet", (const uint8_t[]){0x99, 0x99, 0x99}, 999999);
+    expect_no_minus("minus zero", INLET_AT, (const uint8_t[]){0x00, 0x00, 0xF0}, 3, 12);
+    expect_no_minus("F in the second digit", INLET_AT, (const uint8_t[]){0x50, 0x01, 0x0F}, 3, 12);
+    expect_no_minus("A in the highest place", INLET_AT, (const uint8_t[]){0x50, 0x01, 0xA0}, 3, 12);
+    expect_no_minus("an energy with a minus", ENERGY_AT, (const uint8_t[]){0x45, 0x23, 0x71, 0xF6}, 4, 12);
+    expect_no_minus("a meter number with a minus", NUMBER_AT, (const uint8_t[]){0x78, 0x56, 0x34, 0xF2}, 4, 10);
+    expect_count("-99999 beside a sign", INLET, -99999, SECOND_EXAMPLE);
+    expect_count("-100000 beside a sign", INLET, -100000, SKARROWITH_REFUSED + 20);
+    expect_count("the smallest of 64 bits", INLET, INT64_MIN, SKARROWITH_REFUSED + 20);
+    expect_count("the largest of 64 bits", INLET, INT64_MAX, SKARROWITH_REFUSED + 20);
+    expect_count("an energy of 0", ENERGY, 0, SECOND_EXAMPLE);
+    expect_count("an energy below 0", ENERGY, -1, SKARROWITH_REFUSED + 20);
+}
+
 int main(void)
 {
     static const struct value values[] = {
@@ -161,6 +235,7 @@ int main(void)
     data[2 * 16] ^= 1;
     expect("the same, five flips", SKARROWITH_REFUSED + 3, data, sizeof data);
     expect_both_interfaces();
+    expect_signs();
     expect_one_pass();
     expect_words(1, 260, 17, "the line is empty");
     expect_words(8, 14, 14, "checksum wrong");

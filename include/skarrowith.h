@@ -105,12 +105,19 @@ struct skarrowith_moment {
 #define SKARROWITH_DECIMAL 0
 #define SKARROWITH_TIME 1
 
-/* An entry: its value is a count of the last digit, whose power of ten the unit byte gives, or a point in time. */
+/*
+ * An entry: its value is a count of the last digit, whose power of ten the unit byte gives, or a point in time.
+ *
+ * A count may be below 0 for inlet, outlet and flow, and for nothing else. The sign takes the place of the highest digit (a
+ * line has F there), so that one below 0 has a digit fewer than the structure: -150 is the inlet -1.50 degrees in unit 59, and
+ * structure 0A holds -999 to 9999. A sign elsewhere, a minus zero and a digit over 9 are refused by 12 when a line is read; a
+ * count that no line has is refused by 20 when it is written.
+ */
 struct skarrowith_entry {
     uint8_t structure, unit, sort;
     uint8_t zero[5];
     union {
-        uint64_t count;
+        int64_t count;
         struct skarrowith_moment time;
     } value;
 };

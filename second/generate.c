@@ -50,7 +50,7 @@ static void print_entry(const struct second_entry *e)
 {
     printf(" %02X %02X", e->structure, e->unit);
     if (!e->is_time)
-        printf(" number +%" PRIu64, e->count);
+        printf(" number %+" PRId64, e->count);
     else
         printf(" time +%u +%u +%u +%u +%u +%u +%u", e->moment[0], e->moment[1], e->moment[2], e->moment[3], e->moment[4],
                e->moment[5], e->moment[6]);
@@ -317,10 +317,10 @@ static void generate_bad(const char *name)
 {
     static const char *const ends[] = {" ",  "  1E5", " 1e5", " +",    " +1A", " +18446744073709551616",
                                        " x", " 1E5 ", " -1",  "\t1E5", "\r",   " 00000000000000000",
-                                       "a",  " 10000", " +5", ""};
+                                       "a",  " 10000", " +5", "", " -0", " -", " -1A", " -9223372036854775809"};
     printf("%s", once_in(8) ? " " : "");
     printf("%s", once_in(8) ? "1E5" : name);
-    printf("%s", ends[below(16)]);
+    printf("%s", ends[below(20)]);
     if (once_in(40))
         for (int i = 0; i < 4096; i++)
             printf(" 0");

@@ -3,24 +3,26 @@
 
 #include <string.h>
 
-/* What a unit byte measures, and whether data must have it. */
+/* What a unit byte measures, whether data must have it, and whether it may be below zero (2026-07). */
 static const struct {
     unsigned first, last;
-    int required;
+    int required, may_be_negative;
 } quantities[] = {
-    {0x00, 0x07, 1}, /* energy */
-    {0x10, 0x17, 1}, /* volume */
-    {0x28, 0x2F, 0}, /* power */
-    {0x38, 0x3F, 0}, /* flow */
-    {0x58, 0x5B, 1}, /* inlet */
-    {0x5C, 0x5F, 1}, /* outlet */
-    {0x6D, 0x6D, 1}, /* time */
+    {0x00, 0x07, 1, 0}, /* energy */
+    {0x10, 0x17, 1, 0}, /* volume */
+    {0x28, 0x2F, 0, 0}, /* power */
+    {0x38, 0x3F, 0, 1}, /* flow */
+    {0x58, 0x5B, 1, 1}, /* inlet */
+    {0x5C, 0x5F, 1, 1}, /* outlet */
+    {0x6D, 0x6D, 1, 0}, /* time */
 };
 
 enum {
     QUANTITIES = sizeof quantities / sizeof quantities[0],
     HEADER_AT = 3,
     ENTRIES_AT = 15,
+    WIDEST = 6,
+    MINUS = 0xF,
     FRAME_MOST = 255 + 6 /* no longer line gets past refusal 5 */
 };
 
@@ -85,6 +87,25 @@ static int64_t digits(const unsigned char *bytes, size_t n)
     return value;
 }
 
+/*
+ * The value of an entry: digits, or F in the highest place and the size in the places below (2026-07). Says whether it has
+ * one; 0 has no minus.
+ */
+static int value_from(const unsigned char *b, size_t width, int may_be_negative, int64_t *value)
+{
+    unsigned char size[WIDEST];
+    int is_negative = b[width - 1] >> 4 == MINUS;
+    memcpy(size, b, width);
+    if (is_negative)
+        size[width - 1] &= 0x0F;
+    *value = digits(size, width);
+    if (*value < 0 || (is_negative && (*value == 0 || !may_be_negative)))
+        return 0;
+    if (is_negative)
+        *value = -*value;
+    return 1;
+}
+
 static unsigned days_in(unsigned year, unsigned month)
 {
     static const unsigned char days[] = {31, 28, 31, 30, 31, 30, 31, 31, 30, 31, 30, 31};
@@ -111,7 +132,8 @@ static int entry_from(const unsigned char *b, size_t left, struct second_entry *
     if (left < 2)
         return 11;
     size_t width = width_of(b[0]);
-    if (width == 0 || quantity_of(b[1]) < 0 || (b[0] == 0x06) != (b[1] == 0x6D) || left - 2 < width)
+    int quantity = quantity_of(b[1]);
+    if (width == 0 || quantity < 0 || (b[0] == 0x06) != (b[1] == 0x6D) || left - 2 < width)
         return 11;
     e->structure = b[0];
     e->unit = b[1];
@@ -119,9 +141,7 @@ static int entry_from(const unsigned char *b, size_t left, struct second_entry *
     *taken = 2 + width;
     if (e->is_time)
         return moment_from(b + 2, e->moment) ? 0 : 13;
-    int64_t value = digits(b + 2, width);
-    e->count = value < 0 ? 0 : (uint64_t)value;
-    return value < 0 ? 12 : 0;
+    return value_from(b + 2, width, quantities[quantity].may_be_negative, &e->count) ? 0 : 12;
 }
 
 static int entries_from(const unsigned char *body, size_t n, struct second_telegram *t)
@@ -258,6 +278,15 @@ static size_t put_digits(unsigned char *b, size_t width, uint64_t value)
     return width;
 }
 
+/* Where the size does not leave the highest place free, the sign goes over a digit: what is read back is another number. */
+static size_t put_value(unsigned char *b, size_t width, int64_t value)
+{
+    put_digits(b, width, value < 0 ? 0 - (uint64_t)value : (uint64_t)value);
+    if (value < 0 && width > 0)
+        b[width - 1] = (unsigned char)((b[width - 1] & 0x0F) | MINUS << 4);
+    return width;
+}
+
 static size_t put_entry(unsigned char *b, const struct second_entry *e)
 {
     const unsigned *m = e->moment;
@@ -265,7 +294,7 @@ static size_t put_entry(unsigned char *b, const struct second_entry *e)
     b[0] = (unsigned char)e->structure;
     b[1] = (unsigned char)e->unit;
     if (e->structure != 0x06)
-        return 2 + put_digits(b + 2, width, e->count);
+        return 2 + put_value(b + 2, width, e->count);
     b[2] = (unsigned char)m[5];
     b[3] = (unsigned char)m[4];
     b[4] = (unsigned char)((m[3] & 31) | m[6] << 5);

@@ -12,7 +12,7 @@ enum { SECOND_ENTRIES = 7, SECOND_PARTS = 7, SECOND_LONGEST = 77 };
 struct second_entry {
     unsigned structure, unit;
     int is_time;
-    uint64_t count;                /* where it is no time */
+    int64_t count;                 /* where it is no time */
     unsigned moment[SECOND_PARTS]; /* year, month, day, hour, minute, second, weekday, where it is one */
 };
 

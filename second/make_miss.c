@@ -83,17 +83,20 @@ static void miss_header(struct bytes *body)
 {
     unsigned char *h = body->b + 3;
     unsigned at, maker;
-    switch (below(4)) {
-    case 0:
+    switch (below(5)) {
+    case 0: /* a minus */
+        h[3] |= 0xF0;
+        break;
+    case 1:
         at = below(4);
         h[at] = (unsigned char)(once_in(2) ? (h[at] & 0x0F) | between(10, 15) << 4 : (h[at] & 0xF0) | between(10, 15));
         break;
-    case 1:
+    case 2:
         maker = once_in(3) ? some_maker(1, 26) | 0x8000 : once_in(2) ? some_maker(0, 27) : some_maker(26, 31);
         h[4] = (unsigned char)maker;
         h[5] = (unsigned char)(maker >> 8);
         break;
-    case 2:
+    case 3:
         h[7] = (unsigned char)below(once_in(2) ? 16 : 256);
         break;
     default:
@@ -140,6 +143,30 @@ static void miss_moment(unsigned char *v)
         break;
     default:
         v[5] = (unsigned char)one_bit(0, 7);
+    }
+}
+
+/* 12: digits over nine, and minus signs; those in the highest place are right for some quantities. */
+static void miss_digits(unsigned char *v, size_t width)
+{
+    size_t at = below((unsigned)width);
+    switch (below(5)) {
+    case 0:
+        v[at] = (unsigned char)(once_in(2) ? between(0xA0, 0xFF) : v[at] | between(10, 15));
+        break;
+    case 1: /* minus zero */
+        memset(v, 0, width);
+        v[width - 1] = 0xF0;
+        break;
+    case 2: /* a minus in a lower place, beside one in the highest or not */
+        v[width - 1] |= once_in(2) ? 0xF0 : 0;
+        v[at] |= at == width - 1 || once_in(2) ? 0x0F : 0xF0;
+        break;
+    case 3: /* no minus in the highest place */
+        v[width - 1] = (unsigned char)((v[width - 1] & 0x0F) | between(10, 14) << 4);
+        break;
+    default: /* a minus for any quantity */
+        v[width - 1] |= 0xF0;
     }
 }
 
@@ -196,8 +223,7 @@ static void miss_body(struct bytes *body, unsigned refusal)
         miss_entry(body);
         break;
     case 12:
-        at += 2 + below(digits_of(body->b[at]) / 2);
-        body->b[at] = (unsigned char)(once_in(2) ? between(0xA0, 0xFF) : body->b[at] | between(10, 15));
+        miss_digits(body->b + at + 2, digits_of(body->b[at]) / 2);
         break;
     case 13:
         miss_moment(body->b + entry_place(body, 1) + 2);

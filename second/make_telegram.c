@@ -18,17 +18,28 @@ static uint64_t power_of_ten(unsigned n)
     return power;
 }
 
-static uint64_t count_for(unsigned structure)
+/* A size of so many digits: small, nearly the largest, or any. */
+static int64_t size_for(unsigned digits)
 {
-    uint64_t end = power_of_ten(digits_of(structure));
+    uint64_t end = power_of_ten(digits);
     switch (below(4)) {
     case 0:
         return below(100);
     case 1:
-        return end - 1 - below(2);
+        return (int64_t)(end - 1 - below(2));
     default:
-        return chance() % end;
+        return (int64_t)(chance() % end);
     }
+}
+
+/* Flow, inlet and outlet are as often as not below zero: the sign has the place of a digit, and zero has none. */
+static int64_t count_for(unsigned structure, unsigned unit)
+{
+    int64_t size;
+    if (unit < 0x38 || once_in(2))
+        return size_for(digits_of(structure));
+    size = size_for(digits_of(structure) - 1);
+    return size == 0 ? -1 : -size;
 }
 
 static void good_moment(unsigned m[SECOND_PARTS])
@@ -60,7 +71,7 @@ static struct second_entry good_entry(unsigned quantity)
     }
     e.unit += below(quantity < 4 ? 8 : 4);
     e.structure = structures[below(4)];
-    e.count = count_for(e.structure);
+    e.count = count_for(e.structure, e.unit);
     return e;
 }
 
@@ -115,9 +126,30 @@ enum second_kind some_kind(void)
 
 /* ---- with a rule broken */
 
+/* At the ends of what a width holds, and at what it would hold were the sign no digit; or below zero for any quantity. */
+static int64_t edge_count(unsigned structure)
+{
+    int64_t end = (int64_t)power_of_ten(digits_of(structure)), lowest = -(end / 10);
+    switch (below(6)) {
+    case 0:
+        return end - below(2);
+    case 1:
+        return lowest + below(2);
+    case 2:
+        return 1 - end - below(2);
+    case 3:
+        return once_in(2) ? INT64_MIN : INT64_MAX;
+    case 4:
+        return -1;
+    default:
+        return -(int64_t)below(100);
+    }
+}
+
 static void break_entry(struct second_entry *e)
 {
     unsigned part = below(SECOND_PARTS);
+    uint64_t any;
     switch (below(8)) {
     case 0:
         e->structure = below(16);
@@ -129,10 +161,11 @@ static void break_entry(struct second_entry *e)
         e->is_time = !e->is_time;
         break;
     case 3:
-        e->count = power_of_ten(digits_of(e->structure)) - (once_in(2) ? 1 : 0);
+        e->count = edge_count(e->structure);
         break;
     case 4:
-        e->count = chance();
+        any = of_any_width();
+        e->count = once_in(2) ? (int64_t)(any >> 1) : -(int64_t)(any >> 1) - 1;
         break;
     case 5:
         e->moment[part] = once_in(4) ? below(256) : between(23, 32);
@@ -222,7 +255,7 @@ struct second_telegram meter_template(void)
     for (size_t i = 0; i < t.count; i++)
         if (t.entries[i].unit < 0x18 && !once_in(40)) {
             t.entries[i].structure = 0x0C;
-            t.entries[i].count = count_for(0x0C);
+            t.entries[i].count = count_for(0x0C, t.entries[i].unit);
         }
     if (once_in(20))
         break_telegram(&t);

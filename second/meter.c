@@ -29,7 +29,7 @@ int second_set_up(struct second_meter *m, unsigned address, const struct second_
         struct second_entry *total = total_of(&fresh.template, i);
         if (total->structure != EIGHT_DIGITS)
             return 72;
-        fresh.use[i] = total->count;
+        fresh.use[i] = (uint64_t)total->count; /* neither may be below zero */
     }
     *m = fresh;
     return 0;
@@ -77,7 +77,7 @@ static void give_data(struct second_meter *m, struct second_telegram *answer)
     *answer = m->template;
     answer->address = m->address;
     for (int i = 0; i < 2; i++)
-        total_of(answer, i)->count = in_force(m)[i];
+        total_of(answer, i)->count = (int64_t)in_force(m)[i];
 }
 
 static void obey(struct second_meter *m, const struct second_telegram *request, struct second_telegram *answer)

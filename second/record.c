@@ -26,7 +26,7 @@ static void put_entry(uint8_t *to, const struct second_entry *e)
     to[1] = (uint8_t)e->unit;
     to[2] = e->is_time != 0;
     if (!e->is_time)
-        second_put_number(to + VALUE, 8, e->count);
+        second_put_number(to + VALUE, 8, (uint64_t)e->count);
     for (size_t i = 0; e->is_time && i < SECOND_PARTS; i++)
         to[VALUE + i] = (uint8_t)e->moment[i];
 }
@@ -55,7 +55,7 @@ static int take_entry(const uint8_t *b, struct second_entry *e)
     e->unit = b[1];
     e->is_time = b[2];
     if (!e->is_time)
-        e->count = second_number(b + VALUE, 8);
+        e->count = second_signed(b + VALUE, 8);
     for (size_t i = 0; e->is_time && i < SECOND_PARTS; i++)
         e->moment[i] = b[VALUE + i];
     return 0;

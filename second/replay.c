@@ -75,7 +75,7 @@ static uint64_t millilitres(const struct second_telegram *t)
     uint64_t volume = 0;
     for (size_t i = 0; i < t->count; i++)
         if (t->entries[i].unit >= 0x10 && t->entries[i].unit <= 0x17) {
-            volume = t->entries[i].count;
+            volume = (uint64_t)t->entries[i].count; /* no volume is below zero */
             for (unsigned tens = t->entries[i].unit - 0x10; tens > 0 && volume <= 1000000000; tens--)
                 volume *= 10;
         }

@@ -23,3 +23,4 @@ pub mod WrongEnds
 pub mod Replay
 pub mod Values
 pub mod Weekdays
+pub mod Signs

@@ -13,6 +13,7 @@ use Rattle.mbus_rules.specs.Lists.{at, any, total}
 use Rattle.mbus_rules.specs.Characters.{odd, byteOf, carrier}
 use Rattle.mbus_rules.specs.Answers.{reads, refusal}
 use Rattle.mbus_rules.specs.Digits.{digitsOf, packed}
+use Rattle.mbus_rules.specs.Signs.{minus}
 use Rattle.mbus_rules.specs.Moments.{wrongMoment}
 use Rattle.mbus_rules.specs.Headers.{wrongHeader}
 use Rattle.mbus_rules.specs.Quantities.{quantityOf, widthOf, paired, powerOf}
@@ -35,7 +36,7 @@ Hold (claim ∷ claims) = claim × Hold claims
 
 -- a packed number, with its structure and unit
 abbrev pub packedEntry : ℕ → ℕ → ℕ → Entry
-packedEntry st u n = record { structure = st; unit = u; value = Number (record { count = n }) }
+packedEntry st u n = record { structure = st; unit = u; value = Number (record { count = pos n }) }
 
 -- what 000's data example holds: meter 12345678, maker STI, access and status, and the entries in their order
 abbrev pub exampleHeader : ℕ → ℕ → Header
@@ -82,7 +83,7 @@ thirteen =
     ∷ []
 
 pub thirteen-hold : Hold thirteen
-unfolding readLine readBody readEntries any total odd carrier onesIn lineOf flips flipBit wrongHeader digitsOf wrongMoment quantityOf widthOf paired
+unfolding readLine readBody readEntries any total odd carrier onesIn lineOf flips flipBit wrongHeader digitsOf minus wrongMoment quantityOf widthOf paired
     powerOf errorOf run
 thirteen-hold = (refl, (refl, (refl, (refl, (refl, from-six)))))
   where
@@ -104,9 +105,11 @@ most =
     )
 
 pub shortest-data : (readLine (lineOf fewest) ≡ reads fewest) × (at (map byteOf (lineOf fewest)) 1 ≡ 39)
-unfolding readLine readBody readEntries any total odd carrier onesIn lineOf wrongHeader digitsOf wrongMoment quantityOf widthOf paired packed bytesOfEntries
+unfolding readLine readBody readEntries any total odd carrier onesIn lineOf wrongHeader digitsOf minus wrongMoment quantityOf widthOf paired packed
+    bytesOfEntries
 shortest-data = (refl, refl)
 
 pub longest-data : (readLine (lineOf most) ≡ reads most) × (at (map byteOf (lineOf most)) 1 ≡ 71) × (length (lineOf most) ≡ 77)
-unfolding readLine readBody readEntries any total odd carrier onesIn lineOf wrongHeader digitsOf wrongMoment quantityOf widthOf paired packed bytesOfEntries
+unfolding readLine readBody readEntries any total odd carrier onesIn lineOf wrongHeader digitsOf minus wrongMoment quantityOf widthOf paired packed
+    bytesOfEntries
 longest-data = (refl, refl, refl)

@@ -17,6 +17,7 @@ use Rattle.mbus_rules.specs.Lists.{any, total}
 use Rattle.mbus_rules.specs.Characters.{odd, carrier}
 use Rattle.mbus_rules.specs.Answers.{reads}
 use Rattle.mbus_rules.specs.Digits.{digitsOf}
+use Rattle.mbus_rules.specs.Signs.{minus}
 use Rattle.mbus_rules.specs.Moments.{momentOf, dateExists, timeExists, weekdayExists, wrongMoment}
 use Rattle.mbus_rules.specs.Headers.{wrongHeader}
 use Rattle.mbus_rules.specs.Quantities.{quantityOf, widthOf, paired, isTime}
@@ -104,5 +105,5 @@ eightWeekdays =
     ∷ []
 
 pub weekdays-read : Hold eightWeekdays
-unfolding readLine readBody readEntries any total odd carrier onesIn wrongHeader digitsOf wrongMoment quantityOf widthOf paired
+unfolding readLine readBody readEntries any total odd carrier onesIn wrongHeader digitsOf minus wrongMoment quantityOf widthOf paired
 weekdays-read = (refl, (refl, (refl, (refl, (refl, (refl, (refl, (refl, tt))))))))

@@ -4,6 +4,8 @@ use mathlib.Core.Bool.{cond}
 use mathlib.Core.List.{List, [], _∷_, _++_}
 use lib.Dec.{eqb}
 use lib.ListN.{take, drop}
+use mir.Syntax.{w64}
+use mir.Val.{toZ, ofZ}
 use Rattle.mbus_rules.specs.declared.Value.{Value}
 use Rattle.mbus_rules.specs.declared.Value.the-variants.{Number, Time}
 use Rattle.mbus_rules.specs.declared.Entry.{Entry}
@@ -28,8 +30,9 @@ abbrev pub sortOf : Value → ℕ
 sortOf (Number d) = 0
 sortOf (Time m) = 1
 
+-- a number in two's complement, which is `int64_t`
 abbrev pub valueRecord : Value → List ℕ
-valueRecord (Number d) = bytesOf 8 (d .count)
+valueRecord (Number d) = bytesOf 8 (ofZ w64 (d .count))
 valueRecord (Time m) = m .year ∷ m .month ∷ m .day ∷ m .hour ∷ m .minute ∷ m .second ∷ m .weekday ∷ 0 ∷ []
 
 abbrev pub entryBytes : Entry → List ℕ
@@ -54,7 +57,7 @@ abbrev pub valueIn : ℕ → List ℕ → Value
 valueIn sort b =
     cond (eqb sort 1)
     (Time (record { year = at b 8; month = at b 9; day = at b 10; hour = at b 11; minute = at b 12; second = at b 13; weekday = at b 14 }))
-    (Number (record { count = number (take 8 (drop 8 b)) }))
+    (Number (record { count = toZ w64 (number (take 8 (drop 8 b))) }))
 
 unfoldable pub entryIn : List ℕ → Entry
 entryIn b = record { structure = at b 0; unit = at b 1; value = valueIn (at b 2) b }

@@ -1,7 +1,10 @@
 // The record of a telegram.
 ghost use mathlib.Core.Path.{_≡_};
-ghost use Prim.Native.Nat.{_+_, _≤_};
+ghost use Prim.Native.Nat.{_+_, _^_, _<_, _≤_};
+ghost use lib.IntN.{negsuc};
 ghost use lib.ListN.{length};
+ghost use mir.Syntax.{w64};
+ghost use mir.Val.{toZ, ofZ};
 ghost use Rattle.bytes_numbers.specs.Numbers.{bytesOf};
 ghost use Rattle.mbus_rules.specs.declared.Value.the-variants.{Time};
 ghost use Rattle.mbus_rules.specs.Telegrams.{shown};
@@ -46,12 +49,40 @@ fn moment_word(m: Moment) -> u64
     date + 16777216 * time + 281474976710656 * m.weekday as u64
 }
 
+// A number in two's complement. Written so that the back end sees that nothing is to be done.
+fn word_of(count: i64) -> u64
+    ensures { λ r. ⌜ r ≡ ofZ w64 count ⌝ }
+{
+    if count < 0 {
+        return 0xFFFF_FFFF_FFFF_FFFF - (-(count + 1)) as u64;
+    }
+    count as u64
+}
+
+// The number that is so much below -1.
+fn below_one(more: u64) -> i64
+    requires { ⌜ more < 2 ^ 63 ⌝ }
+    ensures { λ r. ⌜ r ≡ negsuc more ⌝ }
+{
+    -(more as i64) - 1
+}
+
+// The number that a word is in two's complement.
+fn count_of(word: u64) -> i64
+    ensures { λ r. ⌜ r ≡ toZ w64 word ⌝ }
+{
+    if word < 0x8000_0000_0000_0000 {
+        return word as i64;
+    }
+    below_one(0xFFFF_FFFF_FFFF_FFFF - word)
+}
+
 // The eight bytes of a value as one word: they are then written at once, whichever sort it is.
 fn value_word(value: Value) -> u64
     ensures { λ r. ⌜ bytesOf 8 r ≡ valueRecord value ⌝ }
 {
     match value {
-        Value::Number(d) => d.count,
+        Value::Number(d) => word_of(d.count),
         Value::Time(m) => moment_word(m),
     }
 }
@@ -167,7 +198,7 @@ fn entry_in(b: &[u8]) -> Entry
             value: Value::Time(m),
         };
     }
-    let count = number_at(b, 8, 8);
+    let count = count_of(number_at(b, 8, 8));
     Entry {
         structure,
         unit,

@@ -1,5 +1,7 @@
 // Answers, written to standard output word by word.
 use libc::STDOUT_FILENO;
+use mbus_fields::digits::is_below_zero;
+use mbus_fields::digits::size_of;
 use mbus_rules::Entry;
 use mbus_rules::Header;
 use mbus_rules::Kind;
@@ -42,6 +44,18 @@ fn say_maker(n: u16) {
 fn say_decimal(n: u64) {
     say(b" +");
     io::print_decimal(STDOUT_FILENO, n);
+}
+
+// The same for a number that may be below zero.
+fn say_signed(n: i64) {
+    let size = size_of(n);
+    let below = is_below_zero(n);
+    if below {
+        say(b" -");
+    } else {
+        say(b" +");
+    }
+    io::print_decimal(STDOUT_FILENO, size);
 }
 
 fn say_refusal(n: u16) {
@@ -112,7 +126,7 @@ fn say_entry(e: Entry) {
     match value {
         Value::Number(d) => {
             say(b" number");
-            say_decimal(d.count);
+            say_signed(d.count);
         }
         Value::Time(m) => say_moment(m),
     }

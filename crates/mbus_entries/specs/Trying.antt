@@ -1,17 +1,16 @@
 -- What 11 to 14 say of one entry.
 use Prim.Native.Nat.{ℕ, _≤_}
-use mathlib.Core.Bool.{Bool, true, false, not, _&&_}
+use mathlib.Core.Bool.{Bool, true, false, _&&_}
 use mathlib.Core.List.{List}
 use mathlib.Core.Path.{_≡_}
 use lib.ListN.{length, getD}
 use Rattle.mbus_rules.specs.declared.Value.{Value}
 use Rattle.mbus_rules.specs.declared.Entry.{Entry}
-use Rattle.mbus_rules.specs.Lists.{at, any}
+use Rattle.mbus_rules.specs.Lists.{at}
 use Rattle.mbus_rules.specs.Answers.{Answer, reads, refusal, refuse, within, follow}
 use Rattle.mbus_rules.specs.Quantities.{quantityOf, widthOf, isTime}
-use Rattle.mbus_rules.specs.Digits.{overNine}
 use Rattle.mbus_rules.specs.Moments.{wrongMoment}
-use Rattle.mbus_rules.specs.Entries.{valueBytes, valueOf, unfit}
+use Rattle.mbus_rules.specs.Entries.{valueBytes, valueOf, unfit, wrongNumber}
 use Rattle.mbus_entries.specs.declared.entry.Valued.{Valued}
 use Rattle.mbus_entries.specs.declared.entry.Tried.{Tried}
 
@@ -22,7 +21,7 @@ pub record Long (unit : ℕ) (value : List ℕ) : Type 0 where
 
 -- the value that the bytes hold, or what 12 and 13 say of it
 abbrev pub valued : ℕ → List ℕ → Answer Value
-valued unit b = refuse 12 (not (isTime unit) && any overNine b) (refuse 13 (isTime unit && wrongMoment b) (reads (valueOf unit b)))
+valued unit b = refuse 12 (wrongNumber unit b) (refuse 13 (isTime unit && wrongMoment b) (reads (valueOf unit b)))
 
 abbrev pub valuedShown : Answer Value → Valued
 valuedShown (refusal n) = Valued.Refused n

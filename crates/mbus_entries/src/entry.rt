@@ -1,10 +1,14 @@
 // One entry: what 11 to 14 say of it.
 ghost use mathlib.Core.Path.{_≡_};
+ghost use mathlib.Core.Bool.{not, _&&_, _||_};
+ghost use Rattle.mbus_rules.specs.Entries.{mayFall};
 ghost use Rattle.mbus_entries.specs.Trying.{Long, valued, valuedShown, tried, triedShown, nextOf};
-use mbus_fields::digits::packed_of;
+use mbus_fields::digits::Signed;
+use mbus_fields::digits::signed_of;
 use mbus_fields::moments::timed_of;
 use mbus_fields::quantities::UNIT_OF_TIME;
 use mbus_fields::quantities::goes_with;
+use mbus_fields::quantities::may_fall;
 use mbus_fields::quantities::quantity_of;
 use mbus_rules::Decimal;
 use mbus_rules::Entry;
@@ -22,6 +26,17 @@ pub enum Tried {
     Refused(u16),
 }
 
+// The digits break the rule, or have a minus where the unit allows none. The unit is asked only where there is one.
+fn wrong_number(unit: u8, number: Signed) -> bool
+    ensures { λ r. ⌜ r ≡ (number .wrong || number .falls && not (mayFall unit)) ⌝ }
+{
+    if number.falls {
+        let may = may_fall(unit);
+        return number.wrong | !may;
+    }
+    number.wrong
+}
+
 // The value that the bytes hold, or what 12 and 13 say of it.
 fn value_of(unit: u8, value: &[u8]) -> Valued
     requires { ⌜ Long unit (now value) ⌝ }
@@ -35,8 +50,9 @@ fn value_of(unit: u8, value: &[u8]) -> Valued
         let moment = time.moment;
         return Valued::Holds(Value::Time(moment));
     }
-    let number = packed_of(value);
-    if number.wrong {
+    let number = signed_of(value);
+    let wrong = wrong_number(unit, number);
+    if wrong {
         return Valued::Refused(12);
     }
     Valued::Holds(Value::Number(Decimal {

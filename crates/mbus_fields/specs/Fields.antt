@@ -1,18 +1,41 @@
 -- The fields of a data telegram as they are read: packed digits and the point in time, each with whether its rule is broken; and a pair.
-use Prim.Native.Nat.{ℕ}
-use mathlib.Core.Bool.{Bool, cond, _&&_}
+use Prim.Native.Nat.{ℕ, zero, suc, _-_, _*_}
+use mathlib.Core.Bool.{Bool, true, false, cond, _&&_, _||_}
 use mathlib.Core.List.{List}
-use lib.Dec.{ltb, eqb}
+use lib.Dec.{ltb, leb, eqb}
+use lib.IntN.{pos, negℤ}
 use Rattle.mbus_rules.specs.Lists.{any}
 use Rattle.mbus_rules.specs.Digits.{overNine, digitsOf}
+use Rattle.mbus_rules.specs.Signs.{minus, signedOf, wrongSigned}
 use Rattle.mbus_rules.specs.Moments.{wrongMoment, momentOf}
 use Rattle.mbus_rules.specs.Quantities.{isPacked, time, unknown}
+use Rattle.bytes_numbers.specs.Numbers.{bytesOf}
 use Rattle.mbus_fields.specs.declared.digits.Packed.{Packed}
+use Rattle.mbus_fields.specs.declared.digits.Signed.{Signed}
 use Rattle.mbus_fields.specs.declared.moments.Timed.{Timed}
 
 -- 01, "Header" and "Entry": packed BCD, low byte first.
 abbrev pub packedOf : List ℕ → Packed
 packedOf b = record { wrong = any overNine b; count = digitsOf b }
+
+-- 02, 2026-07: the same with a sign.
+abbrev pub signedIn : List ℕ → Signed
+signedIn b = record { wrong = wrongSigned b; falls = minus b; count = signedOf b }
+
+-- the least number of so many bytes that has F in the highest place
+unfoldable pub markOf : ℕ → ℕ
+markOf zero = 1
+markOf (suc zero) = 0xF0
+markOf (suc (suc k)) = 256 * markOf (suc k)
+
+-- digits with a sign before them
+abbrev pub signOn : Bool → Packed → Signed
+signOn true size = record { wrong = size .wrong || eqb (size .count) 0; falls = true; count = negℤ (pos (size .count)) }
+signOn false size = record { wrong = size .wrong; falls = false; count = pos (size .count) }
+
+-- what a word holds: a sign where it reaches the mark, and the digits of what is left without it
+abbrev pub markedIn : ℕ → ℕ → Signed
+markedIn mark word = signOn (leb mark word) (packedOf (bytesOf 8 (cond (leb mark word) (word - mark) word)))
 
 -- 01, "Time, 6 bytes".
 abbrev pub timedOf : List ℕ → Timed

@@ -1,16 +1,28 @@
 // Packed digits.
 ghost use mathlib.Core.Path.{_≡_};
+ghost use mathlib.Core.Bool.{cond};
+ghost use Prim.Native.Nat.{_-_, _^_, _<_, min};
+ghost use lib.Dec.{leb};
+ghost use lib.IntN.{pos, negℤ, natAbs};
+ghost use Rattle.mbus_rules.specs.Signs.{belowZero};
 ghost use lib.ListN.{take};
 ghost use Rattle.mbus_rules.specs.Lists.{any};
 ghost use Rattle.mbus_rules.specs.Digits.{overNine, digitsOf};
 ghost use Rattle.bytes_numbers.specs.Numbers.{number, bytesOf};
-ghost use Rattle.mbus_fields.specs.Fields.{packedOf};
+ghost use Rattle.mbus_fields.specs.Fields.{packedOf, markOf, signOn, markedIn, signedIn};
 use bytes_numbers::number_at;
 
 // What packed digits hold: a digit is over nine, and the number that they are.
 pub struct Packed {
     pub wrong: bool,
     pub count: u64,
+}
+
+// What packed digits with a sign hold: the rule is broken, F stands in the highest place, and the number that they are.
+pub struct Signed {
+    pub wrong: bool,
+    pub falls: bool,
+    pub count: i64,
 }
 
 // The 4 and the 2 of each digit, and its 8.
@@ -72,9 +84,108 @@ pub fn packed_in(word: u64) -> Packed
     Packed { wrong, count }
 }
 
-// What the first eight bytes hold.
-pub fn packed_of(value: &[u8]) -> Packed
-    ensures { λ r. ⌜ r ≡ packedOf (take 8 (now (value .entry))) ⌝ }
+// F in the highest place of so many bytes, at most eight, and 1 of none, which no word of none reaches.
+fn mark_of(width: usize) -> u64
+    ensures { λ r. ⌜ r ≡ markOf (min width 8) ⌝ }
 {
-    packed_in(word_of(value))
+    if width == 4 {
+        return 0xF000_0000;
+    }
+    if width == 2 {
+        return 0xF000;
+    }
+    if width == 3 {
+        return 0xF0_0000;
+    }
+    if width == 6 {
+        return 0xF000_0000_0000;
+    }
+    if width == 0 {
+        return 1;
+    }
+    if width == 1 {
+        return 0xF0;
+    }
+    if width == 5 {
+        return 0xF0_0000_0000;
+    }
+    if width == 7 {
+        return 0xF0_0000_0000_0000;
+    }
+    0xF000_0000_0000_0000
+}
+
+// The word without its mark, if it has one.
+fn unmarked(word: u64, mark: u64) -> u64
+    ensures { λ r. ⌜ r ≡ cond (leb mark word) (word - mark) word ⌝ }
+{
+    if mark <= word { word - mark } else { word }
+}
+
+// The number is below zero.
+pub fn is_below_zero(count: i64) -> bool
+    ensures { λ r. ⌜ r ≡ belowZero count ⌝ }
+{
+    count < 0
+}
+
+// The size of a number, without its sign.
+pub fn size_of(count: i64) -> u64
+    ensures { λ r. ⌜ r ≡ natAbs count ⌝ }
+{
+    if count < 0 {
+        return (-(count + 1)) as u64 + 1;
+    }
+    count as u64
+}
+
+// A size with a minus sign.
+fn negated(size: u64) -> i64
+    requires { ⌜ size < 2 ^ 63 ⌝ }
+    ensures { λ r. ⌜ r ≡ negℤ (pos size) ⌝ }
+{
+    -(size as i64)
+}
+
+// Digits with a sign: minus zero is none.
+fn sign_on(falls: bool, size: Packed) -> Signed
+    requires { ⌜ size .count < 2 ^ 63 ⌝ }
+    ensures { λ r. ⌜ r ≡ signOn falls size ⌝ }
+{
+    if falls {
+        let count = negated(size.count);
+        return Signed {
+            wrong: size.wrong | (size.count == 0),
+            falls,
+            count,
+        };
+    }
+    let count = size.count as i64;
+    Signed {
+        wrong: size.wrong,
+        falls,
+        count,
+    }
+}
+
+// What a word with a digit over nine holds as digits with a sign: F stands in the highest place where it reaches the mark.
+fn marked_of(word: u64, mark: u64) -> Signed
+    ensures { λ r. ⌜ r ≡ markedIn mark word ⌝ }
+{
+    let falls = mark <= word;
+    let size = packed_in(unmarked(word, mark));
+    sign_on(falls, size)
+}
+
+// What the first eight bytes hold as digits with a sign. A sign is looked for only where a digit is over nine.
+pub fn signed_of(value: &[u8]) -> Signed
+    ensures { λ r. ⌜ r ≡ signedIn (take 8 (now (value .entry))) ⌝ }
+{
+    let word = word_of(value);
+    let plain = packed_in(word);
+    if plain.wrong {
+        let mark = mark_of(value.len());
+        return marked_of(word, mark);
+    }
+    sign_on(false, plain)
 }

@@ -1,6 +1,7 @@
 // The table of quantities and structures.
 ghost use mathlib.Core.Path.{_≡_};
 ghost use Rattle.mbus_rules.specs.Quantities.{quantityOf, widthOf, isPacked, paired};
+ghost use Rattle.mbus_rules.specs.Entries.{mayFall};
 ghost use Rattle.mbus_fields.specs.Fields.{goesWith};
 
 // The rows of the table in its order, and a number for a unit byte that is in no row.
@@ -104,4 +105,12 @@ pub fn is_paired(structure: u8, unit: u8) -> bool
     ensures { λ r. ⌜ r ≡ paired structure unit ⌝ }
 {
     goes_with(structure, quantity_of(unit))
+}
+
+// A minus is allowed for the quantity of the unit.
+pub fn may_fall(unit: u8) -> bool
+    ensures { λ r. ⌜ r ≡ mayFall unit ⌝ }
+{
+    let quantity = quantity_of(unit);
+    (quantity == INLET) | (quantity == OUTLET) | (quantity == FLOW)
 }

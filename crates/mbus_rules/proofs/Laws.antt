@@ -17,6 +17,8 @@ pub mod FourFlips
 pub mod TestLaws
 pub mod ByteLaws
 pub mod DigitLaws
+pub mod Negation
+pub mod SignLaws
 pub mod MomentLaws
 pub mod HeaderLaws
 pub mod Seven

@@ -9,9 +9,9 @@ use Rattle.mbus_rules.specs.declared.Value.the-variants.{Number, Time}
 use Rattle.mbus_rules.specs.declared.Entry.{Entry}
 use Rattle.mbus_rules.specs.Lists.{at, any}
 use Rattle.mbus_rules.specs.Answers.{Answer, reads, refuse}
-use Rattle.mbus_rules.specs.Digits.{overNine, digitsOf}
+use Rattle.mbus_rules.specs.Signs.{minus, signedOf, wrongSigned}
 use Rattle.mbus_rules.specs.Moments.{momentOf, wrongMoment}
-use Rattle.mbus_rules.specs.Quantities.{quantityOf, widthOf, paired, isTime, energy, volume, inlet, outlet, time}
+use Rattle.mbus_rules.specs.Quantities.{quantityOf, widthOf, paired, isTime, energy, volume, flow, inlet, outlet, time}
 
 -- Structure byte, unit byte, value low byte first: the value's bytes of the entry that the list begins with, and its whole width.
 abbrev pub valueBytes : List ℕ → List ℕ
@@ -22,7 +22,7 @@ entryWidth s = 2 + widthOf (at s 0)
 
 -- The value is either a decimal number or a point in time.
 abbrev pub valueOf : ℕ → List ℕ → Value
-valueOf unit b = cond (isTime unit) (Time (momentOf b)) (Number (record { count = digitsOf b }))
+valueOf unit b = cond (isTime unit) (Time (momentOf b)) (Number (record { count = signedOf b }))
 
 abbrev pub entryOf : List ℕ → Entry
 entryOf s = record { structure = at s 0; unit = at s 1; value = valueOf (at s 1) (valueBytes s) }
@@ -31,9 +31,16 @@ entryOf s = record { structure = at s 0; unit = at s 1; value = valueOf (at s 1)
 abbrev pub unfit : List ℕ → Bool
 unfit s = ltb (length s) 2 || not (paired (at s 0) (at s 1)) || ltb (length s) (entryWidth s)
 
--- 12: a BCD digit over 9 in an entry
+-- 02, 2026-07: a minus is allowed for inlet, outlet and flow, for no other quantity
+abbrev pub mayFall : ℕ → Bool
+mayFall unit = eqb (quantityOf unit) inlet || eqb (quantityOf unit) outlet || eqb (quantityOf unit) flow
+
+-- 12: a BCD digit over 9 in an entry; minus zero, or a minus where none is allowed (02, 2026-07)
+abbrev pub wrongNumber : ℕ → List ℕ → Bool
+wrongNumber unit b = not (isTime unit) && (wrongSigned b || minus b && not (mayFall unit))
+
 abbrev pub wrongDigit : List ℕ → Bool
-wrongDigit s = not (isTime (at s 1)) && any overNine (valueBytes s)
+wrongDigit s = wrongNumber (at s 1) (valueBytes s)
 
 -- 13: time rule broken
 abbrev pub wrongTime : List ℕ → Bool

@@ -3,6 +3,7 @@ pub mod Lists
 pub mod Characters
 pub mod Answers
 pub mod Digits
+pub mod Signs
 pub mod Moments
 pub mod Headers
 pub mod Quantities

@@ -3,6 +3,7 @@
 use Prim.Native.Nat.{ℕ, _-_}
 use mathlib.Core.List.{List, _++_}
 use lib.ListN.{length, replicate}
+use lib.IntN.{pos}
 use Rattle.mbus_rules.specs.declared.Kind.{Kind}
 use Rattle.mbus_rules.specs.declared.Kind.the-variants.{Ack, Read, Enter, Leave, Data}
 use Rattle.mbus_rules.specs.declared.Value.the-variants.{Number}
@@ -15,7 +16,7 @@ use Rattle.mbus_rules.specs.declared.Reading.{Reading}
 use Rattle.mbus_rules.specs.Answers.{Answer, reads, refusal}
 
 abbrev pub blankEntry : Entry
-blankEntry = record { structure = 0; unit = 0; value = Number (record { count = 0 }) }
+blankEntry = record { structure = 0; unit = 0; value = Number (record { count = pos 0 }) }
 
 abbrev pub blankHeader : Header
 blankHeader = record { number = 0; maker = 0; version = 0; «meter_type» = 0; access = 0; status = 0 }

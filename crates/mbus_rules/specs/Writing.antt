@@ -1,6 +1,6 @@
 -- 01, "Telegrams", the other way round: the line that is written for a telegram, and the refusals 20 and 21.
-use Prim.Native.Nat.{ℕ, _+_, _*_, _/_, _%_, _^_}
-use mathlib.Core.Bool.{Bool, true, false, not, _||_}
+use Prim.Native.Nat.{ℕ, _+_, _*_, _/_, _%_}
+use mathlib.Core.Bool.{Bool, true, false, not, _&&_, _||_}
 use mathlib.Core.List.{List, [], _∷_, _++_, map}
 use lib.Dec.{ltb}
 use lib.ListN.{length, take, drop}
@@ -16,10 +16,11 @@ use Rattle.mbus_rules.specs.Lists.{any, total}
 use Rattle.mbus_rules.specs.Characters.{carrier}
 use Rattle.mbus_rules.specs.Answers.{Answer, reads, refuse}
 use Rattle.mbus_rules.specs.Digits.{packed}
+use Rattle.mbus_rules.specs.Signs.{signedBytes, fitsSigned, belowZero, isZero}
 use Rattle.mbus_rules.specs.Moments.{dateExists, timeExists, weekdayExists}
 use Rattle.mbus_rules.specs.Headers.{makerNamed, heatMeter}
 use Rattle.mbus_rules.specs.Quantities.{quantityOf, widthOf, paired, isTime}
-use Rattle.mbus_rules.specs.Entries.{seen, missing}
+use Rattle.mbus_rules.specs.Entries.{mayFall, seen, missing}
 use Rattle.mbus_rules.specs.Lines.{isMethod}
 
 -- ---- the bytes of each part
@@ -29,7 +30,7 @@ momentBytes m =
     m .second ∷ m .minute ∷ (32 * m .weekday + m .hour) ∷ (32 * (m .year % 8) + m .day) ∷ (16 * (m .year / 8) + m .month) ∷ 0 ∷ []
 
 abbrev pub bytesOfValue : ℕ → Value → List ℕ
-bytesOfValue width (Number d) = packed width (d .count)
+bytesOfValue width (Number d) = signedBytes width (d .count)
 bytesOfValue width (Time m) = momentBytes m
 
 abbrev pub bytesOfEntry : Entry → List ℕ
@@ -75,7 +76,7 @@ lineOf t = map carrier (bytesOfKind (t .kind) t)
 
 -- something is where this kind has nothing
 abbrev pub usedValue : Value → Bool
-usedValue (Number d) = ltb 0 (d .count)
+usedValue (Number d) = not (isZero (d .count))
 usedValue (Time m) = true
 
 abbrev pub usedEntry : Entry → Bool
@@ -88,9 +89,9 @@ usedHeader h =
 abbrev pub usedBody : Telegram → Bool
 usedBody t = usedHeader (t .header) || ltb 0 (t .count) || any usedEntry (t .entries)
 
--- a value of the wrong kind for its unit, too long for its structure, or a point in time that does not exist
+-- a value of the wrong kind for its unit, too long for its structure, below zero where none is allowed, or a point in time that does not exist
 abbrev pub wrongValue : ℕ → ℕ → Value → Bool
-wrongValue width unit (Number d) = isTime unit || not (ltb (d .count) (100 ^ width))
+wrongValue width unit (Number d) = isTime unit || not (fitsSigned width (d .count)) || belowZero (d .count) && not (mayFall unit)
 wrongValue width unit (Time m) = not (isTime unit) || not (dateExists m) || not (timeExists m) || not (weekdayExists m)
 
 abbrev pub wrongEntry : Entry → Bool

@@ -9,9 +9,9 @@ pub enum Kind {
     Data,
 }
 
-// A decimal number: the digits of an entry as a count of its last digit.
+// A decimal number: the digits of an entry as a count of its last digit, below zero where they have a minus.
 pub struct Decimal {
-    pub count: u64,
+    pub count: i64,
 }
 
 // A point in time. Year 0 to 99 means 2000 to 2099; weekday 1 is Monday and 7 Sunday, 0 is not said.

@@ -3,9 +3,13 @@ ghost use mathlib.Core.Path.{_≡_};
 ghost use lib.ListN.{take, drop};
 ghost use Prim.Native.Nat.{_^_, _≤_};
 ghost use Rattle.mbus_rules.specs.Lists.{any};
+ghost use mathlib.Core.Bool.{not};
 ghost use Rattle.mbus_rules.specs.Quantities.{widthOf};
+ghost use Rattle.mbus_rules.specs.Signs.{fitsSigned};
 ghost use Rattle.mbus_rules.specs.Writing.{usedValue, usedEntry, usedHeader, usedBody, wrongValue, wrongEntry, unwrittenHeader, wrongData, unwritable};
 ghost use Rattle.mbus_writable.specs.Together.{wrongTogether};
+use mbus_fields::digits::is_below_zero;
+use mbus_fields::digits::size_of;
 use mbus_fields::headers::heat_meter;
 use mbus_fields::headers::maker_named;
 use mbus_fields::moments::date_exists;
@@ -18,6 +22,7 @@ use mbus_fields::quantities::SIX_DIGITS;
 use mbus_fields::quantities::TWELVE_DIGITS;
 use mbus_fields::quantities::UNIT_OF_TIME;
 use mbus_fields::quantities::is_paired;
+use mbus_fields::quantities::may_fall;
 use mbus_fields::quantities::quantity_of;
 use mbus_fields::quantities::width_of;
 use mbus_rules::Entry;
@@ -32,7 +37,7 @@ fn used_value(value: Value) -> bool
     ensures { λ r. ⌜ r ≡ usedValue value ⌝ }
 {
     match value {
-        Value::Number(d) => 0 < d.count,
+        Value::Number(d) => 0 < size_of(d.count),
         Value::Time(_) => true,
     }
 }
@@ -105,14 +110,30 @@ fn limit_of(structure: u8) -> u64
     }
 }
 
-// A value of the wrong kind for its unit, too long for its structure, or a point in time that does not exist.
+// The number has more digits than the structure has places, of which a sign takes one.
+fn is_long(structure: u8, count: i64) -> bool
+    ensures { λ r. ⌜ r ≡ not (fitsSigned (widthOf structure) count) ⌝ }
+{
+    let limit = limit_of(structure);
+    let size = size_of(count);
+    let below = is_below_zero(count);
+    if below {
+        return (limit - 1) / 10 < size;
+    }
+    !(size < limit)
+}
+
+// A value of the wrong kind for its unit, too long for its structure, below zero where none is allowed, or a point in time that does
+// not exist.
 fn wrong_value(structure: u8, unit: u8, value: Value) -> bool
     ensures { λ r. ⌜ r ≡ wrongValue (widthOf structure) unit value ⌝ }
 {
     match value {
         Value::Number(d) => {
-            let limit = limit_of(structure);
-            (unit == UNIT_OF_TIME) | !(d.count < limit)
+            let long = is_long(structure, d.count);
+            let below = is_below_zero(d.count);
+            let may = may_fall(unit);
+            (unit == UNIT_OF_TIME) | long | (below & !may)
         }
         Value::Time(m) => {
             let date = date_exists(m);

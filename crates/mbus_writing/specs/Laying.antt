@@ -1,27 +1,37 @@
 -- Bytes laid one part after the other.
-use Prim.Native.Nat.{ℕ, _+_, _%_, _≤_}
-use mathlib.Core.Bool.{Bool, true, false, _&&_}
+use Prim.Native.Nat.{ℕ, _+_, _-_, _%_, _≤_}
+use mathlib.Core.Bool.{Bool, true, false, cond, _&&_}
 use mathlib.Core.List.{List, [], _∷_, _++_}
 use mathlib.Core.Path.{_≡_}
-use lib.ListN.{length, take, drop}
+use lib.IntN.{ℤ, natAbs}
+use lib.ListN.{length, take, drop, set}
 use Rattle.bytes_lent.specs.Copying.{laid}
 use Rattle.mbus_rules.specs.declared.Value.{Value}
 use Rattle.mbus_rules.specs.declared.Value.the-variants.{Number, Time}
 use Rattle.mbus_rules.specs.declared.Entry.{Entry}
 use Rattle.mbus_rules.specs.declared.Telegram.{Telegram}
-use Rattle.mbus_rules.specs.Lists.{any, total}
+use Rattle.mbus_rules.specs.Lists.{at, any, total}
 use Rattle.mbus_rules.specs.Digits.{packed}
+use Rattle.mbus_rules.specs.Signs.{belowZero, fitsSigned}
 use Rattle.mbus_rules.specs.Moments.{dateExists, timeExists, weekdayExists}
 use Rattle.mbus_rules.specs.Writing.{momentBytes, bytesOfEntry, bytesOfEntries, wrongEntry, wrongData}
 
--- a value in six bytes, and what it takes to write it so
-abbrev pub sixBytes : Value → List ℕ
-sixBytes (Number d) = packed 6 (d .count)
-sixBytes (Time m) = momentBytes m
+-- six bytes with F in the highest place of so many
+abbrev pub markedAt : ℕ → List ℕ → List ℕ
+markedAt width b = set b (width - 1) (0xF0 + at b (width - 1) % 16)
 
-abbrev pub exists : Value → Bool
-exists (Number d) = true
-exists (Time m) = dateExists m && timeExists m && weekdayExists m
+-- a signed number in six bytes, of which so many count
+abbrev pub signedSix : ℕ → ℤ → List ℕ
+signedSix width z = cond (belowZero z) (markedAt width (packed 6 (natAbs z))) (packed 6 (natAbs z))
+
+-- a value in six bytes, of which so many count, and what it takes to write it so
+abbrev pub sixBytes : ℕ → Value → List ℕ
+sixBytes width (Number d) = signedSix width (d .count)
+sixBytes width (Time m) = momentBytes m
+
+abbrev pub exists : ℕ → Value → Bool
+exists width (Number d) = fitsSigned width (d .count)
+exists width (Time m) = dateExists m && timeExists m && weekdayExists m
 
 -- what laying one entry asks, and what it gives
 pub record EntryFits (e : Entry) (before : List ℕ) (at : ℕ) : Type 0 where

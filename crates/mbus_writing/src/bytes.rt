@@ -6,12 +6,17 @@ ghost use Prim.Native.Nat.{_+_, _*_, _/_, _%_, _≤_};
 ghost use lib.ListN.{length, take, drop};
 ghost use Rattle.mbus_rules.specs.Characters.{carrier};
 ghost use Rattle.mbus_rules.specs.Digits.{packed};
+ghost use Rattle.mbus_rules.specs.Signs.{fitsSigned};
+ghost use Rattle.mbus_rules.specs.Quantities.{widthOf};
 ghost use Rattle.mbus_rules.specs.Moments.{dateExists, timeExists, weekdayExists};
 ghost use Rattle.mbus_rules.specs.Writing.{momentBytes, bytesOfHeader, shortFrame, longFrame, bytesOfKind, unwritable};
 ghost use Rattle.bytes_lent.specs.Copying.{laid};
-ghost use Rattle.mbus_writing.specs.Laying.{sixBytes, exists, EntryFits, EntryLaid, EntriesFit, EntriesLaid, FrameClosed, BytesLaid, DataFits};
+ghost use Rattle.mbus_writing.specs.Laying.{signedSix, sixBytes, exists, EntryFits, EntryLaid, EntriesFit, EntriesLaid};
+ghost use Rattle.mbus_writing.specs.Laying.{FrameClosed, BytesLaid, DataFits};
 use bytes_lent::lay;
 use mbus_characters::sum_of;
+use mbus_fields::digits::is_below_zero;
+use mbus_fields::digits::size_of;
 use mbus_fields::quantities::width_of;
 use mbus_rules::Entry;
 use mbus_rules::Header;
@@ -50,23 +55,37 @@ fn moment_bytes(m: Moment) -> [u8; 6]
     [m.second, m.minute, hour, day, month, 0]
 }
 
+// The number in six bytes, of which the width says how many count: F stands in their highest place where it is below zero.
+fn signed_six(width: usize, count: i64) -> [u8; 6]
+    requires { ⌜ (fitsSigned width count ≡ true) × (width ≤ 6) ⌝ }
+    ensures { λ r. ⌜ r ≡ signedSix width count ⌝ }
+{
+    let below = is_below_zero(count);
+    let mut b = packed_six(size_of(count));
+    if below {
+        b[width - 1] = 0xF0 + b[width - 1] % 16;
+    }
+    b
+}
+
 // The value in six bytes, of which the width says how many count.
-fn value_bytes(value: Value) -> [u8; 6]
-    requires { ⌜ exists value ≡ true ⌝ }
-    ensures { λ r. ⌜ r ≡ sixBytes value ⌝ }
+fn value_bytes(width: usize, value: Value) -> [u8; 6]
+    requires { ⌜ (exists width value ≡ true) × (width ≤ 6) ⌝ }
+    ensures { λ r. ⌜ r ≡ sixBytes width value ⌝ }
 {
     match value {
-        Value::Number(d) => packed_six(d.count),
+        Value::Number(d) => signed_six(width, d.count),
         Value::Time(m) => moment_bytes(m),
     }
 }
 
 fn entry_bytes(e: Entry) -> [u8; 8]
-    requires { ⌜ exists (e .value) ≡ true ⌝ }
-    ensures { λ r. ⌜ r ≡ e .structure ∷ e .unit ∷ sixBytes (e .value) ⌝ }
+    requires { ⌜ (exists (widthOf (e .structure)) (e .value) ≡ true) × (widthOf (e .structure) ≤ 6) ⌝ }
+    ensures { λ r. ⌜ r ≡ e .structure ∷ e .unit ∷ sixBytes (widthOf (e .structure)) (e .value) ⌝ }
 {
     let value = e.value;
-    let b = value_bytes(value);
+    let width = width_of(e.structure);
+    let b = value_bytes(width, value);
     [e.structure, e.unit, b[0], b[1], b[2], b[3], b[4], b[5]]
 }
 

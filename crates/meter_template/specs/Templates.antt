@@ -1,8 +1,9 @@
 -- 01, "The simulated meter": the data template, and pairs of totals (volume, energy).
-use Prim.Native.Nat.{ℕ, _+_}
+use Prim.Native.Nat.{ℕ, _+_, _%_, _^_}
 use mathlib.Core.Bool.{Bool, true, false, cond, not, _&&_, _||_}
 use mathlib.Core.List.{List, [], _∷_, map}
 use lib.Dec.{ltb, eqb}
+use lib.IntN.{pos, natAbs}
 use Rattle.mbus_rules.specs.declared.Kind.{Kind}
 use Rattle.mbus_rules.specs.declared.Kind.the-variants as kinds
 use Rattle.mbus_rules.specs.declared.Value.{Value}
@@ -41,8 +42,9 @@ unfitTemplate t = not (isDataKind (t .kind)) || unwritable t || lacks energy (t 
 
 -- ---- its totals
 
+-- energy and volume are never below zero
 abbrev pub valueCount : Value → ℕ
-valueCount (Number d) = d .count
+valueCount (Number d) = natAbs (d .count)
 valueCount (Time m) = 0
 
 -- the total of a quantity: a count of its entry's last digit
@@ -73,8 +75,9 @@ abbrev pub raised : Telegram → Telegram
 raised t = record { kind = t .kind; address = t .address; method = t .method; header = raisedHeader (t .header); count = t .count; entries = t .entries }
 
 -- .. then data with a pair, the rest from the template, with A the own address
+-- (a total is at most 99,999,999; of a number that no count reaches, over 2^63, the rest is taken)
 abbrev pub counted : ℕ → Entry → Entry
-counted n e = record { structure = e .structure; unit = e .unit; value = Number (record { count = n }) }
+counted n e = record { structure = e .structure; unit = e .unit; value = Number (record { count = pos (n % 2 ^ 63) }) }
 
 abbrev pub filledEntry : Pair → Entry → Entry
 filledEntry p e = cond (holds volume e) (counted (p .volume) e) (cond (holds energy e) (counted (p .energy) e) e)

@@ -3,6 +3,7 @@ ghost use mathlib.Core.Path.{_≡_};
 ghost use Rattle.mbus_rules.specs.Lists.{any};
 ghost use Rattle.meter_template.specs.Templates.{isDataKind, holds, unfitTemplate, valueCount, totalIn, pairIn, counted, filledEntry, filled};
 ghost use Rattle.meter_template.specs.Templates.{nextAccess, raised, dataWith, passes, sumOf, shownSum};
+use mbus_fields::digits::size_of;
 use mbus_fields::quantities::EIGHT_DIGITS;
 use mbus_fields::quantities::ENERGY;
 use mbus_fields::quantities::VOLUME;
@@ -28,6 +29,9 @@ pub enum Sum {
 
 // No total passes this.
 pub const TOTAL_MOST: u64 = 99_999_999;
+
+// The counts that an entry can have from 0 up, far more than totals.
+const COUNTS: u64 = 0x8000_0000_0000_0000;
 
 // Whether the entry has the quantity in eight digits.
 fn holds(e: Entry, quantity: u8) -> bool
@@ -81,7 +85,7 @@ fn count_of(value: Value) -> u64
     ensures { λ r. ⌜ r ≡ valueCount value ⌝ }
 {
     match value {
-        Value::Number(d) => d.count,
+        Value::Number(d) => size_of(d.count),
         Value::Time(_) => 0,
     }
 }
@@ -104,9 +108,10 @@ fn total_in(entries: [Entry; 7], quantity: u8) -> u64
 }
 
 // The entry with another count.
-fn counted(e: Entry, count: u64) -> Entry
-    ensures { λ r. ⌜ r ≡ counted count e ⌝ }
+fn counted(e: Entry, total: u64) -> Entry
+    ensures { λ r. ⌜ r ≡ counted total e ⌝ }
 {
+    let count = (total % COUNTS) as i64;
     Entry {
         structure: e.structure,
         unit: e.unit,

@@ -3,6 +3,7 @@ use Prim.Native.Nat.{ℕ, _*_, _%_, _^_}
 use mathlib.Core.Bool.{cond}
 use mathlib.Core.List.{List, [], _∷_}
 use lib.Dec.{eqb}
+use lib.IntN.{natAbs}
 use Rattle.mbus_rules.specs.declared.Entry.{Entry}
 use Rattle.mbus_rules.specs.declared.Moment.{Moment}
 use Rattle.mbus_rules.specs.declared.Telegram.{Telegram}
@@ -13,9 +14,9 @@ use Rattle.mbus_rules.specs.Moments.{momentOf}
 use Rattle.mbus_rules.specs.Quantities.{quantityOf, volume, time}
 use Rattle.mbus_rules.specs.Telegrams.{blankEntry, shown}
 
--- A volume's value is a count of its last digit; a point in time is none.
+-- A volume's value is a count of its last digit, and never below zero; a point in time is none.
 abbrev pub volumeCount : Value → ℕ
-volumeCount (Number d) = d .count
+volumeCount (Number d) = natAbs (d .count)
 volumeCount (Time m) = 0
 
 -- The volume in millilitres of an entry: the unit bytes 10 to 17 are 10^(n−6) m³, which are 10^n ml, n being the low three bits.

@@ -5,6 +5,7 @@ ghost use Rattle.bundle_rows.specs.Rows.{uncheckedCharacters};
 ghost use Rattle.replay_error.specs.Figures.{volumeCount, millilitres, momentIn, entryWith, toldBy, lineTells};
 ghost use Rattle.replay_error.specs.Shown.{cappedVolume, shownTold};
 use bundle_rows::unchecked_characters;
+use mbus_fields::digits::size_of;
 use mbus_fields::moments::moment_of;
 use mbus_fields::quantities::TIME;
 use mbus_fields::quantities::VOLUME;
@@ -32,7 +33,7 @@ fn volume_count(value: Value) -> u64
     ensures { λ r. ⌜ r ≡ volumeCount value ⌝ }
 {
     match value {
-        Value::Number(d) => d.count,
+        Value::Number(d) => size_of(d.count),
         Value::Time(_) => 0,
     }
 }

@@ -8,6 +8,7 @@ use native.Mathlib.Omega.{arith}
 use borrow.Author.Tests.{not-true, eqb-true, eq-eqb, lt-ltb, le-ltb}
 use lib.Count.{onesIn}
 use lib.Dec.{eqb, ltb}
+use lib.IntN.{pos}
 use Rattle.bench_clock.specs.declared.Clock.{Clock}
 use Rattle.bench_clock.specs.Times.{late}
 use Rattle.bench_clock.proofs.Laws.Times.{le-late}
@@ -63,10 +64,10 @@ read-view = refl
 
 answerEntries : List Entry
 answerEntries =
-    record { structure = 0x0C; unit = 0x03; value = Number (record { count = 0 }) }
-    ∷ record { structure = 0x0C; unit = 0x11; value = Number (record { count = 0 }) }
-    ∷ record { structure = 0x0A; unit = 0x59; value = Number (record { count = 0 }) }
-    ∷ record { structure = 0x0A; unit = 0x5D; value = Number (record { count = 0 }) }
+    record { structure = 0x0C; unit = 0x03; value = Number (record { count = pos 0 }) }
+    ∷ record { structure = 0x0C; unit = 0x11; value = Number (record { count = pos 0 }) }
+    ∷ record { structure = 0x0A; unit = 0x59; value = Number (record { count = pos 0 }) }
+    ∷ record { structure = 0x0A; unit = 0x5D; value = Number (record { count = pos 0 }) }
     ∷ record { structure = 0x06; unit = 0x6D; value = Time (record { year = 0; month = 1; day = 1; hour = 0; minute = 0; second = 0; weekday = 0 }) }
     ∷ []
 

@@ -3,8 +3,12 @@ use Prim.Native.Nat.{ℕ, _+_, _*_, _^_, _<_}
 use mathlib.Core.List.{List, [], _∷_, _++_}
 use mathlib.Core.Path.{_≡_, refl, sym, ap, ap₂, _∙_}
 use native.Mathlib.Omega.{arith}
+use lib.IntN.{ℤ}
 use lib.ListN.{length, take, drop}
 use lib.Seq.{take-at, drop-at, drop-drop}
+use mir.Syntax.{w64}
+use mir.Val.{SFits, ofZ}
+use mir.ValLaws.{ofZ-fits, toZ-ofZ}
 use Rattle.mbus_rules.specs.declared.Value.{Value}
 use Rattle.mbus_rules.specs.declared.Value.the-variants.{Number, Time}
 use Rattle.mbus_rules.specs.declared.Moment.{Moment}
@@ -53,7 +57,7 @@ moment-word m {w} y mo d h mi s wd e =
 -- ---- what fits the types
 
 abbrev pub ValueFits : Value → Type 0
-ValueFits (Number d) = d .count < 256 ^ 8
+ValueFits (Number d) = SFits w64 (d .count)
 ValueFits (Time m) = Unit {0}
 
 unfoldable pub EntriesFit : List Entry → Type 0
@@ -69,10 +73,13 @@ pub record Fits (t : Telegram) : Type 0 where
 
 -- ---- what is written is read
 
+word-small : (z : ℤ) → SFits w64 z → ofZ w64 z < 256 ^ 8
+word-small z h = omega (arith, ofZ-fits w64 z h .fits)
+
 value-read : (a b : ℕ) (v : Value) → ValueFits v → entryIn (entryBytes (record { structure = a; unit = b; value = v }))
     ≡ record { structure = a; unit = b; value = v }
 unfolding bytesOf entryIn
-value-read a b (Number d) h = rw (number-bytes 8 (d .count) h)
+value-read a b (Number d) h = rw (number-bytes 8 (ofZ w64 (d .count)) (word-small (d .count) h), toZ-ofZ w64 (d .count) h)
 value-read a b (Time m) h = refl
 
 entries-read : (es : List Entry) → EntriesFit es → entriesIn (length es) (entriesBytes es) ≡ es

@@ -1,6 +1,6 @@
 -- What the tests and calls about one entry tell of it.
 use Prim.Native.Nat.{ℕ, _+_, _-_, _%_, _≤_, _<_}
-use mathlib.Core.Bool.{Bool, true, false, not, _||_}
+use mathlib.Core.Bool.{Bool, true, false, not, _&&_, _||_}
 use mathlib.Core.List.{List}
 use mathlib.Core.Path.{_≡_, refl, sym, ap, _∙_}
 use native.Mathlib.Nat.{add-sub-cancel-left}
@@ -11,18 +11,17 @@ use lib.ListN.{length, getD, take, drop, length-take, length-drop}
 use Rattle.mbus_rules.specs.declared.Value.{Value}
 use Rattle.mbus_rules.specs.declared.Value.the-variants.{Number, Time}
 use Rattle.mbus_rules.specs.declared.Entry.{Entry}
-use Rattle.mbus_rules.specs.Lists.{at, any}
+use Rattle.mbus_rules.specs.Lists.{at}
 use Rattle.mbus_rules.specs.Answers.{Answer, reads, refusal, refuse, within, follow}
 use Rattle.mbus_rules.specs.Quantities.{quantityOf, widthOf, paired, isTime}
-use Rattle.mbus_rules.specs.Digits.{overNine}
 use Rattle.mbus_rules.specs.Moments.{wrongMoment}
-use Rattle.mbus_rules.specs.Entries.{valueBytes, unfit}
+use Rattle.mbus_rules.specs.Entries.{mayFall, valueBytes, unfit, wrongNumber}
 use Rattle.mbus_rules.proofs.Laws.LengthLaws.{width-most}
 use Rattle.mbus_rules.proofs.Laws.Tests.{by-test, neither, passed}
 use Rattle.mbus_rules.proofs.Laws.TestLaws.{not-refused, within-reads}
-use Rattle.mbus_fields.specs.declared.digits.Packed.{Packed}
+use Rattle.mbus_fields.specs.declared.digits.Signed.{Signed}
 use Rattle.mbus_fields.specs.declared.moments.Timed.{Timed}
-use Rattle.mbus_fields.specs.Fields.{packedOf, timedOf, goesWith}
+use Rattle.mbus_fields.specs.Fields.{signedIn, timedOf, goesWith}
 use Rattle.mbus_fields.proofs.Laws.TableLaws.{goes-paired, low-width, quantity-few}
 use Rattle.mbus_entries.specs.declared.entry.Valued.{Valued}
 use Rattle.mbus_entries.specs.declared.entry.Tried.{Tried}
@@ -40,15 +39,16 @@ module _ {unit : ℕ} (b : List ℕ) {x : Timed} (u : unit ≡ 0x6D) (e : x ≡ 
   pub time-holds : x .wrong ≡ false → Valued.Holds (Time (x .moment)) ≡ valuedShown (valued unit b)
   time-holds w = rw (eq-eqb unit 0x6D u, rule-time w, ap (λ (y : Timed). y .moment) e)
 
-module _ {unit : ℕ} (b : List ℕ) {x : Packed} (u : unit ≡ 0x6D → ⊥) (e : x ≡ packedOf b) where
-  rule-number : {t : Bool} → x .wrong ≡ t → any overNine b ≡ t
-  rule-number w = sym (ap (λ (y : Packed). y .wrong) e) ∙ w
+module _ {unit : ℕ} (b : List ℕ) {x : Signed} {w : Bool} (u : unit ≡ 0x6D → ⊥) (e : x ≡ signedIn b)
+    (f : w ≡ (x .wrong || x .falls && not (mayFall unit))) where
+  rule-number : wrongNumber unit b ≡ w
+  rule-number = rw (ne-eqb unit 0x6D u) (sym (f ∙ ap (λ (y : Signed). y .wrong || y .falls && not (mayFall unit)) e))
 
-  pub number-refused : x .wrong ≡ true → Valued.Refused 12 ≡ valuedShown (valued unit b)
-  number-refused w = rw (ne-eqb unit 0x6D u, rule-number w)
+  pub number-refused : w ≡ true → Valued.Refused 12 ≡ valuedShown (valued unit b)
+  number-refused t = rw (rule-number, t)
 
-  pub number-holds : x .wrong ≡ false → Valued.Holds (Number (record { count = x .count })) ≡ valuedShown (valued unit b)
-  number-holds w = rw (ne-eqb unit 0x6D u, rule-number w, ap (λ (y : Packed). y .count) e)
+  pub number-holds : w ≡ false → Valued.Holds (Number (record { count = x .count })) ≡ valuedShown (valued unit b)
+  number-holds t = rw (rule-number, t, ne-eqb unit 0x6D u, ap (λ (y : Signed). y .count) e)
 
 value-refused : {n : ℕ} (a : Answer Value) → valuedShown a ≡ Valued.Refused n → a ≡ refusal n
 value-refused (refusal m) e = cc

@@ -54,12 +54,12 @@ word-counted k [] h l = no-count k
 word-counted zero (b ∷ s) h l = absurd (omega arith)
 word-counted (suc k) (b ∷ s) h l = rw (low-byte b (number s) (h .0), high-bytes b (number s) (h .0), word-counted k s (h .1) (omega arith))
 
--- what the word holds is what the first bytes hold, of which it was gathered
+-- what the word holds is what the bytes hold of which it was gathered
+pub word-whole : (s : List ℕ) → Bytes s → length s ≤ 8 → packedOf (bytesOf 8 (number s)) ≡ packedOf s
+word-whole s b l = λ i. record { wrong = word-tested 8 s b l i; count = word-counted 8 s b l i }
+
 pub word-packed : (k : ℕ) (s : List ℕ) → ((i : ℕ) → at s i < 256) → k ≤ 8 → packedOf (bytesOf 8 (number (take k s))) ≡ packedOf (take k s)
-word-packed k s h m =
-    let b : Bytes (take k s) = bytes-take k s (bytes-known s h) in
-    let l : length (take k s) ≤ 8 = omega (arith, length-take k s) in
-    λ i. record { wrong = word-tested 8 (take k s) b l i; count = word-counted 8 (take k s) b l i }
+word-packed k s h m = word-whole (take k s) (bytes-take k s (bytes-known s h)) (omega (arith, length-take k s))
 
 -- ---- the meter number, four bytes
 
@@ -67,7 +67,7 @@ word-packed k s h m =
 digit-step : (d b p : ℕ) → b < 256 → 3 * d + 5 ≤ 5 * p → 3 * (100 * d + (10 * (b / 16) + b % 16)) + 5 ≤ 5 * (p * 100)
 digit-step d b p h e = omega arith
 
-digits-most : (s : List ℕ) → Bytes s → 3 * digitsOf s + 5 ≤ 5 * 100 ^ length s
+pub digits-most : (s : List ℕ) → Bytes s → 3 * digitsOf s + 5 ≤ 5 * 100 ^ length s
 unfolding digitsOf
 digits-most [] h = omega arith
 digits-most (b ∷ s) h = rw (pow-suc 100 (length s)) (digit-step (digitsOf s) b (100 ^ length s) (h .0) (digits-most s (h .1)))

@@ -190,7 +190,7 @@ joins b0 b1 b2 b3 b4 b5 b6 b7 h w t f e q et ef ee =
       so = last (pair b0) (pair b1) (pair b2) (pair b3) (pair b4) (pair b5) (pair b6) (pair b7) m t f e t1 ef ee;
     }
 
-bytes-word : (k n : ℕ) → Bytes (bytesOf k n)
+pub bytes-word : (k n : ℕ) → Bytes (bytesOf k n)
 unfolding bytesOf
 bytes-word zero n = tt
 bytes-word (suc k) n = (omega arith, bytes-word k (n / 256))

@@ -1,10 +1,10 @@
 -- One entry both ways, and all entries both ways.
-use Prim.Native.Nat.{ℕ, zero, suc, _+_, _^_, _<_, _≤_, zero-le}
+use Prim.Native.Nat.{ℕ, zero, suc, _+_, _<_, _≤_, zero-le}
 use mathlib.Core.Bool.{Bool, true, false, not, _&&_, _||_, false≢true, and-false}
 use mathlib.Core.List.{List, [], _∷_, _++_, append-assoc, append-nil}
 use mathlib.Core.Path.{_≡_, refl, sym, ap, ap₂, _∙_}
 use native.Mathlib.Omega.{arith}
-use borrow.Author.Tests.{ltb-true, ltb-false, lt-ltb, le-ltb, lt-leb, eqb-true, ne-eqb, not-false}
+use borrow.Author.Tests.{ltb-false, le-ltb, lt-leb, eqb-true, ne-eqb, not-false}
 use lib.Dec.{ltb, leb}
 use lib.ListN.{length, take, drop, length-drop, length-append, take-append-drop, drop-of-length-le}
 use lib.Seq.{length-take-le, take-add, take-at, drop-at, drop-drop}
@@ -13,17 +13,18 @@ use Rattle.mbus_rules.specs.declared.Value.the-variants.{Number, Time}
 use Rattle.mbus_rules.specs.declared.Entry.{Entry}
 use Rattle.mbus_rules.specs.Lists.{at, any}
 use Rattle.mbus_rules.specs.Answers.{reads, refuse}
-use Rattle.mbus_rules.specs.Digits.{overNine, digitsOf}
 use Rattle.mbus_rules.specs.Moments.{dateExists, timeExists, weekdayExists, wrongMoment}
 use Rattle.mbus_rules.specs.Quantities.{quantityOf, widthOf, paired, isTime, isPacked, unknown, between}
-use Rattle.mbus_rules.specs.Entries.{valueBytes, entryWidth, valueOf, entryOf, unfit, wrongDigit, wrongTime, seen, missing, readEntries}
+use Rattle.mbus_rules.specs.Entries.{mayFall, valueBytes, entryWidth, valueOf, entryOf, unfit, wrongNumber, wrongDigit, wrongTime}
+use Rattle.mbus_rules.specs.Entries.{seen, missing, readEntries}
 use Rattle.mbus_rules.specs.Writing.{bytesOfValue, bytesOfEntry, bytesOfEntries, wrongValue, wrongEntry, repeats}
 use Rattle.mbus_rules.proofs.Laws.TestLaws.{none, refusals, all-passed, all-passing}
-use Rattle.mbus_rules.proofs.Laws.Tests.{by-test, passed}
+use Rattle.mbus_rules.proofs.Laws.Tests.{by-test, neither, passed}
 use Rattle.mbus_rules.proofs.Laws.AnswerLaws.{reads-same}
 use Rattle.mbus_rules.specs.Bytes.{Bytes}
 use Rattle.mbus_rules.proofs.Laws.ByteLaws.{bytes-append, bytes-take, bytes-drop, spell}
-use Rattle.mbus_rules.proofs.Laws.DigitLaws.{packed-digits, digits-below, digits-packed, packed-right, length-packed, bytes-packed}
+use Rattle.mbus_rules.specs.Signs.{minus, wrongSigned, fitsSigned, belowZero}
+use Rattle.mbus_rules.proofs.Laws.SignLaws.{SignedRead, signed-read, SignedWritten, signed-written}
 use Rattle.mbus_rules.proofs.Laws.MomentLaws.{MomentRead, moment-read, MomentWritten, moment-written}
 use Rattle.mbus_rules.proofs.Laws.Seven.{Different, different-last, different-few, fit-known}
 
@@ -33,7 +34,7 @@ record ValueRead (w u : ℕ) (b : List ℕ) : Type 0 where
   pub back : bytesOfValue w (valueOf u b) ≡ b
   pub right : wrongValue w u (valueOf u b) ≡ false
 
-value-read : (w u : ℕ) (b : List ℕ) → length b ≡ w → (isTime u ≡ true → w ≡ 6) → Bytes b → (not (isTime u) && any overNine b) ≡ false
+value-read : (w u : ℕ) (b : List ℕ) → length b ≡ w → (isTime u ≡ true → w ≡ 6) → Bytes b → wrongNumber u b ≡ false
     → (isTime u && wrongMoment b) ≡ false → ValueRead w u b
 value-read w u b e six bytes digits moment = by-test (isTime u) timed counted
   where
@@ -47,29 +48,30 @@ value-read w u b e six bytes digits moment = by-test (isTime u) timed counted
 
     counted : isTime u ≡ false → ValueRead w u b
     counted q =
-        let d : any overNine b ≡ false = rw q at digits in
+        let d = neither (wrongSigned b) (minus b && not (mayFall u)) (rw q at digits) in
+        let r : SignedRead b = signed-read b bytes (d .0) in
         record {
-          back = rw (q, ← e) (packed-digits b d);
-          right = rw (q, q, lt-ltb (digitsOf b) (100 ^ w) (rw e at (digits-below b d)));
+          back = rw (q, ← e) (r .back);
+          right = rw (q, q, ← e, r .fits, r .sign) (d .1);
         }
 
 record ValueWritten (w u : ℕ) (v : Value) : Type 0 where
   pub width : length (bytesOfValue w v) ≡ w
   pub back : valueOf u (bytesOfValue w v) ≡ v
-  pub digits : (not (isTime u) && any overNine (bytesOfValue w v)) ≡ false
+  pub digits : wrongNumber u (bytesOfValue w v) ≡ false
   pub moment : (isTime u && wrongMoment (bytesOfValue w v)) ≡ false
   pub bytes : Bytes (bytesOfValue w v)
 
 value-written : (w u : ℕ) (v : Value) → (isTime u ≡ true → w ≡ 6) → wrongValue w u v ≡ false → ValueWritten w u v
 value-written w u (Number d) six e =
-    let k = none (isTime u) (not (ltb (d .count) (100 ^ w)) ∷ []) e in
-    let small : d .count < 100 ^ w = ltb-true (d .count) (100 ^ w) (not-false (ltb (d .count) (100 ^ w)) (k .1 .0)) in
+    let k = none (isTime u) (not (fitsSigned w (d .count)) ∷ (belowZero (d .count) && not (mayFall u)) ∷ []) e in
+    let s : SignedWritten w (d .count) = signed-written w (d .count) (not-false (fitsSigned w (d .count)) (k .1 .0)) in
     record {
-      width = length-packed w (d .count);
-      back = rw (k .0, digits-packed w (d .count) small);
-      digits = rw (k .0, packed-right w (d .count));
+      width = s .width;
+      back = rw (k .0, s .back);
+      digits = rw (k .0, s .right, s .sign) (k .1 .1 .0);
       moment = rw (k .0);
-      bytes = bytes-packed w (d .count);
+      bytes = s .bytes;
     }
 value-written w u (Time m) six e =
     let k = none (not (isTime u)) (not (dateExists m) ∷ not (timeExists m) ∷ not (weekdayExists m) ∷ []) e in

@@ -5,6 +5,7 @@ use lib.ListN.{length, set}
 use Rattle.mbus_rules.specs.Lists.{any, total}
 use Rattle.mbus_rules.specs.Characters.{odd, carrier}
 use Rattle.mbus_rules.specs.Digits.{digitsOf}
+use Rattle.mbus_rules.specs.Signs.{minus, sizeBytes}
 use Rattle.mbus_rules.specs.Moments.{wrongMoment}
 use Rattle.mbus_rules.specs.Headers.{wrongHeader}
 use Rattle.mbus_rules.specs.Quantities.{quantityOf, widthOf, paired}
@@ -15,5 +16,6 @@ use Rattle.mbus_rules.specs.FourFlips.{dataLine, four}
 
 pub four-flips-pass : (length four ≡ 4) × Places dataLine four × (flips four dataLine ≡ set (set dataLine 15 0x00) 16 0x03)
     × Accepted dataLine × Accepted (flips four dataLine)
-unfolding readLine readBody readEntries any total odd carrier onesIn flips flipBit repeated wrongHeader digitsOf wrongMoment quantityOf widthOf paired
+unfolding readLine readBody readEntries any total odd carrier onesIn flips flipBit repeated wrongHeader digitsOf minus sizeBytes wrongMoment quantityOf
+    widthOf paired
 four-flips-pass = (refl, record { within = refl; different = refl }, refl, (_, refl), (_, refl))

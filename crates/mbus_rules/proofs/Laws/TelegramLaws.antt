@@ -1,11 +1,12 @@
 -- Laws of `specs/TelegramLaws`.
 use Prim.Native.Nat.{ℕ, zero, suc, _-_, _≤_}
-use mathlib.Core.Bool.{false, true≢false}
+use mathlib.Core.Bool.{true, false, true≢false, false≢true}
 use mathlib.Core.List.{List, [], _∷_, _++_}
 use mathlib.Core.Path.{_≡_, refl, sym, ap, ap₂, _∙_}
 use native.Mathlib.Omega.{arith}
-use borrow.Author.Tests.{ltb-false, le-ltb}
+use borrow.Author.Tests.{ltb-false, le-ltb, eqb-true, not-false}
 use lib.Dec.{ltb}
+use lib.IntN.{ℤ, pos, negsuc}
 use lib.ListN.{length, drop, replicate, length-drop, take-append-drop}
 use lib.Seq.{take-append-seam, drop-append-seam, length-take-le}
 use Rattle.mbus_rules.specs.declared.Value.{Value}
@@ -16,6 +17,7 @@ use Rattle.mbus_rules.specs.declared.Entry.{Entry}
 use Rattle.mbus_rules.specs.declared.Header.{Header}
 use Rattle.mbus_rules.specs.declared.Telegram.{Telegram}
 use Rattle.mbus_rules.specs.Lists.{any}
+use Rattle.mbus_rules.specs.Signs.{isZero}
 use Rattle.mbus_rules.specs.Telegrams.{blankEntry, blankHeader, bare, dataOf}
 use Rattle.mbus_rules.specs.Entries.{missing}
 use Rattle.mbus_rules.specs.Writing.{entriesOf, usedValue, usedEntry, usedHeader, usedBody, wrongEntry, unwrittenHeader, repeats, unwritable}
@@ -27,7 +29,11 @@ pub zero-of : (n : ℕ) → ltb 0 n ≡ false → n ≡ 0
 zero-of n e = omega (arith, ltb-false 0 n e)
 
 value-blank : (v : Value) → usedValue v ≡ false → v ≡ blankEntry .value
-value-blank (Number d) e = ap (λ (n : ℕ). Number (record { count = n })) (zero-of (d .count) e)
+value-blank (Number d) e = ap (λ (n : ℤ). Number (record { count = n })) (is-zero (d .count) (not-false (isZero (d .count)) e))
+  where
+    is-zero : (z : ℤ) → isZero z ≡ true → z ≡ pos 0
+    is-zero (pos n) h = ap pos (eqb-true n 0 h)
+    is-zero (negsuc n) h = absurd (false≢true h)
 value-blank (Time m) e = absurd (true≢false e)
 
 entry-blank : (e : Entry) → usedEntry e ≡ false → e ≡ blankEntry

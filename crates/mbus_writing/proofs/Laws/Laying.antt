@@ -1,14 +1,15 @@
 -- Laws of `specs/Laying`.
-use Prim.Native.Nat.{ℕ, zero, suc, _+_, _*_, _-_, _/_, _%_, _≤_, _<_, zero-le}
-use mathlib.Core.Bool.{Bool, true, false, not}
+use Prim.Native.Nat.{ℕ, zero, suc, _+_, _*_, _-_, _/_, _%_, _^_, _≤_, _<_, zero-le}
+use mathlib.Core.Bool.{Bool, true, false, not, _&&_, false≢true}
 use mathlib.Core.List.{List, [], _∷_, _++_, map, append-assoc, append-nil}
 use mathlib.Core.Path.{_≡_, refl, sym, ap, ap₂, subst, _∙_}
-use native.Mathlib.Nat.{zero-add, not-suc-le-zero}
+use native.Mathlib.Nat.{zero-add, not-suc-le-zero, pow-succ'}
 use native.Mathlib.Numerals.{add-one}
 use native.Mathlib.Omega.{arith}
-use borrow.Author.Tests.{eqb-true, not-false}
+use borrow.Author.Tests.{eqb-true, ltb-true, not-false}
 use lib.Count.{onesIn}
 use lib.Dec.{eqb, ltb, lit<}
+use lib.IntN.{ℤ, pos, negsuc}
 use lib.ListN.{length, getD, take, drop, set, length-append, length-take, drop-of-length-le, length-map, List·getD-map}
 use lib.Seq.{drop-cons, take-add, take-suc, take-take, getD-take, take-at, drop-at, take-append-seam, length-take-le}
 use Rattle.bytes_lent.specs.Copying.{laid, copied}
@@ -20,11 +21,15 @@ use Rattle.mbus_rules.specs.declared.Kind.{Kind}
 use Rattle.mbus_rules.specs.declared.Kind.the-variants.{Data}
 use Rattle.mbus_rules.specs.declared.Entry.{Entry}
 use Rattle.mbus_rules.specs.declared.Telegram.{Telegram}
-use Rattle.mbus_rules.specs.Lists.{any, total}
+use Rattle.mbus_rules.specs.Lists.{at, any, total}
 use Rattle.mbus_rules.proofs.Laws.Tests.{below, none-at}
 use Rattle.mbus_rules.specs.Characters.{carrier}
 use Rattle.mbus_rules.proofs.Laws.Folding.{fold}
 use Rattle.mbus_rules.specs.Digits.{packed}
+use Rattle.mbus_rules.specs.Entries.{mayFall}
+use Rattle.mbus_rules.specs.Signs.{marked, signedBytes, fitsSigned, belowZero}
+use Rattle.mbus_rules.proofs.Laws.SignLaws.{marked-cons}
+use Rattle.mbus_rules.proofs.Laws.DigitLaws.{length-packed}
 use Rattle.mbus_rules.specs.Moments.{dateExists, timeExists, weekdayExists}
 use Rattle.mbus_rules.specs.Quantities.{widthOf, paired, isTime}
 use Rattle.mbus_rules.proofs.Laws.TestLaws.{none}
@@ -34,7 +39,7 @@ use Rattle.mbus_rules.proofs.Laws.LengthLaws.{width-most, entries-least, entrie
 use Rattle.mbus_rules.proofs.Laws.LineLaws.{GoodData, good-data}
 use Rattle.mbus_rules.specs.Writing.{bytesOfValue, bytesOfEntry, bytesOfEntries, bytesOfKind, wrongValue, wrongEntry, wrongData, entriesOf, bytesOfHeader}
 use Rattle.mbus_rules.specs.Writing.{closed, unwritable}
-use Rattle.mbus_writing.specs.Laying.{sixBytes, exists, EntryFits, EntryLaid, EntriesFit, EntriesLaid, FrameClosed, BytesLaid, DataFits}
+use Rattle.mbus_writing.specs.Laying.{signedSix, sixBytes, exists, EntryFits, EntryLaid, EntriesFit, EntriesLaid, FrameClosed, BytesLaid, DataFits}
 
 -- ---- a loop that copies with parity, and one that sums
 
@@ -104,16 +109,52 @@ packed-cut k zero n h = refl
 packed-cut zero (suc w) n h = absurd (not-suc-le-zero h)
 packed-cut (suc k) (suc w) n h = ap (λ (l : List ℕ). (16 * (n / 10 % 10) + n % 10) ∷ l) (packed-cut k w (n / 100) (omega arith))
 
-value-cut : (w u : ℕ) (v : Value) → w ≤ 6 → (isTime u ≡ true → w ≡ 6) → wrongValue w u v ≡ false → (take w (sixBytes v) ≡ bytesOfValue w v) × (exists v ≡ true)
-value-cut w u (Number d) h six e = (packed-cut 6 w (d .count) h, refl)
+-- the mark is put at the width of the cut
+mark-cut : (k w n : ℕ) → suc w ≤ k → 10 * n < 100 ^ suc w
+    → take (suc w) (set (packed k n) w (0xF0 + at (packed k n) w % 16)) ≡ marked (packed (suc w) n)
+unfolding packed marked
+mark-cut zero w n h f = absurd (not-suc-le-zero h)
+mark-cut (suc k) zero n h f =
+    let few : n < 10 = omega arith in
+    let low : (16 * (n / 10 % 10) + n % 10) % 16 ≡ 16 * (n / 10 % 10) + n % 10 = omega arith in
+    ap (λ (x : ℕ). (0xF0 + x) ∷ []) low
+mark-cut (suc k) (suc w) n h f =
+    let p : 100 ^ suc (suc w) ≡ 100 * 100 ^ suc w = pow-succ' 100 (suc w) in
+    let q : 100 ^ suc w ≡ 100 * 100 ^ w = pow-succ' 100 w in
+    let x : ℕ = 16 * (n / 10 % 10) + n % 10 in
+    let l : length (packed (suc w) (n / 100)) ≡ suc w = length-packed (suc w) (n / 100) in
+    ap (λ (l : List ℕ). x ∷ l) (mark-cut k w (n / 100) (omega arith) (omega arith)) ∙ sym (marked-cons x (packed (suc w) (n / 100)) (omega arith))
+
+-- a number below zero that fits has a place for its sign
+pub sign-wide : (w : ℕ) (z : ℤ) → fitsSigned w z ≡ true → belowZero z ≡ true → 1 ≤ w
+sign-wide w (pos n) f e = absurd (false≢true e)
+sign-wide (suc w) (negsuc n) f e = omega arith
+sign-wide zero (negsuc n) f e = absurd (none-fits n (ltb-true (10 * suc n) (100 ^ 0) f))
+  where
+    none-fits : (n : ℕ) → 10 * suc n < 1 → ⊥
+    none-fits n h = omega arith
+
+number-cut : (w : ℕ) (z : ℤ) → w ≤ 6 → fitsSigned w z ≡ true → take w (signedSix w z) ≡ signedBytes w z
+number-cut w (pos n) h f = packed-cut 6 w n h
+number-cut (suc w) (negsuc n) h f =
+    let last : suc w - 1 ≡ w = omega arith in
+    rw last (mark-cut 6 w (suc n) h (ltb-true (10 * suc n) (100 ^ suc w) f))
+number-cut zero (negsuc n) h f = absurd (not-suc-le-zero (sign-wide zero (negsuc n) f refl))
+
+value-cut : (w u : ℕ) (v : Value) → w ≤ 6 → (isTime u ≡ true → w ≡ 6) → wrongValue w u v ≡ false
+    → (take w (sixBytes w v) ≡ bytesOfValue w v) × (exists w v ≡ true)
+value-cut w u (Number d) h six e =
+    let k = none (isTime u) (not (fitsSigned w (d .count)) ∷ (belowZero (d .count) && not (mayFall u)) ∷ []) e in
+    let f : fitsSigned w (d .count) ≡ true = not-false (fitsSigned w (d .count)) (k .1 .0) in
+    (number-cut w (d .count) h f, f)
 value-cut w u (Time m) h six e =
     let k = none (not (isTime u)) (not (dateExists m) ∷ not (timeExists m) ∷ not (weekdayExists m) ∷ []) e in
     let n : w ≡ 6 = six (not-false (isTime u) (k .0)) in
     (rw n, rw (not-false (dateExists m) (k .1 .0), not-false (timeExists m) (k .1 .1 .0), not-false (weekdayExists m) (k .1 .1 .1 .0)))
 
 pub record EntryCut (e : Entry) : Type 0 where
-  pub cut : take (2 + widthOf (e .structure)) (e .structure ∷ e .unit ∷ sixBytes (e .value)) ≡ bytesOfEntry e
-  pub there : exists (e .value) ≡ true
+  pub cut : take (2 + widthOf (e .structure)) (e .structure ∷ e .unit ∷ sixBytes (widthOf (e .structure)) (e .value)) ≡ bytesOfEntry e
+  pub there : exists (widthOf (e .structure)) (e .value) ≡ true
   pub width : length (bytesOfEntry e) ≡ 2 + widthOf (e .structure)
   pub most : widthOf (e .structure) ≤ 6
 
@@ -125,18 +166,18 @@ entry-cut e h =
     let most : widthOf (e .structure) ≤ 6 = width-most st in
     let v = value-cut w (e .unit) (e .value) most (six-wide st (e .unit) (not-false (paired st (e .unit)) (k .0))) (k .1 .0) in
     record {
-      cut = take-add 2 w (st ∷ e .unit ∷ sixBytes (e .value)) ∙ ap (λ (l : List ℕ). st ∷ e .unit ∷ l) (v .0);
+      cut = take-add 2 w (st ∷ e .unit ∷ sixBytes (widthOf (e .structure)) (e .value)) ∙ ap (λ (l : List ℕ). st ∷ e .unit ∷ l) (v .0);
       there = v .1;
       width = entry-written e [] h .width;
       most = most;
     }
 
 pub entry-laid : {e : Entry} {before after : List ℕ} {at width : ℕ} → EntryFits e before at → width ≡ 2 + widthOf (e .structure)
-    → after ≡ copied before at (take width (e .structure ∷ e .unit ∷ sixBytes (e .value))) → EntryLaid e before after at (at + width)
+    → after ≡ copied before at (take width (e .structure ∷ e .unit ∷ sixBytes (widthOf (e .structure)) (e .value))) → EntryLaid e before after at (at + width)
 entry-laid {e} {before} {after} {at} {width} f w l =
     let c : EntryCut e = entry-cut e (f .right) in
-    let same : take width (e .structure ∷ e .unit ∷ sixBytes (e .value)) ≡ bytesOfEntry e =
-    ap (λ (k : ℕ). take k (e .structure ∷ e .unit ∷ sixBytes (e .value))) w ∙ c .cut in
+    let same : take width (e .structure ∷ e .unit ∷ sixBytes (widthOf (e .structure)) (e .value)) ≡ bytesOfEntry e =
+    ap (λ (k : ℕ). take k (e .structure ∷ e .unit ∷ sixBytes (widthOf (e .structure)) (e .value))) w ∙ c .cut in
     let room : at + length (bytesOfEntry e) ≤ length before = omega (arith, f .room, f .size) in
     record { bytes = l ∙ ap (copied before at) same ∙ copied-fits before at (bytesOfEntry e) room; so = ap (λ (k : ℕ). at + k) (w ∙ sym (c .width)) }
 

@@ -1,13 +1,16 @@
 -- Laws about the record of a meter: what is written for a meter is read as that meter, if some history leads to it.
 use Prim.Native.Nat.{ℕ, zero, suc, _/_, _%_, _^_, _≤_, _<_}
-use mathlib.Core.Bool.{false, cond, not, _||_}
+use mathlib.Core.Bool.{false, cond, not, _||_, true≢false}
 use mathlib.Core.List.{List, [], _∷_}
 use mathlib.Core.Path.{_≡_, refl, sym, ap, subst, _∙_}
 use native.Mathlib.Nat.{lt-of-lt-of-le, lt-of-le-of-lt, pow-le-pow-right}
 use native.Mathlib.Omega.{arith}
-use borrow.Author.Tests.{ltb-true, ltb-false, not-false}
+use borrow.Author.Tests.{eqb-true, ltb-true, ltb-false, not-false}
 use lib.Dec.{ltb, eqb, lit<, lit≤}
+use lib.IntN.{ℤ, pos, negsuc, natAbs}
 use lib.ListN.{length, take, drop}
+use mir.Syntax.{w64}
+use mir.Val.{SFits}
 use Rattle.bench_clock.specs.Times.{due, earlier}
 use Rattle.mbus_rules.specs.declared.Entry.{Entry}
 use Rattle.mbus_rules.specs.declared.Telegram.{Telegram}
@@ -19,9 +22,10 @@ use Rattle.mbus_rules.specs.Headers.{letter, makerNamed, heatMeter}
 use Rattle.mbus_rules.proofs.Laws.LengthLaws.{width-most}
 use Rattle.mbus_rules.specs.Lines.{isMethod}
 use Rattle.mbus_rules.specs.Lists.{any}
-use Rattle.mbus_rules.specs.Quantities.{widthOf, paired, isTime}
+use Rattle.mbus_rules.specs.Quantities.{widthOf, paired}
 use Rattle.mbus_rules.proofs.Laws.TestLaws.{none, every}
 use Rattle.mbus_rules.proofs.Laws.Tests.{neither, passed}
+use Rattle.mbus_rules.specs.Signs.{isZero}
 use Rattle.mbus_rules.specs.Writing.{usedValue, usedEntry, wrongValue, wrongEntry}
 use Rattle.bytes_numbers.specs.Numbers.{bytesOf}
 use Rattle.bytes_numbers.proofs.Laws.Numbers.{number-bytes}
@@ -38,11 +42,15 @@ use Rattle.host_records.specs.Telegrams.{telegramBytes, entriesIn, telegramIn, 
 use Rattle.host_records.proofs.Laws.TelegramLaws.{ValueFits, EntriesFit, Fits, telegram-read}
 use Rattle.meter_template.specs.declared.Pair.{Pair}
 use Rattle.meter_template.specs.Templates.{unfitTemplate, pairIn, totalMost}
-use Rattle.meter_template.proofs.Laws.TemplateLaws.{fit}
+use Rattle.meter_template.proofs.Laws.TemplateLaws.{fit, size-within, right-fits}
 use Rattle.meter_record.specs.MeterRecords.{modeNumber, methodOf, sinceOf, meterBytes, wordAt, meterIn, wrongMode, wrongTotal, wrongPair, unreached}
 use Rattle.meter_record.specs.MeterRecords.{recalled, meterFrom}
 
 -- ---- the fields of a template fit their types
+
+size-fits : (z : ℤ) → natAbs z < 100 ^ 6 → SFits w64 z
+size-fits (pos n) h = record { sfits = omega arith }
+size-fits (negsuc n) h = record { sfits = omega arith }
 
 value-small : (e : Entry) → wrongEntry e ≡ false → ValueFits (e .value)
 value-small e right = go (e .value) (neither (not (paired (e .structure) (e .unit))) (wrongValue (widthOf (e .structure)) (e .unit) (e .value)) right .1)
@@ -50,18 +58,20 @@ value-small e right = go (e .value) (neither (not (paired (e .structure) (e .uni
     go : (x : Value) → wrongValue (widthOf (e .structure)) (e .unit) x ≡ false → ValueFits x
     go (Time m) w = tt
     go (Number d) w =
-        let test = ltb (d .count) (100 ^ widthOf (e .structure)) in
-        let short : d .count < 100 ^ widthOf (e .structure) = ltb-true (d .count) (100 ^ widthOf (e .structure))
-        (not-false test (neither (isTime (e .unit)) (not test) w .1)) in
+        let short : natAbs (d .count) < 100 ^ widthOf (e .structure) = size-within (widthOf (e .structure)) (d .count) (right-fits e d w) in
         let most : 100 ^ widthOf (e .structure) ≤ 100 ^ 6 = pow-le-pow-right (lit< tt) (width-most (e .structure)) in
-        lt-of-lt-of-le (lt-of-lt-of-le short most) (lit≤ tt)
+        size-fits (d .count) (lt-of-lt-of-le short most)
 
 blank-small : (e : Entry) → usedEntry e ≡ false → ValueFits (e .value)
 blank-small e blank = go (e .value) (neither (ltb 0 (e .structure) || ltb 0 (e .unit)) (usedValue (e .value)) blank .1)
   where
+    zero-fits : (z : ℤ) → not (isZero z) ≡ false → SFits w64 z
+    zero-fits (pos n) u = let none : n ≡ 0 = eqb-true n 0 (not-false (eqb n 0) u) in record { sfits = omega arith }
+    zero-fits (negsuc n) u = absurd (true≢false u)
+
     go : (x : Value) → usedValue x ≡ false → ValueFits x
     go (Time m) u = tt
-    go (Number d) u = lt-of-le-of-lt (ltb-false 0 (d .count) u) (lit< tt)
+    go (Number d) u = zero-fits (d .count) u
 
 entries-small : (n : ℕ) (es : List Entry) → any wrongEntry (take n es) ≡ false → any usedEntry (drop n es) ≡ false → EntriesFit es
 unfolding any EntriesFit

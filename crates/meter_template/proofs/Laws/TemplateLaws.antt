@@ -1,15 +1,17 @@
 -- What is answered with a template can be written.
-use Prim.Native.Nat.{ℕ, zero, suc, _≤_, _<_, zero-le, _^_}
+use Prim.Native.Nat.{ℕ, zero, suc, _*_, _%_, _≤_, _<_, zero-le, _^_}
 use native.Mathlib.Omega.{arith}
-use mathlib.Core.Bool.{Bool, true, false, cond, not, _||_, true≢false, and-eq-true-iff}
+use mathlib.Core.Bool.{Bool, true, false, cond, not, _&&_, _||_, true≢false, and-eq-true-iff}
 use mathlib.Core.List.{List, [], _∷_, _++_, map}
 use mathlib.Core.Path.{_≡_, refl, sym, ap, ap₂, _∙_, fun-ext}
 use borrow.Author.Tests.{eqb-true, eqb-false, lt-ltb, ltb-true, ltb-false, not-false}
 use lib.Dec.{eqb, ltb, lit<}
+use lib.IntN.{ℤ, pos, negsuc, natAbs}
 use lib.ListN.{take, drop, length-map}
 use Rattle.mbus_rules.specs.declared.Kind.{Kind}
 use Rattle.mbus_rules.specs.declared.Kind.the-variants as kinds
 use Rattle.mbus_rules.specs.declared.Telegram.{Telegram}
+use Rattle.mbus_rules.specs.declared.Decimal.{Decimal}
 use Rattle.mbus_rules.specs.declared.Entry.{Entry}
 use Rattle.mbus_rules.specs.declared.Value.{Value}
 use Rattle.mbus_rules.specs.declared.Value.the-variants.{Number, Time}
@@ -17,7 +19,8 @@ use Rattle.mbus_rules.specs.Answers.{Answer, reads, refusal}
 use Rattle.mbus_rules.specs.Lists.{any}
 use Rattle.mbus_rules.proofs.Laws.ListLaws.{any-map, map-take, map-drop}
 use Rattle.mbus_rules.specs.Quantities.{quantityOf, widthOf, paired, isTime, volume, energy}
-use Rattle.mbus_rules.specs.Entries.{seen, missing}
+use Rattle.mbus_rules.specs.Signs.{fitsSigned, belowZero}
+use Rattle.mbus_rules.specs.Entries.{mayFall, seen, missing}
 use Rattle.mbus_rules.proofs.Laws.Tests.{by-test, neither}
 use Rattle.mbus_rules.specs.TelegramSizes.{Sized}
 use Rattle.mbus_rules.specs.Writing.{entriesOf, usedValue, usedEntry, wrongValue, wrongEntry, unwrittenHeader, repeats, wrongData, wrongFor, unwritable}
@@ -97,7 +100,8 @@ unfolding widthOf
 wrong-counted q n e small fits h right =
     let both = neither (not (paired (e .structure) (e .unit))) (wrongValue (widthOf (e .structure)) (e .unit) (e .value)) right in
     ap₂ _||_ (both .0)
-    (ap₂ _||_ (held-number q e small h) (ap (λ (st : ℕ). not (ltb n (100 ^ widthOf st))) (held-structure q e h) ∙ ap not (lt-ltb n 100000000 (omega arith))))
+    (ap₂ _||_ (ap₂ _||_ (held-number q e small h)
+    (ap (λ (st : ℕ). not (ltb (n % 2 ^ 63) (100 ^ widthOf st))) (held-structure q e h) ∙ ap not (lt-ltb (n % 2 ^ 63) 100000000 (omega arith)))) refl)
 
 wrong-filled : (p : Pair) → Within p → (e : Entry) → wrongEntry e ≡ false → wrongEntry (filledEntry p e) ≡ false
 wrong-filled p w e right =
@@ -116,6 +120,19 @@ used-filled p e u = rw (unused-holds volume e u, unused-holds energy e u) u
 
 -- ---- the totals of a template that can be written are within the limit
 
+-- a number that fits has a size of so many digits
+pub size-within : (w : ℕ) (z : ℤ) → fitsSigned w z ≡ true → natAbs z < 100 ^ w
+size-within w (pos n) e = ltb-true n (100 ^ w) e
+size-within w (negsuc n) e = omega (arith, ltb-true (10 * suc n) (100 ^ w) e)
+
+-- an entry's number that is right fits
+pub right-fits : (e : Entry) (d : Decimal) → wrongValue (widthOf (e .structure)) (e .unit) (Number d) ≡ false
+    → fitsSigned (widthOf (e .structure)) (d .count) ≡ true
+right-fits e d w =
+    let fits = fitsSigned (widthOf (e .structure)) (d .count) in
+    let long = neither (isTime (e .unit) || not fits) (belowZero (d .count) && not (mayFall (e .unit))) w .0 in
+    not-false fits (neither (isTime (e .unit)) (not fits) long .1)
+
 counted-within : (q : ℕ) (e : Entry) → holds q e ≡ true → wrongEntry e ≡ false → valueCount (e .value) ≤ totalMost
 unfolding widthOf
 counted-within q e h right = go (e .value) (neither (not (paired (e .structure) (e .unit))) (wrongValue (widthOf (e .structure)) (e .unit) (e .value)) right .1)
@@ -123,9 +140,9 @@ counted-within q e h right = go (e .value) (neither (not (paired (e .structure) 
     go : (x : Value) → wrongValue (widthOf (e .structure)) (e .unit) x ≡ false → valueCount x ≤ totalMost
     go (Time m) w = zero-le
     go (Number d) w =
-        let short : ltb (d .count) (100 ^ widthOf (e .structure)) ≡ true = not-false (ltb (d .count) (100 ^ widthOf (e .structure)))
-        (neither (isTime (e .unit)) (not (ltb (d .count) (100 ^ widthOf (e .structure)))) w .1) in
-        omega (arith, ltb-true (d .count) 100000000 (ap (λ (st : ℕ). ltb (d .count) (100 ^ widthOf st)) (sym (held-structure q e h)) ∙ short))
+        let small : natAbs (d .count) < 100 ^ widthOf (e .structure) = size-within (widthOf (e .structure)) (d .count) (right-fits e d w) in
+        let eight : natAbs (d .count) < 100000000 = rw (held-structure q e h) at small in
+        omega arith
 
 total-blank : (q : ℕ) (es : List Entry) → any usedEntry es ≡ false → totalIn q es ≡ 0
 unfolding any totalIn

@@ -1,6 +1,8 @@
 -- `host_records::telegrams::entry_in` meets its contract. Assumes nothing.
 use Rattle.host_records.specs.Telegrams.{entryIn}
 use borrow.Author.Needs.{needs}
+use mir.Syntax.{w64}
+use mir.ValLaws.{toZ-ofZ}
 use Rattle.host_records.proofs.telegrams.entry_in.Statement.{statement}
 use Rattle.host_records.proofs.telegrams.entry_in.Tie as tie
 
@@ -41,9 +43,18 @@ returns c = rw (c .before .before .before .before .before .before .before .if1 .
 number-at-requires : tie.Need-number-at-requires
 number-at-requires c κs = search needs
 
+count-of-requires : tie.Need-count-of-requires
+count-of-requires c κs = search needs
+
 returns-2 : tie.Need-returns-2
 unfolding entryIn
-returns-2 c = rw (c .before .if1 .left, c .number-at .ensures .so)
+returns-2 c =
+    rw (
+      c .before .before .if1 .left,
+      toZ-ofZ w64 (c .count-of .result) (record { sfits = c .count-of .ok }),
+      c .count-of .ensures,
+      c .before .number-at .ensures .so,
+    )
 
 pub entry-in-spec : {M : Type 1} → statement M
 entry-in-spec =
@@ -61,4 +72,5 @@ entry-in-spec =
     shared-slice-read-t25
     returns
     number-at-requires
+    count-of-requires
     returns-2)

@@ -1,12 +1,17 @@
--- `mbus_entries::entry::value_of` meets its contract: a point in time, or packed digits. Assumes nothing.
+-- `mbus_entries::entry::value_of` meets its contract: a point in time, or packed digits with a sign. Assumes nothing.
 use borrow.Author.Needs.{needs}
-use mathlib.Core.Path.{ap, _∙_}
+use mathlib.Core.Path.{_≡_, ap, _∙_}
 use native.Mathlib.Omega.{arith}
+use Prim.Native.Nat.{ℕ, _≤_}
+use mathlib.Core.List.{List}
+use mir.Syntax.{w64}
+use mir.ValLaws.{toZ-ofZ}
 use borrow.Author.Tests.{eq-eqb}
 use denote.Ref.{now}
-use lib.ListN.{length-take}
+use lib.ListN.{length, take, length-take}
 use lib.Seq.{take-all}
-use Rattle.mbus_fields.specs.Fields.{packedOf, timedOf}
+use Rattle.mbus_fields.specs.declared.digits.Signed.{Signed}
+use Rattle.mbus_fields.specs.Fields.{signedIn, timedOf}
 use Rattle.mbus_entries.proofs.Laws.TryLaws.{time-refused, time-holds, number-refused, number-holds}
 use Rattle.mbus_entries.proofs.entry.value_of.Statement.{statement}
 use Rattle.mbus_entries.proofs.entry.value_of.Tie as tie
@@ -30,18 +35,31 @@ returns-2 c = time-holds (now (c .before .before .before .before .before .before
     (take-all 6 (now (c .before .before .before .before .before .before .args .value))
     (c .before .before .before .before .before .before .pre .most))) (c .before .if2 .left)
 
-packed-of-requires : tie.Need-packed-of-requires
-packed-of-requires c κs = search needs
+signed-of-requires : tie.Need-signed-of-requires
+signed-of-requires c κs = search needs
+
+wrong-number-requires : tie.Need-wrong-number-requires
+wrong-number-requires c κs = search needs
+
+-- the digits that were read are those of the value, which has at most six bytes
+number-told : (value : List ℕ) (most : length value ≤ 6) {x : Signed} → x ≡ signedIn (take 8 value) → x ≡ signedIn value
+number-told value most e = e ∙ ap signedIn (take-all 8 value (omega arith))
 
 returns-3 : tie.Need-returns-3
-returns-3 c = number-refused (now (c .before .before .before .before .args .value)) (c .before .before .if1 .left)
-    (c .before .packed-of .ensures ∙ ap packedOf
-    (take-all 8 (now (c .before .before .before .before .args .value)) (omega (arith, c .before .before .before .before .pre .most)))) (c .if3 .taken)
+returns-3 c =
+    let start = c .before .before .before .before .before in
+    let told = number-told (now (start .args .value)) (start .pre .most) (c .before .before .signed-of .ensures) in
+    number-refused (now (start .args .value)) (c .before .before .before .if1 .left) told (c .before .wrong-number .ensures) (c .if3 .taken)
 
 returns-4 : tie.Need-returns-4
-returns-4 c = number-holds (now (c .before .before .before .before .args .value)) (c .before .before .if1 .left)
-    (c .before .packed-of .ensures ∙ ap packedOf
-    (take-all 8 (now (c .before .before .before .before .args .value)) (omega (arith, c .before .before .before .before .pre .most)))) (c .if3 .left)
+returns-4 c =
+    let start = c .before .before .before .before .before .before in
+    let x = c .before .before .before .signed-of in
+    let g = c .struct-told .given in
+    let told = number-told (now (start .args .value)) (start .pre .most) (x .ensures) in
+    rw (toZ-ofZ w64 (x .result .count) (record { sfits = omega arith }))
+    (number-holds (now (start .args .value)) (c .before .before .before .before .if1 .left) told (c .before .before .wrong-number .ensures)
+    (c .before .if3 .left))
 
 pub value-of-spec : {M : Type 1} → statement M
 value-of-spec =
@@ -51,6 +69,7 @@ value-of-spec =
     timed-of-requires
     returns
     returns-2
-    packed-of-requires
+    signed-of-requires
+    wrong-number-requires
     returns-3
     returns-4)

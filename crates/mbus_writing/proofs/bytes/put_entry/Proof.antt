@@ -13,7 +13,7 @@ use Rattle.mbus_writing.proofs.bytes.put_entry.Statement.{statement}
 use Rattle.mbus_writing.proofs.bytes.put_entry.Tie as tie
 
 entry-bytes-requires : tie.Need-entry-bytes-requires
-entry-bytes-requires c κs = entry-cut (c .before .args .e) (c .before .pre .right) .there
+entry-bytes-requires c κs = let x = entry-cut (c .before .args .e) (c .before .pre .right) in (x .there, x .most)
 
 width-of-requires : tie.Need-width-of-requires
 width-of-requires c κs = search needs

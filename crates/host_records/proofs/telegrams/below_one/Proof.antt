@@ -1,0 +1,24 @@
+-- `host_records::telegrams::below_one` meets its contract. Assumes nothing.
+use borrow.Author.Needs.{needs}
+use lib.IntN.{negsuc}
+use mir.Syntax.{w64}
+use mir.ValLaws.{toZ-ofZ}
+use Rattle.mbus_rules.proofs.Laws.Negation.{negation-fits, negated}
+use Rattle.host_records.proofs.Laws.TwosComplement.{lowered}
+use Rattle.host_records.proofs.telegrams.below_one.Statement.{statement}
+use Rattle.host_records.proofs.telegrams.below_one.Tie as tie
+
+cast-result : tie.Need-cast-result
+cast-result c = search needs
+
+sub-result : tie.Need-sub-result
+sub-result c = rw (negated (c .args .more) (c .pre)) (negation-fits (c .args .more) (c .pre))
+
+sub-result-2 : tie.Need-sub-result-2
+sub-result-2 c = rw (lowered (c .args .more) (c .pre)) (record { sfits = c .pre })
+
+returns : tie.Need-returns
+returns c = rw (lowered (c .args .more) (c .pre)) (toZ-ofZ w64 (negsuc (c .args .more)) (record { sfits = c .pre }))
+
+pub below-one-spec : {M : Type 1} → statement M
+below-one-spec = tie.close (tie.spec cast-result sub-result sub-result-2 returns)

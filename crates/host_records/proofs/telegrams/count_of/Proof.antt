@@ -1,0 +1,30 @@
+-- `host_records::telegrams::count_of` meets its contract. Assumes nothing.
+use borrow.Author.Needs.{needs}
+use mathlib.Core.Path.{_∙_}
+use lib.IntN.{pos}
+use mir.Syntax.{w64}
+use mir.ValLaws.{toZ-ofZ}
+use Rattle.host_records.proofs.Laws.TwosComplement.{count-above, count-below}
+use Rattle.host_records.proofs.telegrams.count_of.Statement.{statement}
+use Rattle.host_records.proofs.telegrams.count_of.Tie as tie
+
+cast-result : tie.Need-cast-result
+cast-result c = search needs
+
+returns : tie.Need-returns
+returns c =
+    toZ-ofZ w64 (pos (c .before .args .word)) (record { sfits = c .if1 .taken }) ∙ count-above (c .before .args .word) (c .if1 .taken)
+
+sub-below-one : tie.Need-sub-below-one
+sub-below-one c = search needs
+
+below-one-requires : tie.Need-below-one-requires
+below-one-requires c κs = search needs
+
+returns-2 : tie.Need-returns-2
+returns-2 c =
+    toZ-ofZ w64 (c .below-one .result) (record { sfits = c .below-one .ok }) ∙ c .below-one .ensures
+    ∙ count-below (c .before .before .args .word) (c .before .if1 .left)
+
+pub count-of-spec : {M : Type 1} → statement M
+count-of-spec = tie.close (tie.spec cast-result returns sub-below-one below-one-requires returns-2)

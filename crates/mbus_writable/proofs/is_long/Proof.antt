@@ -1,0 +1,48 @@
+-- `mbus_writable::is_long` meets its contract: each sign by its law. Assumes nothing.
+use borrow.Author.Needs.{needs}
+use mathlib.Core.Path.{sym, ap, _∙_}
+use lib.IntN.{natAbs}
+use mir.Syntax.{w64}
+use mir.ValLaws.{toZ-ofZ}
+use Rattle.mbus_rules.specs.Signs.{belowZero}
+use Rattle.mbus_rules.specs.Quantities.{widthOf}
+use Rattle.mbus_writable.proofs.Laws.Sizes.{limit-some, long-below, long-above}
+use Rattle.mbus_writable.proofs.is_long.Statement.{statement}
+use Rattle.mbus_writable.proofs.is_long.Tie as tie
+
+limit-of-requires : tie.Need-limit-of-requires
+limit-of-requires c κs = search needs
+
+size-of-requires : tie.Need-size-of-requires
+size-of-requires c κs = search needs
+
+is-below-zero-requires : tie.Need-is-below-zero-requires
+is-below-zero-requires c κs = search needs
+
+sub-result : tie.Need-sub-result
+sub-result c = rw (c .before .before .before .limit-of .ensures) (limit-some (widthOf (c .before .before .before .before .args .structure)))
+
+returns : tie.Need-returns
+returns c =
+    let a = c .before .before .before .before .args in
+    let t = toZ-ofZ w64 (a .count) (c .before .before .before .before .fits .count) in
+    rw (c .before .before .before .limit-of .ensures, c .before .before .size-of .ensures ∙ ap natAbs t)
+    (long-below (widthOf (a .structure)) (a .count) (sym (c .before .is-below-zero .ensures ∙ ap belowZero t) ∙ c .if1 .taken))
+
+returns-2 : tie.Need-returns-2
+returns-2 c =
+    let a = c .before .before .before .before .args in
+    let t = toZ-ofZ w64 (a .count) (c .before .before .before .before .fits .count) in
+    rw (c .before .before .before .limit-of .ensures, c .before .before .size-of .ensures ∙ ap natAbs t)
+    (long-above (widthOf (a .structure)) (a .count) (sym (c .before .is-below-zero .ensures ∙ ap belowZero t) ∙ c .if1 .left))
+
+pub is-long-spec : {M : Type 1} → statement M
+is-long-spec =
+    tie.close
+    (tie.spec
+    limit-of-requires
+    size-of-requires
+    is-below-zero-requires
+    sub-result
+    returns
+    returns-2)
