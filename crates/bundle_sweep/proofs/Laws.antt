@@ -6,3 +6,4 @@ pub mod Drawing
 pub mod Placing
 pub mod NewBundle
 pub mod Shown
+pub mod Proper
