@@ -7,3 +7,4 @@ pub mod Placing
 pub mod NewBundle
 pub mod Shown
 pub mod Proper
+pub mod Going
