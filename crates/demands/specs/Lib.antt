@@ -21,5 +21,6 @@ pub mod BothEnds
 pub mod Runs
 pub mod WrongEnds
 pub mod Replay
+pub mod Sweep
 pub mod Values
 pub mod Weekdays
