@@ -408,6 +408,19 @@ uint32_t skarrowith_contents_next(const struct skarrowith_contents *contents, si
 uint32_t skarrowith_bundle_add(uint8_t *buffer, size_t len, size_t *filled, uint8_t position, uint8_t direction,
                                uint32_t time, const uint8_t *body, size_t body_len);
 
+/*
+ * Sweeps the bundle that fills the first bytes of a buffer, so that adding has room again: the wake rows go, sent or heard,
+ * and the rows of one position. The others stay in order with their bodies and times, and the bytes past the new end stay.
+ *
+ * buffer, len: all bytes of the buffer.
+ * filled:      how many of them the bundle fills; takes how many it then fills; not null.
+ * position:    the one whose rows go, 1 to 48; 0 names none.
+ *
+ * Refuses by 30 if the bundle fills more than the buffer has, and by 30 to 37 if the check refuses it; then by 34 if the
+ * position is over 48.
+ */
+uint32_t skarrowith_bundle_sweep(uint8_t *buffer, size_t len, size_t *filled, uint8_t position);
+
 /* What became of a damaged bundle: 32 bytes. */
 struct skarrowith_salvaged {
     uint64_t kept;    /* rows */
