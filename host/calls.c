@@ -270,8 +270,12 @@ static void put_woken(void)
         wake[i] = 0x55;
     memset(bytes, 0, 2);
     count = 2;
-    for (uint32_t time = 0; skarrowith_bundle_add(bytes, MOST, &count, (uint8_t)(1 + time % 48), 0, time, wake, sizeof wake) == 0; time++)
-        skarrowith_bundle_add(bytes, MOST, &count, (uint8_t)(1 + time % 48), 0, time, line, sizeof line);
+    for (uint32_t time = 0;; time++) {
+        uint8_t position = (uint8_t)(1 + time % 48);
+        if (skarrowith_bundle_add(bytes, MOST, &count, position, 0, time, wake, sizeof wake) != 0)
+            return;
+        skarrowith_bundle_add(bytes, MOST, &count, position, 0, time, line, sizeof line);
+    }
 }
 
 /* No position is named: the wake-ups go. */

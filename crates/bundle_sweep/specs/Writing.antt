@@ -33,7 +33,7 @@ unfoldable pub Behind : ℕ → ℕ → List Row → Type 0
 Behind end place [] = Unit {0}
 Behind end place (r ∷ rows) = (place ≤ r .offset) × (r .offset + r .length ≤ end) × Behind end (nextOffset place r) rows
 
-pub record InOrder (b : List ℕ) (kept : ℕ) : Type 0 where
+pub record BodiesInOrder (b : List ℕ) (kept : ℕ) : Type 0 where
   pub few : kept ≤ mostRows
   pub fits : length b ≤ mostBytes
   pub there : firstOffset kept ≤ length b

@@ -1,5 +1,5 @@
 // The bodies of the rows that are left, one behind the other, and their offsets.
-ghost use Rattle.bundle_sweep.specs.Writing.{InOrder, Placed};
+ghost use Rattle.bundle_sweep.specs.Writing.{BodiesInOrder, Placed};
 use crate::moving::move_down;
 use bundle_rows::Row;
 use bundle_rows::row_bytes;
@@ -8,7 +8,7 @@ use bytes_lent::lay;
 
 // Each body moves to where the one before it ends, the first behind the rows, and its row gets that offset; answers where the last ends.
 pub(crate) fn place_bodies(bundle: &mut [u8], kept: usize) -> usize
-    requires { ⌜ InOrder (now bundle) kept ⌝ }
+    requires { ⌜ BodiesInOrder (now bundle) kept ⌝ }
     ensures { λ r. ⌜ Placed (now (bundle .entry)) kept r (now (bundle .exit)) ⌝ }
 {
     let mut at = 2 + 12 * kept;

@@ -25,7 +25,7 @@ use Rattle.bundle_check.proofs.Laws.HoldingLaws.{recordFor, records-held, lengt
 use Rattle.bundle_check.proofs.Laws.RecordLaws.{length-bundle}
 use Rattle.bundle_check.proofs.Laws.RowRules.{places-right}
 use Rattle.bundle_sweep.specs.Sweeping.{removed, without, swept, sweptBundle}
-use Rattle.bundle_sweep.specs.Writing.{rowGoes, rowsLeft, Drawn, Behind, InOrder, Placed}
+use Rattle.bundle_sweep.specs.Writing.{rowGoes, rowsLeft, Drawn, Behind, BodiesInOrder, Placed}
 use Rattle.bundle_sweep.proofs.Laws.Laid.{laid-past, laid-before, laid-apart, laid-over, laid-in-front}
 use Rattle.bundle_sweep.proofs.Laws.Without.{without-few, without-map}
 
@@ -138,7 +138,7 @@ module _ (position : ℕ) (b : List ℕ) (n : ℕ) (e : checkOf b ≡ reads n) w
         ∙ sym (rows-front kept (12 * kept) (g .bytes ++ drop (length (g .bytes)) (drop 2 b)) (omega arith))
         ∙ ap (rowsOf kept) (take-at (g .bytes) (drop (length (g .bytes)) (drop 2 b)) (12 * kept) (g .size)) ∙ g .rows
 
-    pub drawn-in-order : InOrder d kept
+    pub drawn-in-order : BodiesInOrder d kept
     drawn-in-order = record {
       few = omega (arith, kept-few, few-rows b n e);
       fits = omega (arith, drawn-length, sound .fits);

@@ -15,14 +15,14 @@ use Rattle.bundle_rows.specs.declared.Row.{Row}
 use Rattle.bundle_rows.proofs.Laws.RowLaws.{length-rows, length-row, row-at, row-in, rows-same}
 use Rattle.bundle_check.specs.Records.{movedTo, placedFrom}
 use Rattle.bundle_check.specs.RowRules.{nextOffset}
-use Rattle.bundle_sweep.specs.Writing.{Behind, InOrder, Placed}
+use Rattle.bundle_sweep.specs.Writing.{Behind, BodiesInOrder, Placed}
 use Rattle.bundle_sweep.proofs.Laws.Laid.{laid-past, laid-before, laid-apart}
 
 abbrev rowsIn : List ℕ → ℕ → List Row
 rowsIn d n = rowsOf n (drop 2 d)
 
 pub record Placing (d : List ℕ) (n i at : ℕ) (now : List ℕ) : Type 0 where
-  pub order : InOrder d n
+  pub order : BodiesInOrder d n
   pub inside : i ≤ n
   pub near : at ≤ length d
   pub written : List ℕ
@@ -35,7 +35,7 @@ pub record Placing (d : List ℕ) (n i at : ℕ) (now : List ℕ) : Type 0 where
   pub so : now ≡ laid (laid d (firstOffset n) bodies) 2 written
 
 module _ {d : List ℕ} {n : ℕ} where
-  pub placing-none : InOrder d n → Placing d n 0 (firstOffset n) d
+  pub placing-none : BodiesInOrder d n → Placing d n 0 (firstOffset n) d
   placing-none o = record {
     order = o;
     inside = zero-le;
