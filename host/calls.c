@@ -260,7 +260,7 @@ static void put_talk(void)
     second_put_number(last + 2 * 61, 2, second_character(0x03));
 }
 
-/* A run that is full of wake-ups: one of 459 characters before each read, up to 69 of both. */
+/* A run that is full of wake-ups: one of 459 characters before each read, 68 of both. */
 static void put_woken(void)
 {
     static uint8_t wake[918], line[2 * sizeof request];
