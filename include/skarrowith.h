@@ -13,7 +13,8 @@
  *   - 11 to 14 are tried entry by entry from the left, in each entry the lowest first, and 16 after the last entry;
  *   - a wake-up gives 52 before 21;
  *   - adding to a bundle gives all that it has against the old bundle, 30 to 37, before 34, 37 and 38 for the new row;
- *   - the replay gives all that it has against the bundle, 30 to 37, before 34 for the position, then 63, 64, 65, 61, 62.
+ *   - a sweep and the replay give all that they have against the bundle, 30 to 37, before 34 for the position; the replay
+ *     then gives 63, 64, 65, 61, 62.
  *
  * Lent memory is a pointer and the number of its places; with 0 of them the pointer may be null. Output that is too short
  * for what is to be written is refused by 21; a longer one is changed in its first places alone. A count that is answered
