@@ -1,18 +1,18 @@
 -- The loop that draws the rows that are left together at the beginning of the contents.
 use Prim.Native.Nat.{ℕ, zero, suc, _+_, _*_, _≤_, _<_, zero-le}
-use mathlib.Core.Bool.{Bool, true, false, not, cond}
+use mathlib.Core.Bool.{Bool, true, false, cond}
 use mathlib.Core.List.{List, [], _∷_, _++_, append-assoc, append-nil}
 use mathlib.Core.Path.{_≡_, refl, sym, ap, ap₂, _∙_}
 use native.Mathlib.Numerals.{add-one}
 use native.Mathlib.Omega.{arith}
 use lib.ListN.{length, getD, take, drop, length-append, length-drop, drop-of-length-le}
-use lib.Seq.{drop-cons, drop-drop, length-take-le, take-append-le, drop-append-le}
+use lib.Seq.{drop-cons, length-take-le, take-append-le, drop-append-le}
 use Rattle.mbus_rules.specs.Answers.{reads}
 use Rattle.bytes_lent.specs.Copying.{laid}
 use Rattle.bytes_lent.proofs.Laws.Copying.{laid-none, laid-length, laid-on}
 use Rattle.bundle_rows.specs.Rows.{mostRows, rowOf, rowsOf, firstOffset, blankRow, uncheckedRow, bodyIn}
 use Rattle.bundle_rows.specs.declared.Row.{Row}
-use Rattle.bundle_rows.proofs.Laws.RowLaws.{length-rows, row-at, row-in, rows-front}
+use Rattle.bundle_rows.proofs.Laws.RowLaws.{length-rows, row-in, rows-front}
 use Rattle.bundle_check.specs.Bundles.{countOf, contentsOf, checkOf}
 use Rattle.bundle_check.specs.RowRules.{nextOffset, wrongPlace}
 use Rattle.bundle_check.specs.Walks.{endOf}

@@ -1,9 +1,9 @@
 -- Which rows a sweep removes.
 use Prim.Native.Nat.{ℕ, _<_}
-use mathlib.Core.Bool.{Bool, true, false, not, _&&_, _||_, true≢false, or-true, and-false, and-eq-true-iff}
+use mathlib.Core.Bool.{true, false, not, true≢false, or-true, and-false, and-eq-true-iff}
 use mathlib.Core.Path.{_≡_, sym, _∙_}
 use native.Mathlib.Omega.{arith}
-use borrow.Author.Tests.{eq-eqb, ne-eqb, eqb-true, not-true, eqb-false}
+use borrow.Author.Tests.{eq-eqb, ne-eqb, eqb-true, not-true}
 use lib.Dec.{eqb}
 use Rattle.mbus_rules.specs.Host.{chars}
 use Rattle.mbus_rules.proofs.Laws.Tests.{by-test}

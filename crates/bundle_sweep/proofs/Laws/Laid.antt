@@ -1,11 +1,10 @@
 -- Laws of bytes laid at two places of one list.
-use Prim.Native.Nat.{ℕ, _+_, _-_, _≤_, _<_, zero-le}
+use Prim.Native.Nat.{ℕ, _+_, _-_, _≤_, zero-le}
 use mathlib.Core.List.{List, _++_, append-assoc}
 use mathlib.Core.Path.{_≡_, sym, ap, ap₂, _∙_}
-use native.Mathlib.Nat.{zero-add}
 use native.Mathlib.Omega.{arith}
-use lib.ListN.{length, getD, take, drop, length-append, length-drop, take-append-drop}
-use lib.Seq.{drop-drop, take-at, drop-at, length-take-le, take-append-le, drop-append-le, getD-drop, getD-take, paste, drop-paste}
+use lib.ListN.{length, take, drop, length-drop, take-append-drop}
+use lib.Seq.{take-at, drop-at, length-take-le, take-append-le, drop-append-le}
 use Rattle.bytes_lent.specs.Copying.{laid}
 use Rattle.bytes_lent.proofs.Laws.Copying.{laid-length, laid-on, laid-behind}
 

@@ -1,10 +1,10 @@
 -- What the steps of the sweep leave: the bundle of the records that are left.
-use Prim.Native.Nat.{ℕ, suc, _+_, _*_, _≤_, _<_, zero-le}
-use mathlib.Core.Bool.{Bool, true, false, not, _||_}
+use Prim.Native.Nat.{ℕ, _+_, _*_, _≤_}
+use mathlib.Core.Bool.{Bool, false}
 use mathlib.Core.List.{List, [], _∷_, _++_, map}
 use mathlib.Core.Path.{_≡_, refl, sym, ap, ap₂, _∙_}
 use native.Mathlib.Omega.{arith}
-use lib.ListN.{length, getD, take, drop, length-append, length-drop, length-map}
+use lib.ListN.{length, take, drop, length-append, length-drop, length-map}
 use lib.Seq.{length-take-le, take-at, drop-at}
 use Rattle.mbus_rules.specs.Answers.{reads}
 use Rattle.mbus_rules.proofs.Laws.Tests.{by-test}
@@ -13,11 +13,11 @@ use Rattle.bytes_lent.specs.Pieces.{pieces}
 use Rattle.bytes_lent.proofs.Laws.Copying.{laid-length, laid-on, copied-fits}
 use Rattle.bytes_numbers.specs.Numbers.{bytesOf}
 use Rattle.bytes_numbers.proofs.Laws.Numbers.{length-bytes}
-use Rattle.bundle_rows.specs.Rows.{mostRows, rowsOf, firstOffset, bytesOfRows, bodyIn}
+use Rattle.bundle_rows.specs.Rows.{rowsOf, firstOffset, bytesOfRows, bodyIn}
 use Rattle.bundle_rows.specs.declared.Row.{Row}
 use Rattle.bundle_rows.proofs.Laws.RowLaws.{length-rows, length-rows-bytes, rows-front}
-use Rattle.bundle_check.specs.Bundles.{mostBytes, countOf, contentsOf, checkOf}
-use Rattle.bundle_check.specs.Records.{Recorded, recordsOf, rowsFor, bodiesFor, bundleOf, movedTo, placedFrom}
+use Rattle.bundle_check.specs.Bundles.{countOf, contentsOf, checkOf}
+use Rattle.bundle_check.specs.Records.{recordsOf, rowsFor, bodiesFor, bundleOf, movedTo, placedFrom}
 use Rattle.bundle_check.specs.RowRules.{nextOffset, wrongPlaces}
 use Rattle.bundle_check.proofs.Laws.Accepted.{SoundBundle, accepted-sound}
 use Rattle.bundle_check.proofs.Laws.BodyLaws.{count-rows, few-rows}
@@ -26,7 +26,7 @@ use Rattle.bundle_check.proofs.Laws.RecordLaws.{length-bundle}
 use Rattle.bundle_check.proofs.Laws.RowRules.{places-right}
 use Rattle.bundle_sweep.specs.Sweeping.{removed, without, swept, sweptBundle}
 use Rattle.bundle_sweep.specs.Writing.{rowGoes, rowsLeft, Drawn, Behind, BodiesInOrder, Placed}
-use Rattle.bundle_sweep.proofs.Laws.Laid.{laid-past, laid-before, laid-apart, laid-over, laid-in-front}
+use Rattle.bundle_sweep.proofs.Laws.Laid.{laid-past, laid-apart, laid-over, laid-in-front}
 use Rattle.bundle_sweep.proofs.Laws.Without.{without-few, without-map}
 
 -- ---- of rows that stand at their places, those that are left have their bodies behind each other

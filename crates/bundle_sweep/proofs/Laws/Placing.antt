@@ -10,7 +10,7 @@ use lib.Seq.{drop-cons, drop-drop, length-take-le}
 use Rattle.bytes_lent.specs.Copying.{laid, copied}
 use Rattle.bytes_lent.specs.Pieces.{pieces}
 use Rattle.bytes_lent.proofs.Laws.Copying.{laid-none, laid-length, laid-on, copied-fits}
-use Rattle.bundle_rows.specs.Rows.{mostRows, rowOf, rowsOf, firstOffset, blankRow, uncheckedRow, bytesOfRow, bytesOfRows, bodyIn}
+use Rattle.bundle_rows.specs.Rows.{rowOf, rowsOf, firstOffset, blankRow, uncheckedRow, bytesOfRow, bytesOfRows, bodyIn}
 use Rattle.bundle_rows.specs.declared.Row.{Row}
 use Rattle.bundle_rows.proofs.Laws.RowLaws.{length-rows, length-row, row-at, row-in, rows-same}
 use Rattle.bundle_check.specs.Records.{movedTo, placedFrom}

@@ -1,12 +1,12 @@
 -- What a sweep leaves is a bundle that the check accepts: it holds what the old one held without what is removed, and sweeping it changes nothing.
-use Prim.Native.Nat.{ℕ, _+_, _^_, _≤_, _<_, zero-le}
-use mathlib.Core.Bool.{Bool, true, false, _||_}
+use Prim.Native.Nat.{ℕ, _+_, _≤_}
+use mathlib.Core.Bool.{Bool, false, _||_}
 use mathlib.Core.List.{List, [], _∷_, _++_}
 use mathlib.Core.Path.{_≡_, refl, sym, ap, ap₂, _∙_}
 use native.Mathlib.Omega.{arith}
 use borrow.Author.Tests.{ltb-false, le-ltb}
 use lib.Dec.{ltb}
-use lib.ListN.{length, take, drop, length-append, take-append-drop}
+use lib.ListN.{length, take, drop, take-append-drop}
 use lib.Seq.{take-at, drop-at, length-take-le}
 use Rattle.mbus_rules.specs.Answers.{Answer, reads, refusal, refuse, follow}
 use Rattle.mbus_rules.specs.Characters.{over}
@@ -15,19 +15,17 @@ use Rattle.mbus_rules.specs.Lists.{any}
 use Rattle.mbus_rules.proofs.Laws.AnswerLaws.{reads-same}
 use Rattle.mbus_rules.proofs.Laws.Tests.{by-test, neither, passed}
 use Rattle.mbus_rules.proofs.Laws.TestLaws.{not-refused}
-use Rattle.bytes_lent.specs.Copying.{laid}
 use Rattle.bytes_lent.proofs.Laws.Copying.{laid-length}
 use Rattle.bundle_rows.specs.Fields.{wrongField}
 use Rattle.bundle_rows.specs.Lists.{All}
-use Rattle.bundle_rows.specs.Rows.{mostRows, firstOffset}
-use Rattle.bundle_rows.specs.declared.Row.{Row}
+use Rattle.bundle_rows.specs.Rows.{firstOffset}
 use Rattle.bundle_rows.proofs.Laws.Lists.{any-append}
 use Rattle.bundle_rows.proofs.Laws.RowLaws.{field-right}
-use Rattle.bundle_check.specs.Bundles.{mostBytes, countOf, contentsOf, checkOf}
+use Rattle.bundle_check.specs.Bundles.{contentsOf, checkOf}
 use Rattle.bundle_check.specs.Records.{Recorded, recordsOf, rowsFor, bodiesFor, bundleOf}
 use Rattle.bundle_check.specs.Walks.{someWrong, endOf}
 use Rattle.bundle_check.proofs.Laws.Accepted.{SoundBundle, accepted-sound}
-use Rattle.bundle_check.proofs.Laws.HoldingLaws.{length-held, holdable-held}
+use Rattle.bundle_check.proofs.Laws.HoldingLaws.{holdable-held}
 use Rattle.bundle_check.proofs.Laws.RecordLaws.{wrongRecord, recordTime, Timely, Holdable, characters-append, length-bundle, contents-back, held-back}
 use Rattle.bundle_check.proofs.Laws.RecordLaws.{holdable-accepted}
 use Rattle.bundle_sweep.specs.Sweeping.{removed, without, swept, sweptBundle, sweepOf, bufferSwept}

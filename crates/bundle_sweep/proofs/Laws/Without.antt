@@ -1,8 +1,8 @@
 -- Laws of the elements that fail a test.
-use Prim.Native.Nat.{ℕ, _≤_, zero-le}
-use mathlib.Core.Bool.{Bool, true, false, not, cond}
+use Prim.Native.Nat.{_≤_, zero-le}
+use mathlib.Core.Bool.{Bool, false}
 use mathlib.Core.List.{List, [], _∷_, _++_, map}
-use mathlib.Core.Path.{_≡_, refl, ap}
+use mathlib.Core.Path.{_≡_, refl}
 use native.Mathlib.Omega.{arith}
 use lib.ListN.{length}
 use Rattle.mbus_rules.specs.Lists.{any}

@@ -1,7 +1,7 @@
 -- `bundle_sweep::sweep` meets its contract: past the buffer, by the check's refusal, by the position, or swept. Assumes nothing.
 use borrow.Author.Needs.{needs}
 use Prim.Native.Nat.{_≤_}
-use mathlib.Core.Path.{_≡_, sym, _∙_}
+use mathlib.Core.Path.{sym, _∙_}
 use borrow.Author.Tests.{ltb-false}
 use denote.Ref.{now}
 use lib.ListN.{length, take}
