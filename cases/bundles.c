@@ -8,6 +8,7 @@
 #include "../second/contents.h"
 #include "../second/replay.h"
 #include "../second/salvage.h"
+#include "../second/sweep.h"
 
 #include <inttypes.h>
 #include <stdio.h>
@@ -185,6 +186,18 @@ int answer_add(void)
         return 0;
     struct second_row row = {(unsigned)position, (unsigned)direction, (uint32_t)time, 0, body.n};
     if (!refused(second_add(bundle.b, bundle.n, filled, row, body.b, &length)))
+        printf("filled +%zu", length);
+    say_bytes(bundle.b, bundle.n);
+    return 1;
+}
+
+int answer_sweep(void)
+{
+    uint64_t filled, position;
+    size_t length = 0;
+    if (!take(&filled, UINT64_MAX) || !take(&position, 0xFF) || !take_bytes(&bundle) || !is_whole())
+        return 0;
+    if (!refused(second_sweep(bundle.b, bundle.n, filled, (unsigned)position, &length)))
         printf("filled +%zu", length);
     say_bytes(bundle.b, bundle.n);
     return 1;

@@ -22,6 +22,7 @@ static const struct {
     {"resistance", answer_resistance}, {"temperature", answer_temperature},
     {"either", answer_either},
     {"replay", answer_replay},
+    {"sweep", answer_sweep},
 };
 
 static int answer_case(char **known)

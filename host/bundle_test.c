@@ -78,6 +78,7 @@ static void refused_bundle(const char *name, unsigned number, const uint8_t *bun
     refused(name, row_at(bundle, len, 0), number);
     refused(name, row_at(bundle, len, 600), number);
     refused(name, add_ack(sizeof lent.bytes, 0, 0), number);
+    refused(name, skarrowith_bundle_sweep(lent.bytes, sizeof lent.bytes, &lent.number, 49), number);
     expect(name, skarrowith_bundle_list(bundle, len, lent.bytes, sizeof lent.bytes, &lent.number), 0);
     expect("its text's length", (uint32_t)lent.number, (uint32_t)size);
     expect("its text", memcmp(lent.bytes, text, (size_t)size) != 0, 0);
@@ -281,6 +282,55 @@ static void test_full(void)
     refused("65,537 bytes filled", add_ack(sizeof lent.bytes, 1, 64), 30);
 }
 
+/* A long run: 48 positions are woken in turn and read until adding meets 38; swept, the run goes on where it stood. */
+static void test_sweep(void)
+{
+    static const uint8_t none[2] = {0, 0}, request[10] = {0x10, 1, 0x5B, 1, 0xFE, 1, 0x59, 0, 0x16, 1};
+    static uint8_t wake[918];
+    uint32_t time = 0, answer = 0, woken = 0;
+    const size_t room = sizeof lent.bytes;
+    size_t full;
+    for (size_t i = 0; i < sizeof wake; i += 2)
+        wake[i] = 0x55;
+    begin(none, sizeof none);
+    for (; answer == 0; woken++) {
+        uint8_t position = (uint8_t)(1 + woken % 48);
+        uint8_t direction = (uint8_t)(woken % 2);
+        expect("a read", skarrowith_bundle_add(lent.bytes, room, &lent.number, position, 0, time++, request, 10), 0);
+        answer = skarrowith_bundle_add(lent.bytes, room, &lent.number, position, direction, time++, wake, sizeof wake);
+    }
+    expect("the run is full", answer, SKARROWITH_REFUSED + 38);
+    expect("its reads", woken, 69);
+    full = lent.number;
+    remember();
+    refused("position 49", skarrowith_bundle_sweep(lent.bytes, room, &lent.number, 49), 34);
+    lent.number = room + 1;
+    remember();
+    refused("more than the buffer has", skarrowith_bundle_sweep(lent.bytes, room, &lent.number, 0), 30);
+    lent.number = full;
+    remember();
+    expect("swept of wake-ups", skarrowith_bundle_sweep(lent.bytes, room, &lent.number, 0), 0);
+    expect("the reads are left", (uint32_t)lent.number, 2 + 69 * 22);
+    full = lent.number;
+    expect("nothing beyond", memcmp(lent.bytes + full, before.bytes + full, room - full) != 0, 0);
+    expect("row 68", row_at(lent.bytes, lent.number, 68), 0);
+    expect("its position", lent.row.position, 21);
+    expect("its offset", lent.row.offset, 2 + 69 * 12 + 68 * 10);
+    expect("its body", memcmp(lent.bytes + lent.row.offset, request, sizeof request) != 0, 0);
+    remember();
+    refused("an earlier time", add_ack(room, 1, lent.row.time - 1), 34);
+    expect("the run goes on", add(room, SKARROWITH_HEARD, lent.row.time, wake, sizeof wake), 0);
+    expect("swept of position 1", skarrowith_bundle_sweep(lent.bytes, room, &lent.number, 1), 0);
+    expect("its two reads and the wake-up are gone", (uint32_t)lent.number, 2 + 67 * 22);
+    expect("the first row", row_at(lent.bytes, lent.number, 0), 0);
+    expect("that of position 2", lent.row.position, 2);
+    for (uint8_t position = 2; position <= 48; position++)
+        expect("swept", skarrowith_bundle_sweep(lent.bytes, room, &lent.number, position), 0);
+    expect("nothing is left", (uint32_t)lent.number, 2);
+    expect("any time is accepted", add_ack(room, 7, 0), 0);
+    expect("the example made", memcmp(lent.bytes, example, sizeof example) != 0, 0);
+}
+
 int main(void)
 {
     expect("the row's size", sizeof(struct skarrowith_row), 12);
@@ -290,6 +340,7 @@ int main(void)
     test_salvage();
     test_adding();
     test_full();
+    test_sweep();
     if (wrong == 0)
         printf("bundle test: %lu answers are right\n", right);
     return wrong != 0;

@@ -44,6 +44,7 @@ static const struct {
     [CONTENTS_NEXT] = {"skarrowith_contents_next", "0", "39 101"},
     [REPLAY_ERROR] = {"skarrowith_replay_error", "0", "21 30 31 32 33 34 35 36 37 61 62 63 64 65"},
     [BUNDLE_SALVAGE] = {"skarrowith_bundle_salvage", "0", "21 30 31 32 33 38"},
+    [BUNDLE_SWEEP] = {"skarrowith_bundle_sweep", "0", "30 31 32 33 34 35 36 37"},
 };
 
 static unsigned long seen[FUNCTIONS][ANSWERS], cases;

@@ -33,6 +33,7 @@ enum function {
     CONTENTS_NEXT,
     REPLAY_ERROR,
     BUNDLE_SALVAGE,
+    BUNDLE_SWEEP,
     FUNCTIONS
 };
 

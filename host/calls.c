@@ -84,6 +84,13 @@ static uint32_t salvage_bundle(void)
     return skarrowith_bundle_salvage(bytes, count - 2, text, sizeof text, &salvaged, sizeof salvaged);
 }
 
+/* Of 48 positions one is named: the bodies move by a few hundred bytes. */
+static uint32_t sweep_bundle(void)
+{
+    told = count;
+    return skarrowith_bundle_sweep(bytes, sizeof bytes, &told, 7);
+}
+
 /* A position that no row has: all rows are passed over. */
 static uint32_t scan_none(void) { return skarrowith_contents_next(&contents, sizeof contents, 49, 0, &told); }
 
@@ -253,6 +260,31 @@ static void put_talk(void)
     second_put_number(last + 2 * 61, 2, second_character(0x03));
 }
 
+/* A run that is full of wake-ups: one of 459 characters before each read, 68 of both. */
+static void put_woken(void)
+{
+    static uint8_t wake[918], line[2 * sizeof request];
+    put_request();
+    memcpy(line, bytes, sizeof line);
+    for (size_t i = 0; i < sizeof wake; i += 2)
+        wake[i] = 0x55;
+    memset(bytes, 0, 2);
+    count = 2;
+    for (uint32_t time = 0;; time++) {
+        uint8_t position = (uint8_t)(1 + time % 48);
+        if (skarrowith_bundle_add(bytes, MOST, &count, position, 0, time, wake, sizeof wake) != 0)
+            return;
+        skarrowith_bundle_add(bytes, MOST, &count, position, 0, time, line, sizeof line);
+    }
+}
+
+/* No position is named: the wake-ups go. */
+static uint32_t sweep_woken(void)
+{
+    told = count;
+    return skarrowith_bundle_sweep(bytes, sizeof bytes, &told, 0);
+}
+
 static const struct {
     const char *name;
     void (*make)(void);
@@ -284,6 +316,8 @@ static const struct {
     {"list-bundle", put_bundle, list_bundle, NULL},
     {"contents-bundle", put_bundle, make_contents, NULL},
     {"salvage-bundle", put_bundle, salvage_bundle, NULL},
+    {"sweep-bundle", put_bundle, sweep_bundle, NULL},
+    {"woken-bundle", put_woken, sweep_woken, NULL},
     {"scan-none", put_contents, scan_none, scan_none_in_file},
     {"scan-all", put_contents, scan_all, scan_all_in_file},
     {"replay-bundle", put_talk, replay_bundle, replay_by_second},

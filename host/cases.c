@@ -13,6 +13,7 @@
 #include "../second/replay.h"
 #include "../second/resistance.h"
 #include "../second/salvage.h"
+#include "../second/sweep.h"
 #include "../second/wake.h"
 
 #include <string.h>
@@ -306,6 +307,12 @@ int second_add(uint8_t *buffer, size_t places, uint64_t filled, struct second_ro
     *length = (size_t)filled;
     return refusal_in(skarrowith_bundle_add(buffer, places, length, (uint8_t)row.position, (uint8_t)row.direction,
                                             row.time, body, row.length));
+}
+
+int second_sweep(uint8_t *buffer, size_t places, uint64_t filled, unsigned position, size_t *length)
+{
+    *length = (size_t)filled;
+    return refusal_in(skarrowith_bundle_sweep(buffer, places, length, (uint8_t)position));
 }
 
 int second_salvage(const uint8_t *damaged, size_t n, uint8_t *out, size_t places, struct second_salvaged *told)

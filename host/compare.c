@@ -1,7 +1,7 @@
 /*
  * The archive against the second program, in one process: every function of the header on seeded calls, histories of
  * exchanges and meters with their records, and records that no step gives; first the resistance box on
- * every hundredth, and the example bundle cut at every length.
+ * every hundredth, and the example bundle cut at every length and swept of every position.
  *   compare [SEED [COUNT]]
  * Makes COUNT calls, or a few more. Prints the first on which they differ in full, and fails; fails too where an answer
  * that a function can give was not seen, where no line had one, two or three flips, or where one that had is accepted.
@@ -65,6 +65,7 @@ int main(int argc, char **argv)
     seed_calls(seed);
     compare_all_resistances();
     compare_all_cuts();
+    compare_all_positions();
     while (calls_made() < count)
         compare_some();
     all = all_seen();

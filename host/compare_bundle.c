@@ -1,4 +1,4 @@
-/* Run bundles, whole and damaged, their rows, columns, salvage, adding and listing: the archive against the second program. */
+/* Run bundles, whole and damaged, their rows, columns, salvage, adding, sweep and listing: the archive against the second program. */
 #define _POSIX_C_SOURCE 200809L
 
 #include "compare_bundle.h"
@@ -10,6 +10,7 @@
 #include "../second/contents.h"
 #include "../second/make_bundle.h"
 #include "../second/salvage.h"
+#include "../second/sweep.h"
 
 #include <stdio.h>
 #include <stdlib.h>
@@ -166,7 +167,8 @@ static void salvage(void)
     salvage_into(places, some_places(sizeof(struct skarrowith_salvaged)));
 }
 
-void compare_all_cuts(void)
+/* The example bundle. */
+static size_t read_example(void)
 {
     FILE *file = fopen("../examples/night-shift.bundle", "rb");
     size_t whole;
@@ -174,6 +176,12 @@ void compare_all_cuts(void)
         abort();
     whole = fread(bundle.b, 1, sizeof bundle.b, file);
     fclose(file);
+    return whole;
+}
+
+void compare_all_cuts(void)
+{
+    size_t whole = read_example();
     for (bundle.n = 0; bundle.n <= whole; bundle.n++)
         salvage_into(whole, sizeof(struct skarrowith_salvaged));
 }
@@ -200,6 +208,35 @@ static void add(void)
         answer_for(refusal));
 }
 
+/* The buffer is swept, of which so many bytes are said to be filled. */
+static void sweep_filled(size_t filled, unsigned position)
+{
+    size_t length = 0;
+    int refusal;
+    begin(BUNDLE_SWEEP);
+    struct lent *buffer = lend("buffer", bundle.n, bundle.b, bundle.n);
+    struct lent *fills = lend("filled", sizeof filled, &filled, sizeof filled);
+    tell("position", position);
+    refusal = second_sweep(buffer->second, bundle.n, filled, position, &length);
+    if (refusal == 0)
+        memcpy(fills->second, &length, sizeof length);
+    end(skarrowith_bundle_sweep(buffer->to, bundle.n, fills->to, (uint8_t)position), answer_for(refusal));
+}
+
+static void sweep(void)
+{
+    struct sweeping s;
+    some_sweep(&s, 6);
+    sweep_filled((size_t)s.filled, s.position);
+}
+
+void compare_all_positions(void)
+{
+    bundle.n = read_example();
+    for (unsigned position = 0; position < 256; position++)
+        sweep_filled(bundle.n, position);
+}
+
 void compare_bundle(void)
 {
     some_bundle();
@@ -211,4 +248,5 @@ void compare_bundle(void)
     contents_next();
     salvage();
     add();
+    sweep();
 }

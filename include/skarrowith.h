@@ -13,7 +13,8 @@
  *   - 11 to 14 are tried entry by entry from the left, in each entry the lowest first, and 16 after the last entry;
  *   - a wake-up gives 52 before 21;
  *   - adding to a bundle gives all that it has against the old bundle, 30 to 37, before 34, 37 and 38 for the new row;
- *   - the replay gives all that it has against the bundle, 30 to 37, before 34 for the position, then 63, 64, 65, 61, 62.
+ *   - a sweep and the replay give all that they have against the bundle, 30 to 37, before 34 for the position; the replay
+ *     then gives 63, 64, 65, 61, 62.
  *
  * Lent memory is a pointer and the number of its places; with 0 of them the pointer may be null. Output that is too short
  * for what is to be written is refused by 21; a longer one is changed in its first places alone. A count that is answered
@@ -414,6 +415,19 @@ uint32_t skarrowith_contents_next(const struct skarrowith_contents *contents, si
  */
 uint32_t skarrowith_bundle_add(uint8_t *buffer, size_t len, size_t *filled, uint8_t position, uint8_t direction,
                                uint32_t time, const uint8_t *body, size_t body_len);
+
+/*
+ * Sweeps the bundle that fills the first bytes of a buffer, so that adding has room again: the wake rows go, sent or heard,
+ * and the rows of one position. The others stay in order with their bodies and times, and the bytes past the new end stay.
+ *
+ * buffer, len: all bytes of the buffer.
+ * filled:      how many of them the bundle fills; takes how many it then fills; not null.
+ * position:    the one whose rows go, 1 to 48; 0 names none.
+ *
+ * Refuses by 30 if the bundle fills more than the buffer has, and by 30 to 37 if the check refuses it; then by 34 if the
+ * position is over 48.
+ */
+uint32_t skarrowith_bundle_sweep(uint8_t *buffer, size_t len, size_t *filled, uint8_t position);
 
 /* What became of a damaged bundle: 32 bytes. */
 struct skarrowith_salvaged {

@@ -304,6 +304,14 @@ static void generate_add(void)
     print_bytes(bundle.b, bundle.n, bundle.rows);
 }
 
+static void generate_sweep(void)
+{
+    struct sweeping s;
+    some_sweep(&s, 8);
+    printf("sweep +%" PRIu64 " +%u", s.filled, s.position);
+    print_bytes(bundle.b, bundle.n, bundle.rows);
+}
+
 static void generate_replay(void)
 {
     struct replay r;
@@ -339,6 +347,7 @@ int main(int argc, char **argv)
         {"resistance", generate_resistance}, {"temperature", generate_temperature},
         {"either", generate_either},
         {"replay", generate_replay},
+        {"sweep", generate_sweep},
     };
     if (argc != 4)
         return fprintf(stderr, "usage: generate NAME SEED COUNT\n"), 2;

@@ -284,3 +284,15 @@ void some_addition(struct addition *a, unsigned broken)
     if (once_in(12))
         a->filled = once_in(2) ? bundle.n + below(3) : once_in(2) ? a->filled + 1 - 2 * below(2) : of_any_width();
 }
+
+void some_sweep(struct sweeping *s, unsigned broken)
+{
+    good_bundle(65536);
+    if (once_in(broken))
+        break_bundle();
+    s->filled = bundle.n;
+    s->position = once_in(3) ? 0 : once_in(8) ? between(47, 50) : some_row_position();
+    add_places(between(12, 60));
+    if (once_in(12))
+        s->filled = once_in(2) ? bundle.n + below(3) : once_in(2) ? s->filled + 1 - 2 * below(2) : of_any_width();
+}

@@ -45,4 +45,12 @@ struct addition {
 
 void some_addition(struct addition *a, unsigned broken);
 
+/* Which position is swept from the bundle, and how many bytes it is said to fill; one in so many bundles is broken. */
+struct sweeping {
+    unsigned position;
+    uint64_t filled;
+};
+
+void some_sweep(struct sweeping *s, unsigned broken);
+
 #endif

@@ -21,6 +21,7 @@ pub mod BothEnds
 pub mod Runs
 pub mod WrongEnds
 pub mod Replay
+pub mod Sweep
 pub mod Values
 pub mod Weekdays
 pub mod Signs

@@ -43,6 +43,8 @@ use Rattle.bundle_salvage.specs.Shown.{shownSalvage}
 use Rattle.bundle_salvage.proofs.Laws.Shown as salvages
 use Rattle.bundle_adding.specs.Shown.{shownAdded}
 use Rattle.bundle_adding.proofs.Laws.Shown as addings
+use Rattle.bundle_sweep.specs.Shown.{shownSwept}
+use Rattle.bundle_sweep.proofs.Laws.Shown as sweeps
 use Rattle.listing_text.specs.Shown.{shownListed}
 use Rattle.listing_text.proofs.Laws.Shown as listings
 use Rattle.replay_counting.specs.declared.Counted.{Counted}
@@ -133,6 +135,9 @@ salvage-apart = salvages.shownSalvage-same
 
 pub added-apart : Apart shownAdded
 added-apart = addings.shownAdded-same
+
+pub swept-apart : Apart shownSwept
+swept-apart = sweeps.shownSwept-same
 
 pub listed-apart : Apart shownListed
 listed-apart = listings.shownListed-same

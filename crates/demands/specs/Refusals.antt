@@ -58,6 +58,7 @@ use Rattle.bundle_columns.specs.Lookups.{isPosition, inFront, firstFrom, rowKep
 use Rattle.bundle_columns.specs.Shown.{columnsInto, contentsInto}
 use Rattle.bundle_salvage.specs.Salvaging.{tellOf, leadingRows, salvageOf, salvageInto}
 use Rattle.bundle_adding.specs.Adding.{lastTime, grown, noRoom, addOf}
+use Rattle.bundle_sweep.specs.Sweeping.{sweptBundle, sweepOf}
 use Rattle.listing_text.specs.Shown.{listedIn}
 use Rattle.replay_counting.specs.Counting.{answersOf, countingOf}
 use Rattle.replay_calendar.specs.Days.{interval}
@@ -357,6 +358,14 @@ salvage-by b out =
     (refuse-by ns 33 (ltb (length b) (firstOffset (countOf b))) _ refl
     (reads-by ns (tellOf (countOf b) b (leadingRows (countOf b) b)))))))
     (λ s. refuse-by ns 38 (ltb (length out) (s .filled)) (reads s) refl (reads-by ns s))
+
+-- 2026-12: 30 to 37, then 34
+pub sweep-by : (buffer : List ℕ) (filled position : ℕ) → By bundleNumbers (sweepOf buffer filled position)
+unfolding any sweepOf
+sweep-by buffer filled position =
+    refuse-by bundleNumbers 30 (ltb (length buffer) filled) _ refl
+    (follow-by bundleNumbers (checkOf (take filled buffer)) _ (bundle-by (take filled buffer))
+    (λ n. refuse-by bundleNumbers 34 (ltb 48 position) _ refl (reads-by bundleNumbers (length (sweptBundle position (take filled buffer))))))
 
 -- 2026-10: the lists of a bundle; and of a record of them the contents, a row, its body and the next row of a position
 pub lists-by : (b : List ℕ) → By (101 ∷ []) (columnsFrom b)

@@ -20,6 +20,8 @@ use Rattle.bundle_columns.specs.Columns.{Columns}
 use Rattle.bundle_columns.specs.Shown.{Turns}
 use Rattle.bundle_salvage.specs.declared.SalvageTold.{SalvageTold}
 use Rattle.bundle_salvage.specs.Shown.{Salvages}
+use Rattle.bundle_sweep.specs.declared.Swept.{Swept}
+use Rattle.bundle_sweep.specs.Shown.{Sweeps}
 use Rattle.bundle_adding.specs.declared.Added.{Added}
 use Rattle.bundle_adding.specs.Shown.{Adds}
 use Rattle.listing_text.specs.declared.Listed.{Listed}
@@ -32,6 +34,7 @@ use Rattle.host_meter.specs.Calls as meters
 use Rattle.host_bundle.specs.Lent.{Gives}
 use Rattle.host_bundle.specs.Bundled.{AddsIn, ListsIn}
 use Rattle.host_bundle.specs.Salvaging.{SalvagesIn}
+use Rattle.host_sweep.specs.Sweeping.{SweepsIn}
 
 -- Any two results that the promise allows are the same. (A result is the answer, and beside it what is left in each thing lent.)
 abbrev pub Settled : {R : Type 0} → (R → Type 0) → Type 0
@@ -53,6 +56,9 @@ writing-settled t before x y p q = two-equations _ _ x y (p .answer, p .places) 
 
 pub adding-settled : (before : List ℕ) (filled : ℕ) (k : Recorded) → Settled (λ (x : Added × List ℕ). Adds before filled k (x .0) (x .1))
 adding-settled before filled k x y p q = two-equations _ _ x y (p .answers, p .leaves) (q .answers, q .leaves)
+
+pub sweeping-settled : (before : List ℕ) (filled position : ℕ) → Settled (λ (x : Swept × List ℕ). Sweeps before filled position (x .0) (x .1))
+sweeping-settled before filled position x y p q = two-equations _ _ x y (p .answers, p .leaves) (q .answers, q .leaves)
 
 pub turning-settled : (written : Columns → List ℕ) (a : Answer Columns) (before : List ℕ)
     → Settled (λ (x : Checked × List ℕ). Turns written a before (x .0) (x .1))
@@ -89,6 +95,11 @@ gives-settled a before x y p q = two-equations _ _ x y (p .number, p .place) (q 
 pub add-settled : (buffer : List ℕ) (filled : ℕ) (k : Recorded)
     → Settled (λ (x : (ℕ × ℕ) × List ℕ). AddsIn buffer filled k (x .0 .0) (x .1) (x .0 .1))
 add-settled buffer filled k x y p q i =
+    (gives-settled _ filled (x .0) (y .0) (p .gives) (q .gives) i, equation _ (x .1) (y .1) (p .holds) (q .holds) i)
+
+pub sweep-settled : (buffer : List ℕ) (filled position : ℕ)
+    → Settled (λ (x : (ℕ × ℕ) × List ℕ). SweepsIn buffer filled position (x .0 .0) (x .1) (x .0 .1))
+sweep-settled buffer filled position x y p q i =
     (gives-settled _ filled (x .0) (y .0) (p .gives) (q .gives) i, equation _ (x .1) (y .1) (p .holds) (q .holds) i)
 
 pub list-settled : (b out : List ℕ) (written : ℕ) → Settled (λ (x : (ℕ × ℕ) × List ℕ). ListsIn b out written (x .0 .0) (x .1) (x .0 .1))

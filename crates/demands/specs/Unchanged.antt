@@ -25,6 +25,9 @@ use Rattle.bundle_columns.specs.Shown.{Turns}
 use Rattle.bundle_salvage.specs.declared.SalvageTold.{SalvageTold}
 use Rattle.bundle_salvage.specs.Salvaging.{salvageInto, newBundle}
 use Rattle.bundle_salvage.specs.Shown.{Salvages}
+use Rattle.bundle_sweep.specs.declared.Swept.{Swept}
+use Rattle.bundle_sweep.specs.Sweeping.{sweepOf, bufferSwept}
+use Rattle.bundle_sweep.specs.Shown.{Sweeps}
 use Rattle.bundle_adding.specs.declared.Added.{Added}
 use Rattle.bundle_adding.specs.Adding.{addOf}
 use Rattle.bundle_adding.specs.Adding as adding
@@ -41,6 +44,7 @@ use Rattle.host_meter.specs.Calls as meters
 use Rattle.host_bundle.specs.Lent.{Gives, leftIn}
 use Rattle.host_bundle.specs.Bundled.{AddsIn, ListsIn}
 use Rattle.host_bundle.specs.Salvaging.{salvageFor, SalvagesIn}
+use Rattle.host_sweep.specs.Sweeping.{SweepsIn}
 
 -- The number alone, and what was lent as it was.
 pub record Untouched {B : Type 0} (n r : ℕ) (before after : B) : Type 0 where
@@ -71,6 +75,11 @@ module _ (n : ℕ) where
       → Adds before filled k r after → after ≡ before
   adding-unchanged before after filled k r e p =
       by-answer (λ a. adding.bufferAfter a before filled k) before (λ m. refl) (addOf before filled k) n after e (p .leaves)
+
+  pub sweeping-unchanged : (before after : List ℕ) (filled position : ℕ) (r : Swept) → sweepOf before filled position ≡ refusal n
+      → Sweeps before filled position r after → after ≡ before
+  sweeping-unchanged before after filled position r e p =
+      by-answer (λ a. bufferSwept a before filled position) before (λ m. refl) (sweepOf before filled position) n after e (p .leaves)
 
   pub turning-unchanged : (written : Columns → List ℕ) (a : Answer Columns) (before after : List ℕ) (r : Checked) → a ≡ refusal n
       → Turns written a before r after → after ≡ before
@@ -124,6 +133,11 @@ module _ (n : ℕ) where
       → AddsIn buffer filled k r after now → after ≡ buffer
   buffer-unchanged buffer filled k r after now e p =
       by-answer (λ a. adding.bufferAfter a buffer filled k) buffer (λ m. refl) (addOf buffer filled k) n after e (p .holds)
+
+  pub swept-buffer-unchanged : (buffer : List ℕ) (filled position r : ℕ) (after : List ℕ) (now : ℕ) → sweepOf buffer filled position ≡ refusal n
+      → SweepsIn buffer filled position r after now → after ≡ buffer
+  swept-buffer-unchanged buffer filled position r after now e p =
+      by-answer (λ a. bufferSwept a buffer filled position) buffer (λ m. refl) (sweepOf buffer filled position) n after e (p .holds)
 
   pub second-buffer-unchanged : (b out told : List ℕ) (r : ℕ) (after then : List ℕ) → salvageFor b out told ≡ refusal n → SalvagesIn b out told r after then
       → after ≡ out

@@ -1,0 +1,108 @@
+-- `bundle_sweep::placing::place_bodies` meets its contract: body by body, and row by row. Assumes nothing.
+use borrow.Author.Needs.{needs}
+use Prim.Native.Nat.{_-_}
+use native.Mathlib.Omega.{arith}
+use Rattle.bundle_sweep.proofs.Laws.Placing.{Placing, placing-none, placing-length, placing-near, placing-room, placing-next, placing-all}
+use Rattle.bundle_sweep.proofs.placing.place_bodies.Statement.{statement}
+use Rattle.bundle_sweep.proofs.placing.place_bodies.Tie as tie
+
+abbrev Inv-loop : tie.InvT-loop
+Inv-loop bundle₀ kept at₀ i₀ bundle at i = Placing bundle₀ kept i at bundle
+
+abbrev μ-loop : tie.MeasureT-loop
+μ-loop bundle₀ kept at₀ i₀ bundle at i = kept - i
+
+mul-at : tie.Need-mul-at Inv-loop μ-loop
+mul-at c = let o = c .before .pre in omega (arith, o .few)
+
+add-at : tie.Need-add-at Inv-loop μ-loop
+add-at c = let o = c .before .pre in omega (arith, o .few)
+
+loop-holds : tie.Need-loop-holds Inv-loop μ-loop
+loop-holds c = placing-none (c .before .pre)
+
+unchecked-row-requires : tie.Need-unchecked-row-requires Inv-loop μ-loop
+unchecked-row-requires c κs = search needs
+
+cast-size : tie.Need-cast-size Inv-loop μ-loop
+cast-size c = search needs
+
+cast-move-down : tie.Need-cast-move-down Inv-loop μ-loop
+cast-move-down c = search needs
+
+move-down-requires : tie.Need-move-down-requires Inv-loop μ-loop
+move-down-requires c κs =
+    let back3 = c .before .before .before in
+    placing-room (back3 .before .before .before .loop .inv) (back3 .before .before .loop-test .taken) (back3 .unchecked-row .ensures)
+
+cast-offset : tie.Need-cast-offset Inv-loop μ-loop
+cast-offset c = omega (arith, placing-near (c .before .before .before .before .before .before .before .before .before .loop .inv))
+
+row-bytes-requires : tie.Need-row-bytes-requires Inv-loop μ-loop
+row-bytes-requires c κs = search needs
+
+mul-lay : tie.Need-mul-lay Inv-loop μ-loop
+mul-lay c = omega (arith, c .before .before .before .before .before .before .before .before .before .before .before .loop .inv .order .few)
+
+add-lay : tie.Need-add-lay Inv-loop μ-loop
+add-lay c = omega (arith, c .before .before .before .before .before .before .before .before .before .before .before .loop .inv .order .few)
+
+slice-aggregate-lay : tie.Need-slice-aggregate-lay Inv-loop μ-loop
+slice-aggregate-lay c = search needs
+
+lay-requires : tie.Need-lay-requires Inv-loop μ-loop
+lay-requires c κs = search needs
+
+add-at-2 : tie.Need-add-at-2 Inv-loop μ-loop
+add-at-2 c =
+    let back5 = c .before .before .before .before .before in
+    let back12 = back5 .before .before .before .before .before .before .before in
+    let g = back12 .before .before .before .loop .inv in
+    let room = placing-room g (back12 .before .before .loop-test .taken) (back12 .unchecked-row .ensures) in
+    omega (arith, placing-near g, placing-length g, room .1)
+
+add-i : tie.Need-add-i Inv-loop μ-loop
+add-i c = search needs
+
+loop-less : tie.Need-loop-less Inv-loop μ-loop
+loop-less c = search needs
+
+loop-again : tie.Need-loop-again Inv-loop μ-loop
+loop-again c =
+    let back5 = c .before .before .before .before .before in
+    let back8 = back5 .before .before .before in
+    let back12 = back8 .before .before .before .before in
+    placing-next (back12 .before .before .before .loop .inv) (back12 .before .before .loop-test .taken) (back12 .unchecked-row .ensures)
+    (back8 .move-down .ensures) (back5 .row-bytes .ensures) (c .before .before .lay .ensures)
+
+same-length : tie.Need-same-length Inv-loop μ-loop
+same-length c = placing-length (c .before .loop .inv)
+
+returns : tie.Need-returns Inv-loop μ-loop
+returns c = placing-all (c .before .loop .inv) (c .loop-test .left)
+
+pub place-bodies-spec : {M : Type 1} → statement M
+place-bodies-spec =
+    tie.close
+    (tie.spec
+    Inv-loop
+    μ-loop
+    mul-at
+    add-at
+    loop-holds
+    unchecked-row-requires
+    cast-size
+    cast-move-down
+    move-down-requires
+    cast-offset
+    row-bytes-requires
+    mul-lay
+    add-lay
+    slice-aggregate-lay
+    lay-requires
+    add-at-2
+    add-i
+    loop-less
+    loop-again
+    same-length
+    returns)
