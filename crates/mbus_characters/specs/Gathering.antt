@@ -28,8 +28,8 @@ abbrev pub soundBy : ℕ → Answer (Unit {0})
 soundBy flags = refuse 2 (ltb 511 flags) (refuse 3 (eqb (flags % 2) 1) (reads tt))
 
 -- with the sum, modulo 256, of what was added up
-abbrev pub toldBy : ℕ → ℕ → Gathering
-toldBy flags sum = record { outcome = outcomeShown (soundBy flags); sum = sum % 256 }
+abbrev pub gatheredBy : ℕ → ℕ → Gathering
+gatheredBy flags sum = record { outcome = outcomeShown (soundBy flags); sum = sum % 256 }
 
 -- What is gathered of a part of the characters: their tests in one number, and their sum.
 pub record Parted (s : List ℕ) (flags sum : ℕ) : Type 0 where

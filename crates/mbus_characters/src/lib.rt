@@ -10,7 +10,7 @@ ghost use lib.Dec.{ltb};
 ghost use Rattle.mbus_rules.specs.Lists.{total};
 ghost use Rattle.mbus_rules.specs.Characters.{odd};
 ghost use Rattle.mbus_rules.specs.Telegrams.{outcomeShown};
-ghost use Rattle.mbus_characters.specs.Gathering.{Flagged, soundBy, toldBy};
+ghost use Rattle.mbus_characters.specs.Gathering.{Flagged, soundBy, gatheredBy};
 use mbus_rules::Outcome;
 
 pub mod line;
@@ -54,7 +54,7 @@ fn told_by(flags: u16) -> Outcome
 
 // What two parts tell together.
 fn told_of(first: Part, second: Part) -> Gathering
-    ensures { λ r. ⌜ r ≡ toldBy (bitOr (first .flags) (second .flags)) (first .sum + second .sum) ⌝ }
+    ensures { λ r. ⌜ r ≡ gatheredBy (bitOr (first .flags) (second .flags)) (first .sum + second .sum) ⌝ }
 {
     let outcome = told_by(first.flags | second.flags);
     let sum = std::num::wrapping_add_u16(first.sum, second.sum);

@@ -18,7 +18,7 @@ use Rattle.mbus_rules.proofs.Laws.ListLaws.{at-bytes, map-take, map-drop}
 use Rattle.mbus_rules.proofs.Laws.Tests.{by-test}
 use Rattle.bytes_lent.proofs.Laws.Copying.{Copied, copied-none, copied-next, copied-whole, copied-fits, copied-on, laid-length}
 use Rattle.bytes_lent.specs.Copying.{copied, laid}
-use Rattle.mbus_characters.specs.Gathering.{Flagged, Parted, toldBy, gathered}
+use Rattle.mbus_characters.specs.Gathering.{Flagged, Parted, gatheredBy, gathered}
 use Rattle.mbus_characters.proofs.Laws.FlagLaws.{flagged-none, flagged-next, flagged-append, flagged-idle, flagged-told}
 
 -- ---- what is gathered
@@ -71,7 +71,7 @@ parted-append {s} {t} {f} {g} {a} {b} p q = record {
       (both-added a b (total (map byteOf s)) (total (map byteOf t)) (p .summed) (q .summed));
 }
 
-pub parted-told : {s : List ℕ} {flags sum : ℕ} → Parted s flags sum → toldBy flags sum ≡ gathered s
+pub parted-told : {s : List ℕ} {flags sum : ℕ} → Parted s flags sum → gatheredBy flags sum ≡ gathered s
 parted-told p = λ k. record { outcome = flagged-told (p .flagged) k; sum = p .summed k }
 
 -- ---- the characters from one place up to another
@@ -195,7 +195,7 @@ module _ (l : List ℕ) {whole count : ℕ} (le : whole ≤ count) (to : count �
   first-is : take whole (take count l) ≡ take whole l
   first-is = take-take whole count l le
 
-  pub parts-told : {f g a b : ℕ} → Parted (take whole l) f a → Parted (drop whole (take count l)) g b → toldBy (bitOr f g) (a + b) ≡ gathered (take count l)
+  pub parts-told : {f g a b : ℕ} → Parted (take whole l) f a → Parted (drop whole (take count l)) g b → gatheredBy (bitOr f g) (a + b) ≡ gathered (take count l)
   parts-told {f} {g} {a} {b} p q =
       let first : Parted (take whole (take count l)) f a = rw first-is p in
       parted-told (subst (λ (t : List ℕ). Parted t (bitOr f g) (a + b)) (take-append-drop whole (take count l)) (parted-append first q))
