@@ -113,7 +113,7 @@ pub flagged-none : Flagged [] 0
 unfolding any
 flagged-none = record { range = refl; parity = λ e. refl }
 
-pub any-append : (test : ℕ → Bool) (s t : List ℕ) → any test (s ++ t) ≡ (any test s || any test t)
+pub any-append : {A : Type 0} (test : A → Bool) (s t : List A) → any test (s ++ t) ≡ (any test s || any test t)
 unfolding any
 any-append test [] t = refl
 any-append test (x ∷ s) t = rw (any-append test s t) (sym (or-assoc (test x) (any test s) (any test t)))

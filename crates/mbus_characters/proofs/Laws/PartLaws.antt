@@ -132,7 +132,8 @@ module _ (s : List ℕ) {count : ℕ} (size : length s ≡ count) (most : 16 ≤
       record { parted = rw none parted-none; stored = copied-none (omega (arith, block-size)) }
 
   pub last-turn : {low : List ℕ} {j flags sum : ℕ} {now : List ℕ} → Last s count low j flags sum now → j < 16 → {d c flag : ℕ} → d ≡ at s (count - 16 + j)
-      → c ≡ d * ((count % 16 + 16 + j) / 32) → Flagged (c ∷ []) flag → Last s count low (j + 1) (bitOr flags flag) ((sum + c) % 65536) (set now (count - 16 + j) (byteOf d))
+      → c ≡ d * ((count % 16 + 16 + j) / 32) → Flagged (c ∷ []) flag
+      → Last s count low (j + 1) (bitOr flags flag) ((sum + c) % 65536) (set now (count - 16 + j) (byteOf d))
   last-turn w h {d} ed ec f = record {
     parted = last-next h (w .parted) ed ec f;
     stored = copied-next (w .stored) 0 (omega (arith, block-size))

@@ -37,10 +37,13 @@ same-length c = search needs
 
 returns-2 : tie.Need-returns-2
 returns-2 c =
-    let line = now (c .before .before .before .before .before .before .before .before .before .before .before .before .args .line) in
-    let w = c .before .before .before .before .before .before .before .write-apart in
-    let room : length line ≤ length (w .last .0) = omega (arith, w .kept, c .before .before .before .before .before .before .before .before .before .before .before .before .pre, c .before .before .before .before .before .before .before .before .before .if1 .left) in
-    taken-near line (w .last .0) _ room (c .before .before .before .gather .ensures .0) (c .before .before .before .gather .ensures .1) refl (c .near-of .ensures)
+    let walk = c .before .before .before in
+    let apart = walk .before .before .before .before in
+    let start = apart .before .before .before .before .before in
+    let line = now (start .args .line) in
+    let places = apart .write-apart .last .0 in
+    let room : length line ≤ length places = omega (arith, apart .write-apart .kept, start .pre, apart .before .before .if1 .left) in
+    taken-near line places _ room (walk .gather .ensures .0) (walk .gather .ensures .1) refl (c .near-of .ensures)
 
 pub take-in-spec : {M : Type 1} → statement M
 take-in-spec =

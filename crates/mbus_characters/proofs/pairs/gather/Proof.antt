@@ -1,5 +1,5 @@
 -- `mbus_characters::pairs::gather` meets its contract: as many characters as there are places. Assumes nothing.
-use Prim.Native.Nat.{_≤_}
+use Prim.Native.Nat.{ℕ, _≤_}
 use mathlib.Core.List.{List, map}
 use mathlib.Core.Path.{_≡_, sym, ap, _∙_}
 use native.Mathlib.Omega.{arith}
@@ -16,12 +16,15 @@ use Rattle.mbus_characters.proofs.pairs.gather.Statement.{statement}
 use Rattle.mbus_characters.proofs.pairs.gather.Tie as tie
 
 -- so many characters, and so many places
+abbrev line : tie.After-fewer → List ℕ
+line c = chars (now (c .before .before .before .args .bytes))
+
+abbrev places : tie.After-fewer → List ℕ
+places c = now (c .before .before .before .args .out)
+
 counted : (c : tie.After-fewer)
-    → (c .fewer .result ≤ length (chars (now (c .before .before .before .args .bytes)))) × (c .fewer .result ≤ length (now (c .before .before .before .args .out)))
-    × (take (c .fewer .result) (chars (now (c .before .before .before .args .bytes))) ≡ take (length (now (c .before .before .before .args .out))) (chars (now (c .before .before .before .args .bytes))))
-counted c =
-    let a = c .before .before .before .args in
-    fewer-all (chars (now (a .bytes))) (now (a .out)) (sym (length-characters (now (a .bytes)))) (c .fewer .ensures)
+    → (c .fewer .result ≤ length (line c)) × (c .fewer .result ≤ length (places c)) × (take (c .fewer .result) (line c) ≡ take (length (places c)) (line c))
+counted c = fewer-all (line c) (places c) (sym (length-characters (now (c .before .before .before .args .bytes)))) (c .fewer .ensures)
 
 fewer-requires : tie.Need-fewer-requires
 fewer-requires c κs = search needs
@@ -36,9 +39,10 @@ same-length c = search needs
 
 returns : tie.Need-returns
 returns c =
-    let all = counted (c .before .before .before .before .before) .2 in
+    let start = c .before .before .before .before .before in
+    let all = counted start .2 in
     let g = c .before .before .gather-short .ensures in
-    (g .0 ∙ ap gathered all, g .1 ∙ ap (λ (t : List _). copied (now (c .before .before .before .before .before .before .before .before .args .out)) 0 (map byteOf t)) all)
+    (g .0 ∙ ap gathered all, g .1 ∙ ap (λ (t : List ℕ). copied (places start) 0 (map byteOf t)) all)
 
 gather-long-requires : tie.Need-gather-long-requires
 gather-long-requires c κs =
@@ -50,9 +54,10 @@ same-length-2 c = search needs
 
 returns-2 : tie.Need-returns-2
 returns-2 c =
-    let all = counted (c .before .before .before .before .before) .2 in
+    let start = c .before .before .before .before .before in
+    let all = counted start .2 in
     let g = c .before .before .gather-long .ensures in
-    (g .0 ∙ ap gathered all, g .1 ∙ ap (λ (t : List _). copied (now (c .before .before .before .before .before .before .before .before .args .out)) 0 (map byteOf t)) all)
+    (g .0 ∙ ap gathered all, g .1 ∙ ap (λ (t : List ℕ). copied (places start) 0 (map byteOf t)) all)
 
 pub gather-spec : {M : Type 1} → statement M
 gather-spec =

@@ -45,7 +45,9 @@ wrapping-add-u16-requires : tie.Need-wrapping-add-u16-requires Inv-loop μ-loop
 wrapping-add-u16-requires c κs = search needs
 
 slice-write-out : tie.Need-slice-write-out Inv-loop μ-loop
-slice-write-out c = omega (arith, c .before .before .before .loop-test .taken, c .before .before .before .before .before .before .before .pre .1, copied-length (c .before .before .before .before .loop .inv .stored))
+slice-write-out c =
+    let loop = c .before .before .before .before in
+    omega (arith, c .before .before .before .loop-test .taken, loop .before .before .before .pre .1, copied-length (loop .loop .inv .stored))
 
 add-i : tie.Need-add-i Inv-loop μ-loop
 add-i c = omega (arith, c .before .before .before .loop-test .taken)

@@ -70,7 +70,8 @@ loop-again c =
     let test = c .before .before .before .loop-test .taken in
     rw (c .wrapping-add-u16 .ensures)
     (walk-next (c .before .before .before .before .loop .inv) (omega (arith, test, part-length l (a .from) to))
-    (c .before .before .pair-at .ensures ∙ sym (part-at l (a .from) to (c .before .before .before .before .loop .i) (omega (arith, test)))) (c .before .counted .ensures))
+    (c .before .before .pair-at .ensures ∙ sym (part-at l (a .from) to (c .before .before .before .before .loop .i) (omega (arith, test))))
+    (c .before .counted .ensures))
 
 same-length : tie.Need-same-length Inv-loop μ-loop
 same-length c = copied-length (c .before .loop .inv .stored)

@@ -28,15 +28,18 @@ same-length c = search needs
 
 returns : tie.Need-returns
 returns c =
-    let a = c .before .before .before .before .before .before .before .before .before .before .before .args in
+    let first = c .before .before .before in
+    let last = first .before .before .before .before in
+    let start = last .before .before .before .before in
+    let a = start .args in
     let l = chars (now (a .bytes)) in
     let le : a .count / 16 * 16 ≤ a .count = omega arith in
-    let to : a .count ≤ length l = omega (arith, c .before .before .before .before .before .before .before .before .before .before .before .pre .1, length-characters (now (a .bytes))) in
-    let rest = c .before .before .before .before .before .before .before .gather-last .ensures in
-    let blocks = c .before .before .before .gather-blocks .ensures in
+    let to : a .count ≤ length l = omega (arith, start .pre .1, length-characters (now (a .bytes))) in
+    let rest = last .gather-last .ensures in
+    let blocks = first .gather-blocks .ensures in
     let before : a .count - 16 ≤ a .count / 16 * 16 = omega arith in (
       c .told-of .ensures ∙ parts-told l le to (blocks .0) (rest .0),
-      parts-over l le to (now (a .out)) (c .before .before .before .before .before .before .before .before .before .before .before .pre .2) (a .count - 16) before (rest .1) (blocks .1),
+      parts-over l le to (now (a .out)) (start .pre .2) (a .count - 16) before (rest .1) (blocks .1),
     )
 
 pub gather-long-spec : {M : Type 1} → statement M

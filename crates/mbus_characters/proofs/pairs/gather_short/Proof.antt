@@ -28,13 +28,16 @@ same-length c = search needs
 
 returns : tie.Need-returns
 returns c =
-    let a = c .before .before .before .before .before .before .before .before .before .before .before .args in
+    let few = c .before .before .before in
+    let first = few .before .before .before .before in
+    let start = first .before .before .before .before in
+    let a = start .args in
     let l = chars (now (a .bytes)) in
     let le : a .count / 8 * 8 ≤ a .count = omega arith in
-    let to : a .count ≤ length l = omega (arith, c .before .before .before .before .before .before .before .before .before .before .before .pre .0, length-characters (now (a .bytes))) in
-    let blocks = c .before .before .before .before .before .before .before .gather-blocks .ensures in
-    let rest = c .before .before .before .gather-few .ensures in
-    (c .told-of .ensures ∙ parts-told l le to (blocks .0) (rest .0), parts-on l le to (now (a .out)) (c .before .before .before .before .before .before .before .before .before .before .before .pre .1) (blocks .1) (rest .1))
+    let to : a .count ≤ length l = omega (arith, start .pre .0, length-characters (now (a .bytes))) in
+    let blocks = first .gather-blocks .ensures in
+    let rest = few .gather-few .ensures in
+    (c .told-of .ensures ∙ parts-told l le to (blocks .0) (rest .0), parts-on l le to (now (a .out)) (start .pre .1) (blocks .1) (rest .1))
 
 pub gather-short-spec : {M : Type 1} → statement M
 gather-short-spec = tie.close (tie.spec mul-whole gather-blocks-requires gather-few-requires told-of-requires same-length returns)
