@@ -26,3 +26,12 @@ pub record Flagged (s : List ℕ) (flags : ℕ) : Type 0 where
 -- what such a number tells
 abbrev pub soundBy : ℕ → Answer (Unit {0})
 soundBy flags = refuse 2 (ltb 511 flags) (refuse 3 (eqb (flags % 2) 1) (reads tt))
+
+-- with the sum, modulo 256, of what was added up
+abbrev pub gatheredBy : ℕ → ℕ → Gathering
+gatheredBy flags sum = record { outcome = outcomeShown (soundBy flags); sum = sum % 256 }
+
+-- What is gathered of a part of the characters: their tests in one number, and their sum.
+pub record Parted (s : List ℕ) (flags sum : ℕ) : Type 0 where
+  pub flagged : Flagged s flags
+  pub summed : sum % 256 ≡ total (map byteOf s) % 256

@@ -21,6 +21,7 @@ use mbus_telegrams::refused;
 use taking::MOST;
 use taking::far_of;
 use taking::near_of;
+use taking::write_apart;
 
 pub mod body;
 pub mod pairs;
@@ -41,6 +42,7 @@ fn take_in(line: &[u16], out: &mut [u8]) -> Gathering
             sum: 0,
         };
     }
+    write_apart(out);
     let gathering = gather(line, out);
     let sound = gathering.outcome;
     let outcome = near_of(count, sound);

@@ -12,6 +12,7 @@ ghost use Rattle.mbus_reading.specs.Taking.{Taken};
 use crate::body::outline_in;
 use crate::taking::MOST;
 use crate::taking::far_of;
+use crate::taking::write_apart;
 use mbus_characters::counts_odd;
 use mbus_characters::pairs::any_over;
 use mbus_characters::pairs::character_at;
@@ -82,6 +83,7 @@ fn outline_many(bytes: &[u8]) -> View
     ensures { λ r. ⌜ r ≡ viewed (readLine (chars (now (bytes .entry)))) ⌝ }
 {
     let mut low = [0u8; MOST];
+    write_apart(&mut low);
     let taken = gather(bytes, &mut low);
     let outcome = taken.outcome;
     if let Outcome::Refused(n) = outcome {

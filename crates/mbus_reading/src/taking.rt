@@ -1,14 +1,25 @@
 // What is left of a line once its characters are taken in.
 ghost use mathlib.Core.Bool.{cond};
+ghost use mathlib.Core.List.{[], _∷_};
 ghost use mathlib.Core.Path.{_≡_};
 ghost use lib.Dec.{eqb};
 ghost use Rattle.mbus_rules.specs.declared.Outcome.the-variants.{Refused};
+ghost use Rattle.bytes_lent.specs.Copying.{copied};
 ghost use Rattle.mbus_reading.specs.Taking.{farBy};
+use bytes_lent::lay;
 use mbus_rules::Outcome;
 use mbus_shape::wrong_start;
 
 // No line that 5 leaves has more characters.
 pub const MOST: usize = 261;
+
+// Writes the places from 256 to MOST apart. The back end clears 256 places where they stand, and more by a call that costs some thirty
+// instructions; so these five hold what is no zero until a line has so many characters.
+pub(crate) fn write_apart(places: &mut [u8])
+    ensures { λ _. ⌜ now (places .exit) ≡ copied (now (places .entry)) 256 (1 ∷ 1 ∷ 1 ∷ 1 ∷ 1 ∷ []) ⌝ }
+{
+    lay(places, 256, &[1u8; 5]);
+}
 
 // 1, before what was gathered of so many characters.
 pub(crate) fn near_of(count: usize, sound: Outcome) -> Outcome

@@ -1,8 +1,9 @@
 // The data template of a simulated meter, and its pairs of totals.
 ghost use mathlib.Core.Path.{_≡_};
-ghost use Rattle.mbus_rules.specs.Lists.{any};
+ghost use mathlib.Core.Bool.{_||_};
+ghost use Rattle.mbus_rules.specs.Quantities.{energy, volume};
 ghost use Rattle.meter_template.specs.Templates.{isDataKind, holds, unfitTemplate, valueCount, totalIn, pairIn, counted, filledEntry, filled};
-ghost use Rattle.meter_template.specs.Templates.{nextAccess, raised, dataWith, passes, sumOf, shownSum};
+ghost use Rattle.meter_template.specs.Templates.{lacks, nextAccess, raised, dataWith, passes, sumOf, shownSum};
 use mbus_fields::digits::size_of;
 use mbus_fields::quantities::EIGHT_DIGITS;
 use mbus_fields::quantities::ENERGY;
@@ -41,18 +42,20 @@ fn holds(e: Entry, quantity: u8) -> bool
     (e.structure == EIGHT_DIGITS) & (row == quantity)
 }
 
-// Whether some entry has the quantity in eight digits.
-fn any_holds(entries: [Entry; 7], quantity: u8) -> bool
-    ensures { λ r. ⌜ r ≡ any (holds quantity) entries ⌝ }
+// Whether no entry has energy in eight digits, or none volume: both are asked in one walk.
+fn lacks_one(entries: [Entry; 7]) -> bool
+    ensures { λ r. ⌜ r ≡ (lacks energy entries || lacks volume entries) ⌝ }
 {
-    let mut found = false;
+    let mut found_energy = false;
+    let mut found_volume = false;
     let mut i = 0;
     while i < 7 {
         let e = entries[i];
-        found = found | holds(e, quantity);
+        found_energy = found_energy | holds(e, ENERGY);
+        found_volume = found_volume | holds(e, VOLUME);
         i += 1;
     }
-    found
+    !found_energy | !found_volume
 }
 
 // Whether a telegram is data.
@@ -76,9 +79,8 @@ pub fn is_unfit(template: Telegram) -> bool
     let entries = template.entries;
     let data = is_data(kind);
     let unwritable = is_unwritable(template);
-    let energy = any_holds(entries, ENERGY);
-    let volume = any_holds(entries, VOLUME);
-    !data | unwritable | !energy | !volume
+    let lacking = lacks_one(entries);
+    !data | unwritable | lacking
 }
 
 fn count_of(value: Value) -> u64

@@ -1,13 +1,11 @@
 -- Laws of `specs/Lists`.
 use Prim.Native.Nat.{ℕ, zero, suc, _+_, _-_, _≤_}
-use mathlib.Core.Bool.{Bool, _||_, or-assoc}
 use mathlib.Core.List.{List, [], _∷_, _++_, append-assoc}
 use mathlib.Core.Path.{_≡_, refl, sym, ap, ap₂, _∙_}
 use native.Mathlib.Nat.{sub-zero, suc-sub-suc, zero-sub}
 use native.Mathlib.Omega.{arith}
 use lib.ListN.{length, take, drop, length-append}
 use lib.Seq.{take-take, take-nil, getD-drop}
-use Rattle.mbus_rules.specs.Lists.{any}
 use Rattle.bytes_lent.specs.Copying.{laid}
 use Rattle.bytes_lent.proofs.Laws.Copying.{laid-on}
 use Rattle.bytes_numbers.proofs.Laws.NumberLaws.{Bytes}
@@ -17,11 +15,6 @@ module _ {A : Type 0} where
   pub all-append : (P : A → Type 0) (l m : List A) → All P l → All P m → All P (l ++ m)
   all-append P [] m p q = q
   all-append P (x ∷ l) m p q = (p .0, all-append P l m (p .1) q)
-
-  pub any-append : (test : A → Bool) (l m : List A) → any test (l ++ m) ≡ (any test l || any test m)
-  unfolding any
-  any-append test [] m = refl
-  any-append test (x ∷ l) m = rw (any-append test l m) (sym (or-assoc (test x) (any test l) (any test m)))
 
 -- bytes further on, and the first of them
 pub bytes-drop : (n : ℕ) (s : List ℕ) → Bytes s → Bytes (drop n s)

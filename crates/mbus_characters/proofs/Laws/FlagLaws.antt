@@ -1,13 +1,14 @@
 -- Range and parity of characters in one number.
 use Prim.Native.Nat.{ℕ, zero, suc, _+_, _*_, _/_, _%_, _^_, _≤_, _<_}
-use mathlib.Core.Bool.{Bool, true, false, not, _||_}
+use mathlib.Core.Bool.{Bool, true, false, not, _||_, or-assoc}
 use mathlib.Core.List.{List, [], _∷_, _++_}
 use mathlib.Core.Path.{_≡_, refl, sym, ap, ap₂, _∙_}
-use native.Mathlib.Nat.{mul-comm, div-div-eq-div-mul, mod-eq-of-lt}
+use native.Mathlib.Nat.{add-zero, mul-comm, div-div-eq-div-mul, mod-eq-of-lt}
 use native.Mathlib.Numerals.{add-one}
 use native.Mathlib.Omega.{arith}
 use borrow.Author.Tests.{lt-ltb, le-ltb, ltb-true, ltb-false, eqb-true, eq-eqb, ne-eqb}
 use lib.Bits.{bitXor, bitOr, bitAnd, xor-shr, or-add-and, and-le-l, and-le-r, or-lt, or-mod}
+use lib.Count.{onesIn}
 use lib.Dec.{eqb, ltb, lit<}
 use lib.ListN.{length, take}
 use lib.Seq.{take-suc, take-all}
@@ -15,7 +16,6 @@ use Rattle.mbus_rules.specs.Lists.{at, any}
 use Rattle.mbus_rules.specs.Characters.{over, odd}
 use Rattle.mbus_rules.specs.Telegrams.{outcomeShown}
 use Rattle.mbus_rules.proofs.Laws.Folding.{fold, folded-odd}
-use Rattle.mbus_rules.proofs.Laws.ListLaws.{any-snoc}
 use Rattle.mbus_rules.proofs.Laws.Tests.{by-test, below, neither}
 use Rattle.mbus_characters.specs.Gathering.{Flagged, sound, soundBy}
 
@@ -62,6 +62,33 @@ flagged-one c h = record {
       ap (λ (n : ℕ). eqb (flag n % 2) 1) (sym (mod-eq-of-lt low)) ∙ folded-odd c ∙ sym (one-or-none (odd c));
 }
 
+-- and by a count of its bits: what is over 511 stays, and the lowest bit is the parity
+module _ (c : ℕ) where
+  count-range : {low : ℕ} → low < 2 → ltb 511 (c / 512 * 512 + low) ≡ (over c || false)
+  count-range {low} h = by-test (over c) (λ e. rw e (lt-ltb 511 (c / 512 * 512 + low) (omega (arith, ltb-true 511 c e))))
+      (λ e. rw e (le-ltb 511 (c / 512 * 512 + low) (omega (arith, ltb-false 511 c e))))
+
+  small : (over c || false) ≡ false → c < 512
+  small e = omega (arith, ltb-false 511 c (neither (over c) false e .0))
+
+  pub flagged-odd : odd c ≡ true → Flagged (c ∷ []) (c / 512 * 512 + 1)
+  unfolding any
+  flagged-odd t = record {
+    range = count-range (omega arith);
+    parity = λ e.
+        let one : (c / 512 * 512 + 1) % 2 ≡ 1 = omega arith in
+        eq-eqb ((c / 512 * 512 + 1) % 2) 1 one ∙ sym t ∙ sym (one-or-none (odd c));
+  }
+
+  pub flagged-even : odd c ≡ false → Flagged (c ∷ []) (c / 512 * 512)
+  unfolding any
+  flagged-even t = record {
+    range = rw (sym (add-zero (c / 512 * 512))) (count-range (omega arith));
+    parity = λ e.
+        let none : (c / 512 * 512) % 2 ≡ 0 = omega arith in
+        ne-eqb ((c / 512 * 512) % 2) 1 (omega arith) ∙ sym t ∙ sym (one-or-none (odd c));
+  }
+
 -- ---- one more character
 
 or-range : (a b : ℕ) → ltb 511 (bitOr a b) ≡ (ltb 511 a || ltb 511 b)
@@ -86,18 +113,30 @@ pub flagged-none : Flagged [] 0
 unfolding any
 flagged-none = record { range = refl; parity = λ e. refl }
 
-pub flagged-snoc : {s : List ℕ} {c f g : ℕ} → Flagged s f → Flagged (c ∷ []) g → Flagged (s ++ (c ∷ [])) (bitOr f g)
+pub any-append : {A : Type 0} (test : A → Bool) (s t : List A) → any test (s ++ t) ≡ (any test s || any test t)
 unfolding any
-flagged-snoc {s} {c} {f} {g} p q = record {
-  range = or-range f g ∙ ap₂ _||_ (p .range) (q .range ∙ one-or-none (over c)) ∙ sym (any-snoc over s c);
+any-append test [] t = refl
+any-append test (x ∷ s) t = rw (any-append test s t) (sym (or-assoc (test x) (any test s) (any test t)))
+
+pub flagged-append : {s t : List ℕ} {f g : ℕ} → Flagged s f → Flagged t g → Flagged (s ++ t) (bitOr f g)
+flagged-append {s} {t} {f} {g} p q = record {
+  range = or-range f g ∙ ap₂ _||_ (p .range) (q .range) ∙ sym (any-append over s t);
   parity = λ e.
-      let none = neither (any over s) (over c) (sym (any-snoc over s c) ∙ e) in
-      or-parity f g ∙ ap₂ _||_ (p .parity (none .0)) (q .parity (one-or-none (over c) ∙ none .1) ∙ one-or-none (odd c)) ∙ sym (any-snoc odd s c);
+      let none = neither (any over s) (any over t) (sym (any-append over s t) ∙ e) in
+      or-parity f g ∙ ap₂ _||_ (p .parity (none .0)) (q .parity (none .1)) ∙ sym (any-append odd s t);
+}
+
+-- a character 0 adds nothing
+pub flagged-idle : {s : List ℕ} {f g : ℕ} → Flagged s f → Flagged (0 ∷ []) g → Flagged s (bitOr f g)
+unfolding any odd onesIn
+flagged-idle {s} {f} {g} p q = record {
+  range = or-range f g ∙ ap₂ _||_ (p .range) (q .range) ∙ one-or-none (any over s);
+  parity = λ e. or-parity f g ∙ ap₂ _||_ (p .parity e) (q .parity refl) ∙ one-or-none (any odd s);
 }
 
 pub flagged-next : (s : List ℕ) {i f g : ℕ} → Flagged (take i s) f → i < length s → {c : ℕ} → c ≡ at s i → Flagged (c ∷ []) g
     → Flagged (take (i + 1) s) (bitOr f g)
-flagged-next s {i} p h e q = rw (add-one, take-suc s i 0 h, ← e) (flagged-snoc p q)
+flagged-next s {i} p h e q = rw (add-one, take-suc s i 0 h, ← e) (flagged-append p q)
 
 -- What is flagged is told as the rules 2 and 3 say.
 pub flagged-told : {s : List ℕ} {flags : ℕ} → Flagged s flags → outcomeShown (soundBy flags) ≡ outcomeShown (sound s)

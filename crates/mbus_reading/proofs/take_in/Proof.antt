@@ -23,6 +23,9 @@ returns c =
     let s = now (c .before .before .before .before .before .before .args .line) in
     rw (c .far-of .ensures) (far-line s (c .before .before .before .if1 .taken) (c .before .before .soundness-of .ensures) (c .before .low-at .ensures))
 
+write-apart-requires : tie.Need-write-apart-requires
+write-apart-requires c κs = search needs
+
 gather-requires : tie.Need-gather-requires
 gather-requires c κs = search needs
 
@@ -34,11 +37,13 @@ same-length c = search needs
 
 returns-2 : tie.Need-returns-2
 returns-2 c =
-    let a = c .before .before .before .before .before .before .before .before .args in
-    let room : length (now (a .line)) ≤ length (now (a .out)) = omega
-    (arith, c .before .before .before .before .before .before .before .before .pre, c .before .before .before .before .before .if1 .left) in
-    taken-near (now (a .line)) (now (a .out)) _ room (c .before .before .before .gather .ensures .0) (c .before .before .before .gather .ensures .1) refl
-    (c .near-of .ensures)
+    let walk = c .before .before .before in
+    let apart = walk .before .before .before .before in
+    let start = apart .before .before .before .before .before in
+    let line = now (start .args .line) in
+    let places = apart .write-apart .last .0 in
+    let room : length line ≤ length places = omega (arith, apart .write-apart .kept, start .pre, apart .before .before .if1 .left) in
+    taken-near line places _ room (walk .gather .ensures .0) (walk .gather .ensures .1) refl (c .near-of .ensures)
 
 pub take-in-spec : {M : Type 1} → statement M
 take-in-spec =
@@ -48,6 +53,7 @@ take-in-spec =
     low-at-requires
     far-of-requires
     returns
+    write-apart-requires
     gather-requires
     near-of-requires
     same-length

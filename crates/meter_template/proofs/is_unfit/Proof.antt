@@ -1,5 +1,10 @@
 -- `is_unfit` meets its contract. Assumes nothing.
 use borrow.Author.Needs.{needs}
+use mathlib.Core.Bool.{not, _||_, or-assoc}
+use mathlib.Core.Path.{sym}
+use Rattle.mbus_rules.specs.Quantities.{energy, volume}
+use Rattle.mbus_rules.specs.Writing.{unwritable}
+use Rattle.meter_template.specs.Templates.{isDataKind, lacks}
 use Rattle.meter_template.proofs.is_unfit.Statement.{statement}
 use Rattle.meter_template.proofs.is_unfit.Tie as tie
 
@@ -9,14 +14,14 @@ is-data-requires c κs = search needs
 is-unwritable-requires : tie.Need-is-unwritable-requires
 is-unwritable-requires c κs = search needs
 
-any-holds-requires : tie.Need-any-holds-requires
-any-holds-requires c κs = search needs
-
-any-holds-requires-2 : tie.Need-any-holds-requires-2
-any-holds-requires-2 c κs = search needs
+lacks-one-requires : tie.Need-lacks-one-requires
+lacks-one-requires c κs = search needs
 
 returns : tie.Need-returns
-returns c = rw (c .before .before .before .is-data .ensures, c .before .before .is-unwritable .ensures, c .before .any-holds .ensures, c .any-holds2 .ensures)
+returns c =
+    let t = c .before .before .before .before .args .template in
+    rw (c .before .before .is-data .ensures, c .before .is-unwritable .ensures, c .lacks-one .ensures)
+    (sym (or-assoc (not (isDataKind (t .kind)) || unwritable t) (lacks energy (t .entries)) (lacks volume (t .entries))))
 
 pub is-unfit-spec : {M : Type 1} → statement M
 is-unfit-spec =
@@ -24,6 +29,5 @@ is-unfit-spec =
     (tie.spec
     is-data-requires
     is-unwritable-requires
-    any-holds-requires
-    any-holds-requires-2
+    lacks-one-requires
     returns)

@@ -6,12 +6,12 @@ use borrow.Author.Needs.{needs}
 use denote.Ref.{now}
 use lib.ListN.{length, take}
 use Rattle.bytes_lent.proofs.Laws.Copying.{copied-length}
-use Rattle.mbus_characters.proofs.Laws.WalkLaws.{Walk, walk-next, walk-all, walk-stored, placed-in, placed-at, placed-all, placed-none}
+use Rattle.mbus_characters.proofs.Laws.WalkLaws.{Walk, walk-first, walk-all, walk-stored, placed-in, placed-at, placed-all, placed-none}
 use Rattle.mbus_characters.proofs.line.gather.Statement.{statement}
 use Rattle.mbus_characters.proofs.line.gather.Tie as tie
 
 abbrev Inv-loop : tie.InvT-loop
-Inv-loop line out₀ flags₀ sum₀ i₀ out flags sum i = Walk (take (length out₀) line) out₀ i flags sum out
+Inv-loop line out₀ flags₀ sum₀ i₀ out flags sum i = Walk (take (length out₀) line) out₀ 0 i flags sum out
 
 abbrev μ-loop : tie.MeasureT-loop
 μ-loop line out₀ flags₀ sum₀ i₀ out flags sum i = length line - i
@@ -49,7 +49,7 @@ loop-again c =
     let w = c .before .before .before .before .loop .inv in
     let test = c .before .before .before .loop-test .taken in
     rw (c .wrapping-add-u16 .ensures)
-    (walk-next w (placed-in line refl w test .2) (placed-at line refl w test refl) (c .before .folded .ensures))
+    (walk-first w (placed-in line refl w test .2) (placed-at line refl w test refl) (c .before .folded .ensures))
 
 told-by-requires : tie.Need-told-by-requires Inv-loop μ-loop
 told-by-requires c κs = search needs

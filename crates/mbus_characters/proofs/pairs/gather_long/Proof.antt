@@ -1,0 +1,46 @@
+-- `mbus_characters::pairs::gather_long` meets its contract: both parts together are all. Assumes nothing.
+use Prim.Native.Nat.{_-_, _*_, _/_, _≤_}
+use mathlib.Core.Path.{_∙_}
+use native.Mathlib.Omega.{arith}
+use borrow.Author.Needs.{needs}
+use denote.Ref.{now}
+use lib.ListN.{length}
+use Rattle.mbus_rules.specs.Host.{chars}
+use Rattle.mbus_characters.proofs.Laws.PairLaws.{length-characters}
+use Rattle.mbus_characters.proofs.Laws.PartLaws.{parts-told, parts-over}
+use Rattle.mbus_characters.proofs.pairs.gather_long.Statement.{statement}
+use Rattle.mbus_characters.proofs.pairs.gather_long.Tie as tie
+
+mul-whole : tie.Need-mul-whole
+mul-whole c = search needs
+
+gather-last-requires : tie.Need-gather-last-requires
+gather-last-requires c κs = search needs
+
+gather-blocks-requires : tie.Need-gather-blocks-requires
+gather-blocks-requires c κs = search needs
+
+told-of-requires : tie.Need-told-of-requires
+told-of-requires c κs = search needs
+
+same-length : tie.Need-same-length
+same-length c = search needs
+
+returns : tie.Need-returns
+returns c =
+    let first = c .before .before .before in
+    let last = first .before .before .before .before in
+    let start = last .before .before .before .before in
+    let a = start .args in
+    let l = chars (now (a .bytes)) in
+    let le : a .count / 16 * 16 ≤ a .count = omega arith in
+    let to : a .count ≤ length l = omega (arith, start .pre .1, length-characters (now (a .bytes))) in
+    let rest = last .gather-last .ensures in
+    let blocks = first .gather-blocks .ensures in
+    let before : a .count - 16 ≤ a .count / 16 * 16 = omega arith in (
+      c .told-of .ensures ∙ parts-told l le to (blocks .0) (rest .0),
+      parts-over l le to (now (a .out)) (start .pre .2) (a .count - 16) before (rest .1) (blocks .1),
+    )
+
+pub gather-long-spec : {M : Type 1} → statement M
+gather-long-spec = tie.close (tie.spec mul-whole gather-last-requires gather-blocks-requires told-of-requires same-length returns)
