@@ -1,0 +1,4 @@
+pub mod MarkLaws
+pub mod FirstLaws
+pub mod UnmarkingLaws
+pub mod Along
