@@ -2,3 +2,4 @@ pub mod MarkLaws
 pub mod FirstLaws
 pub mod UnmarkingLaws
 pub mod Along
+pub mod PieceLaws

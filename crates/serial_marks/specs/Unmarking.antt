@@ -39,9 +39,9 @@ andThen Unfinished rest = record { used = 0; characters = [] }
 andThen (Whole size c) rest = record { used = size + rest size .used; characters = c ∷ rest size .characters }
 
 -- What is made of bytes in so many places: character by character, never more than there is room for.
-unfoldable pub unmarked : ℕ → List ℕ → Unmarking
-unmarked zero s = record { used = 0; characters = [] }
-unmarked (suc room) s = andThen (first s) (λ size. unmarked room (drop size s))
+unfoldable pub unmarkedIn : ℕ → List ℕ → Unmarking
+unmarkedIn zero s = record { used = 0; characters = [] }
+unmarkedIn (suc room) s = andThen (first s) (λ size. unmarkedIn room (drop size s))
 
 -- the code's answer for it
 abbrev pub unmarkedShown : Unmarking → Unmarked
@@ -49,5 +49,5 @@ unmarkedShown u = record { used = u .used; made = length (u .characters) }
 
 -- What unmarking promises: the numbers, and the characters in the first places and nothing beyond.
 pub record Unmarks (bytes before after : List ℕ) (r : Unmarked) : Type 0 where
-  pub answer : r ≡ unmarkedShown (unmarked (length before) bytes)
-  pub left : after ≡ laid before 0 (unmarked (length before) bytes .characters)
+  pub answer : r ≡ unmarkedShown (unmarkedIn (length before) bytes)
+  pub left : after ≡ laid before 0 (unmarkedIn (length before) bytes .characters)

@@ -8,17 +8,17 @@ use native.Mathlib.Omega.{arith}
 use lib.ListN.{length, getD, drop, set, length-drop}
 use lib.Seq.{drop-drop, drop-cons}
 use Rattle.bytes_lent.proofs.Laws.Copying.{Copied, copied-none, copied-next, copied-length, copied-all}
-use Rattle.serial_marks.specs.Unmarking.{first, Unmarking, unmarked, Unmarks}
+use Rattle.serial_marks.specs.Unmarking.{first, Unmarking, unmarkedIn, Unmarks}
 use Rattle.serial_marks.specs.declared.First.the-variants.{Whole, Unfinished}
 use Rattle.serial_marks.proofs.Laws.FirstLaws.{first-on}
 use Rattle.serial_marks.proofs.Laws.UnmarkingLaws.{nothing, after, stop, step, no-room, within-both}
 
 -- So many bytes are used and characters made and stored; what is made of the rest is what is left of the answer.
 pub record Along (bytes d : List ℕ) (used made : ℕ) (now : List ℕ) : Type 0 where
-  pub stored : Copied d 0 (unmarked (length d) bytes .characters) made now
+  pub stored : Copied d 0 (unmarkedIn (length d) bytes .characters) made now
   pub inside : used ≤ length bytes
-  pub rest : drop made (unmarked (length d) bytes .characters) ≡ unmarked (length d - made) (drop used bytes) .characters
-  pub count : unmarked (length d) bytes .used ≡ used + unmarked (length d - made) (drop used bytes) .used
+  pub rest : drop made (unmarkedIn (length d) bytes .characters) ≡ unmarkedIn (length d - made) (drop used bytes) .characters
+  pub count : unmarkedIn (length d) bytes .used ≡ used + unmarkedIn (length d - made) (drop used bytes) .used
 
 pub along-none : (bytes d : List ℕ) → Along bytes d 0 0 d
 along-none bytes d =
@@ -51,25 +51,26 @@ module _ {bytes d : List ℕ} {used made : ℕ} {now : List ℕ} (g : Along byte
     along-next h =
         let left : ℕ = length d - (made + 1) in
         let more : length d - made ≡ suc left = omega arith in
-        let on : unmarked (length d - made) (drop used bytes) ≡ after n (c ∷ []) (unmarked left (drop (used + n) bytes)) =
-        rw more (step left (drop used bytes) e ∙ ap (λ (l : List ℕ). after n (c ∷ []) (unmarked left l)) (drop-drop n used bytes)) in
-        let parts = cut (unmarked (length d) bytes .characters) made c (unmarked left (drop (used + n) bytes) .characters)
+        let on : unmarkedIn (length d - made) (drop used bytes) ≡ after n (c ∷ []) (unmarkedIn left (drop (used + n) bytes)) =
+        rw more (step left (drop used bytes) e ∙ ap (λ (l : List ℕ). after n (c ∷ []) (unmarkedIn left l)) (drop-drop n used bytes)) in
+        let parts = cut (unmarkedIn (length d) bytes .characters) made c (unmarkedIn left (drop (used + n) bytes) .characters)
         (g .rest ∙ ap (λ (u : Unmarking). u .characters) on) in
         record {
           stored = rw (zero-add made) at (copied-next (g .stored) 0 (parts .0) (parts .1));
           inside = along-inside;
           rest = parts .2;
-          count = g .count ∙ ap (λ (u : Unmarking). used + u .used) on ∙ sym (add-assoc used n (unmarked left (drop (used + n) bytes) .used));
+          count = g .count ∙ ap (λ (u : Unmarking). used + u .used) on ∙ sym (add-assoc used n (unmarkedIn left (drop (used + n) bytes) .used));
         }
 
   -- nothing more is made of the rest: that is all
-  pub along-end : unmarked (length d - made) (drop used bytes) ≡ nothing → Unmarks bytes d now (record { used = used; made = made })
+  pub along-end : unmarkedIn (length d - made) (drop used bytes) ≡ nothing → Unmarks bytes d now (record { used = used; made = made })
   along-end e =
-      let none : drop made (unmarked (length d) bytes .characters) ≡ [] = g .rest ∙ ap (λ (u : Unmarking). u .characters) e in
-      let inside : made ≤ length (unmarked (length d) bytes .characters) = g .stored .inside in
-      let past : length (unmarked (length d) bytes .characters) ≤ made = omega (arith, length-drop made (unmarked (length d) bytes .characters), ap length none) in
-      let all : made ≡ length (unmarked (length d) bytes .characters) = omega arith in
-      let used-all : used ≡ unmarked (length d) bytes .used = omega (arith, g .count, ap (λ (u : Unmarking). u .used) e) in
+      let none : drop made (unmarkedIn (length d) bytes .characters) ≡ [] = g .rest ∙ ap (λ (u : Unmarking). u .characters) e in
+      let inside : made ≤ length (unmarkedIn (length d) bytes .characters) = g .stored .inside in
+      let past : length (unmarkedIn (length d) bytes .characters) ≤ made =
+      omega (arith, length-drop made (unmarkedIn (length d) bytes .characters), ap length none) in
+      let all : made ≡ length (unmarkedIn (length d) bytes .characters) = omega arith in
+      let used-all : used ≡ unmarkedIn (length d) bytes .used = omega (arith, g .count, ap (λ (u : Unmarking). u .used) e) in
       record {
         answer = ap₂ (λ (u m : ℕ). record { used = u; made = m }) used-all all;
         left = copied-all (g .stored) past;

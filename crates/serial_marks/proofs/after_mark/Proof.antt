@@ -17,7 +17,9 @@ right-requires : tie.Need-right-requires
 right-requires c κs = search needs
 
 returns-2 : tie.Need-returns-2
-returns-2 c = rw (here (now (c .before .before .before .before .before .args .bytes)) (c .before .before .before .before .before .args .at) (c .before .before .before .if1 .left), eq-eqb _ _ (c .before .if2 .taken), c .right .ensures)
+returns-2 c =
+    let a = c .before .before .before .before .before .args in
+    rw (here (now (a .bytes)) (a .at) (c .before .before .before .if1 .left), eq-eqb _ _ (c .before .if2 .taken), c .right .ensures)
 
 add-after-zero : tie.Need-add-after-zero
 add-after-zero c = search needs
@@ -26,13 +28,27 @@ after-zero-requires : tie.Need-after-zero-requires
 after-zero-requires c κs = search needs
 
 returns-3 : tie.Need-returns-3
-returns-3 c = rw (here (now (c .before .before .before .before .before .before .args .bytes)) (c .before .before .before .before .before .before .args .at) (c .before .before .before .before .if1 .left), ne-eqb _ _ (c .before .before .if2 .left), eq-eqb _ _ (c .before .if3 .taken), c .after-zero .ensures)
+returns-3 c =
+    let a = c .before .before .before .before .before .before .args in
+    rw (
+      here (now (a .bytes)) (a .at) (c .before .before .before .before .if1 .left),
+      ne-eqb _ _ (c .before .before .if2 .left),
+      eq-eqb _ _ (c .before .if3 .taken),
+      c .after-zero .ensures,
+    )
 
 wrong-requires : tie.Need-wrong-requires
 wrong-requires c κs = search needs
 
 returns-4 : tie.Need-returns-4
-returns-4 c = rw (here (now (c .before .before .before .before .before .before .args .bytes)) (c .before .before .before .before .before .before .args .at) (c .before .before .before .before .if1 .left), ne-eqb _ _ (c .before .before .if2 .left), ne-eqb _ _ (c .before .if3 .left), c .wrong .ensures)
+returns-4 c =
+    let a = c .before .before .before .before .before .before .args in
+    rw (
+      here (now (a .bytes)) (a .at) (c .before .before .before .before .if1 .left),
+      ne-eqb _ _ (c .before .before .if2 .left),
+      ne-eqb _ _ (c .before .if3 .left),
+      c .wrong .ensures,
+    )
 
 pub after-mark-spec : {M : Type 1} → statement M
 after-mark-spec =

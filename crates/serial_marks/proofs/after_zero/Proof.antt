@@ -16,7 +16,9 @@ wrong-requires : tie.Need-wrong-requires
 wrong-requires c κs = search needs
 
 returns-2 : tie.Need-returns-2
-returns-2 c = rw (here (now (c .before .before .before .before .args .bytes)) (c .before .before .before .before .args .at) (c .before .before .if1 .left), c .wrong .ensures)
+returns-2 c =
+    let a = c .before .before .before .before .args in
+    rw (here (now (a .bytes)) (a .at) (c .before .before .if1 .left), c .wrong .ensures)
 
 pub after-zero-spec : {M : Type 1} → statement M
 after-zero-spec = tie.close (tie.spec returns shared-slice-read-wrong wrong-requires returns-2)

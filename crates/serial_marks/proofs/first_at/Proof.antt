@@ -20,13 +20,17 @@ after-mark-requires : tie.Need-after-mark-requires
 after-mark-requires c κs = search needs
 
 returns-2 : tie.Need-returns-2
-returns-2 c = rw (here (now (c .before .before .before .before .before .args .bytes)) (c .before .before .before .before .before .args .at) (c .before .before .before .if1 .left), eq-eqb _ _ (c .before .if2 .taken), c .after-mark .ensures)
+returns-2 c =
+    let a = c .before .before .before .before .before .args in
+    rw (here (now (a .bytes)) (a .at) (c .before .before .before .if1 .left), eq-eqb _ _ (c .before .if2 .taken), c .after-mark .ensures)
 
 right-requires : tie.Need-right-requires
 right-requires c κs = search needs
 
 returns-3 : tie.Need-returns-3
-returns-3 c = rw (here (now (c .before .before .before .before .before .args .bytes)) (c .before .before .before .before .before .args .at) (c .before .before .before .if1 .left), ne-eqb _ _ (c .before .if2 .left), c .right .ensures)
+returns-3 c =
+    let a = c .before .before .before .before .before .args in
+    rw (here (now (a .bytes)) (a .at) (c .before .before .before .if1 .left), ne-eqb _ _ (c .before .if2 .left), c .right .ensures)
 
 pub first-at-spec : {M : Type 1} → statement M
 first-at-spec =

@@ -40,7 +40,12 @@ slice-write-characters : tie.Need-slice-write-characters Inv-loop μ-loop
 slice-write-characters c = search needs
 
 add-used : tie.Need-add-used Inv-loop μ-loop
-add-used c = omega (arith, along-inside (c .before .before .before .before .before .loop .inv) (sym (c .before .before .before .first-at .ensures) ∙ c .before .next .given .1))
+add-used c =
+    omega (
+      arith,
+      along-inside (c .before .before .before .before .before .loop .inv)
+          (sym (c .before .before .before .first-at .ensures) ∙ c .before .next .given .1),
+    )
 
 add-made : tie.Need-add-made Inv-loop μ-loop
 add-made c = search needs
