@@ -3,3 +3,4 @@ pub mod FirstLaws
 pub mod UnmarkingLaws
 pub mod Along
 pub mod PieceLaws
+pub mod SoundLaws
