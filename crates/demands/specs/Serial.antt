@@ -1,21 +1,26 @@
 -- From a serial port: what is made of the bytes that a port passes on, marked as termios(3) says.
-use Prim.Native.Nat.{ℕ, _+_, _≤_}
+use Prim.Native.Nat.{ℕ, suc, _+_, _≤_}
 use mathlib.Core.Bool.{false}
 use mathlib.Core.List.{List, [], _∷_, _++_}
 use mathlib.Core.Logic.{_⊎_}
-use mathlib.Core.Path.{_≡_, refl}
+use mathlib.Core.Path.{_≡_, refl, sym}
 use lib.Count.{onesIn}
-use lib.Dec.{ltb}
-use lib.ListN.{length, drop}
+use lib.Dec.{eqb, ltb}
+use lib.ListN.{length, take, drop}
 use Rattle.mbus_rules.specs.Lists.{any}
 use Rattle.mbus_rules.specs.Characters.{over, odd, carrier}
+use Rattle.mbus_rules.specs.Bytes.{Bytes}
 use Rattle.mbus_rules.specs.Flips.{flipBit}
+use Rattle.mbus_rules.specs.Lines.{Accepted}
+use Rattle.mbus_rules.proofs.Laws.LineCode.{line-code}
 use Rattle.bytes_lent.specs.Pieces.{pieces}
 use Rattle.serial_marks.specs.Marks.{marked, wronged, Beginning}
-use Rattle.serial_marks.specs.Unmarking.{Unmarking, unmarkedIn}
+use Rattle.serial_marks.specs.declared.First.the-variants.{Whole}
+use Rattle.serial_marks.specs.Unmarking.{first, Unmarking, unmarkedIn}
 use Rattle.serial_marks.specs.Pieces.{Piece, received, byPieces}
 use Rattle.serial_marks.proofs.Laws.UnmarkingLaws as unmarking
 use Rattle.serial_marks.proofs.Laws.PieceLaws as by-piece
+use Rattle.serial_marks.proofs.Laws.SoundLaws as sound
 
 -- Every list of characters 0 to 511, marked by the port and unmarked with room enough, is given back, the parity bits among it.
 pub characters-back : (cs : List ℕ) → any over cs ≡ false → (k : ℕ)
@@ -49,6 +54,27 @@ pub two-calls-as-one : (room k : ℕ) (bytes more : List ℕ)
       characters = unmarkedIn room bytes .characters ++ unmarkedIn k (drop (unmarkedIn room bytes .used) bytes ++ more) .characters;
     }
 two-calls-as-one = unmarking.in-two
+
+-- Every character that is made of bytes is 0 to 511.
+pub made-are-characters : (room : ℕ) (bytes : List ℕ) → Bytes bytes → any over (unmarkedIn room bytes .characters) ≡ false
+made-are-characters = sound.made-in-range
+
+-- What is accepted as a line was received with right parity, all of it: the bytes used are the marked bytes of its characters, and an odd one's
+-- begin by FF 00.
+pub accepted-was-right : (room : ℕ) (bytes : List ℕ) → Bytes bytes → Accepted (unmarkedIn room bytes .characters)
+    → (any odd (unmarkedIn room bytes .characters) ≡ false) × (take (unmarkedIn room bytes .used) bytes ≡ pieces marked (unmarkedIn room bytes .characters))
+accepted-was-right room bytes h a =
+    let even = line-code .sound (unmarkedIn room bytes .characters) a .even in
+    (even, sym (sound.passed-as-marked room bytes h even))
+
+-- FF before another byte than 00 and FF, which no port passes on that is set as asked, is FF with wrong parity, and the other byte stands by itself.
+stray-first : (b : ℕ) (s : List ℕ) → eqb b 0xFF ≡ false → eqb b 0x00 ≡ false → first (0xFF ∷ b ∷ s) ≡ Whole 1 0x1FF
+unfolding wronged flipBit carrier onesIn
+stray-first b s p q = rw (p, q)
+
+pub stray-ff : (k b : ℕ) (s : List ℕ) → eqb b 0xFF ≡ false → eqb b 0x00 ≡ false
+    → unmarkedIn (suc k) (0xFF ∷ b ∷ s) ≡ record { used = 1 + unmarkedIn k (b ∷ s) .used; characters = 0x1FF ∷ unmarkedIn k (b ∷ s) .characters }
+stray-ff k b s p q = unmarking.step k (0xFF ∷ b ∷ s) (stray-first b s p q)
 
 -- An ack as it should be and with wrong parity; FF with right and with wrong parity; a break; FF before another byte; an unfinished mark.
 pub serial-values :
