@@ -16,7 +16,7 @@ use Rattle.mbus_rules.proofs.Laws.LineCode.{line-code}
 use Rattle.bytes_lent.specs.Pieces.{pieces}
 use Rattle.serial_marks.specs.Marks.{marked, wronged, Beginning}
 use Rattle.serial_marks.specs.declared.First.the-variants.{Whole}
-use Rattle.serial_marks.specs.Unmarking.{first, Unmarking, unmarkedIn}
+use Rattle.serial_marks.specs.Unmarking.{first, unmarkedIn}
 use Rattle.serial_marks.specs.Pieces.{Piece, received, byPieces}
 use Rattle.serial_marks.proofs.Laws.UnmarkingLaws as unmarking
 use Rattle.serial_marks.proofs.Laws.PieceLaws as by-piece

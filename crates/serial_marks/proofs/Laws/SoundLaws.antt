@@ -2,14 +2,14 @@
 use Prim.Native.Nat.{ℕ, zero, suc, _+_, _<_}
 use mathlib.Core.Bool.{Bool, true, false, cond, _||_, true≢false}
 use mathlib.Core.List.{List, [], _∷_, _++_}
-use mathlib.Core.Path.{_≡_, refl, sym, ap, ap₂, _∙_}
+use mathlib.Core.Path.{_≡_, refl, sym, ap₂, _∙_}
 use borrow.Author.Tests.{eqb-true, le-ltb}
 use lib.Count.{onesIn}
 use lib.Dec.{eqb, lit<}
 use lib.ListN.{take, drop}
 use lib.Seq.{take-add}
 use Rattle.mbus_rules.specs.Lists.{any}
-use Rattle.mbus_rules.specs.Characters.{over, byteOf, odd, carrier}
+use Rattle.mbus_rules.specs.Characters.{over, odd, carrier}
 use Rattle.mbus_rules.specs.Bytes.{Bytes}
 use Rattle.mbus_rules.proofs.Laws.ByteLaws.{bytes-drop}
 use Rattle.mbus_rules.proofs.Laws.CharacterLaws.{byte-carrier, carrier-even, carrier-in-range}
