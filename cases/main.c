@@ -6,6 +6,7 @@
 #include "histories.h"
 #include "lines.h"
 #include "resistances.h"
+#include "serials.h"
 #include "words.h"
 
 #include <stdio.h>
@@ -21,6 +22,7 @@ static const struct {
     {"list", answer_list},   {"kept", answer_kept},   {"next", answer_next},         {"salvage", answer_salvage},
     {"resistance", answer_resistance}, {"temperature", answer_temperature},
     {"either", answer_either},
+    {"unmark", answer_unmark},
     {"replay", answer_replay},
     {"sweep", answer_sweep},
 };

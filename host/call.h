@@ -10,6 +10,7 @@ enum function {
     REFUSAL_TEXT,
     FIND_LINE,
     FIND_EITHER,
+    UNMARK,
     READ_LINE,
     WRITE_LINE,
     WRITE_REQUEST,

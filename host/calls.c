@@ -14,6 +14,7 @@
 #include "../second/number.h"
 #include "../second/replay.h"
 #include "../second/resistance.h"
+#include "../second/serial.h"
 
 #include <stdio.h>
 #include <stdlib.h>
@@ -24,7 +25,7 @@ enum { MOST = SECOND_BUNDLE, ROWS = SECOND_ROWS };
 
 static uint8_t bytes[2 * MOST], text[MOST];
 static uint16_t characters[MOST], other[MOST]; /* the other capture holds zeros, of which none begins a line */
-static size_t count, places = 4096, told;
+static size_t count, places = 4096, told, made;
 static uint32_t number;
 static int64_t tenths;
 static struct skarrowith_found found;
@@ -45,6 +46,10 @@ static uint32_t find(void) { return skarrowith_find_line(characters, count, &fou
 /* The line is in the M-Bus capture, beside a long optical one; or in the optical one, and as many characters of M-Bus have none. */
 static uint32_t find_on_mbus(void) { return skarrowith_find_either(characters, count, other, places, &found, sizeof found); }
 static uint32_t find_on_optical(void) { return skarrowith_find_either(other, count, characters, count, &found, sizeof found); }
+
+/* 256 bytes that came with right parity. */
+static uint32_t unmark(void) { return skarrowith_unmark(bytes, count, characters, MOST, &told, &made); }
+static uint32_t unmark_by_second(void) { return (uint32_t)second_unmark(bytes, count, characters, MOST, &told); }
 
 /* A step from a copy, so that each call finds the same state. */
 static uint32_t exchange_resent(void)
@@ -242,6 +247,13 @@ static void put_rows(unsigned position, unsigned apart)
     count = at;
 }
 
+static void put_unmarked(void)
+{
+    count = 256;
+    for (size_t i = 0; i < count; i++)
+        bytes[i] = (uint8_t)(i % 255);
+}
+
 static void put_bundle(void) { put_rows(0, 1000); }
 
 static void put_contents(void)
@@ -308,6 +320,7 @@ static const struct {
     {"search-data", put_data, find, NULL},
     {"either-mbus", put_data, find_on_mbus, NULL},
     {"either-optical", put_data, find_on_optical, NULL},
+    {"unmark", put_unmarked, unmark, unmark_by_second},
     {"find-noise", put_noise, find, NULL},
     {"find-starts", put_starts, find, NULL},
     {"resistance", put_ack, resistance, resistance_by_second},

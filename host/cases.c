@@ -14,6 +14,7 @@
 #include "../second/resistance.h"
 #include "../second/salvage.h"
 #include "../second/sweep.h"
+#include "../second/serial.h"
 #include "../second/wake.h"
 
 #include <string.h>
@@ -130,6 +131,13 @@ int second_either(const uint16_t *mbus, size_t mbus_n, const uint16_t *optical, 
     live->place = (size_t)found.place;
     live->length = (size_t)found.length;
     return refusal_in(answer);
+}
+
+size_t second_unmark(const uint8_t *bytes, size_t n, uint16_t *characters, size_t places, size_t *used)
+{
+    size_t made = 0;
+    skarrowith_unmark(bytes, n, characters, places, used, &made);
+    return made;
 }
 
 int second_wake(uint64_t count, uint16_t *out, size_t places)

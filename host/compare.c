@@ -13,6 +13,7 @@
 #include "compare_meter.h"
 #include "compare_replay.h"
 #include "compare_resistance.h"
+#include "compare_serial.h"
 
 #include "../second/chance.h"
 
@@ -37,7 +38,7 @@ static const struct {
 } parts[] = {
     {compare_check_line, 240}, {compare_read, 50},      {compare_write, 50},  {compare_request, 10},
     {compare_find, 5},         {compare_words, 10},     {compare_wake, 10},   {compare_gap, 10},
-    {compare_either, 5},
+    {compare_either, 5},       {compare_unmark, 20},
     {compare_error, 20},       {compare_exchange, 20},  {compare_meter, 12},  {compare_bundle, 15},
     {compare_resistance, 10},  {compare_temperature, 10}, {compare_replay, 20},
 };

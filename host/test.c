@@ -204,6 +204,35 @@ static void expect_signs(void)
     expect_count("an energy below 0", ENERGY, -1, SKARROWITH_REFUSED + 20);
 }
 
+/* All 512 characters as a serial port passes them on, in two pieces cut at every place: what is left of the first is lent again. */
+static void expect_unmarking(void)
+{
+    static uint8_t bytes[3 * 512];
+    static uint16_t characters[512];
+    size_t n = 0;
+    for (unsigned c = 0; c < 512; c++) {
+        if (second_character(c % 256) != c || c == 0x0FF)
+            bytes[n++] = 0xFF;
+        if (second_character(c % 256) != c)
+            bytes[n++] = 0;
+        bytes[n++] = (uint8_t)c;
+    }
+    for (size_t cut = 0; cut <= n; cut++) {
+        size_t used, made, rest, more, c = 0;
+        memset(characters, 0, sizeof characters);
+        uint32_t first = skarrowith_unmark(bytes, cut, characters, 512, &used, &made);
+        uint32_t second = skarrowith_unmark(bytes + used, n - used, characters + made, 512 - made, &rest, &more);
+        while (c < 512 && characters[c] == c)
+            c++;
+        if (first == 0 && second == 0 && used <= cut && cut - used < 3 && used + rest == n && made + more == 512 && c == 512) {
+            right++;
+            continue;
+        }
+        printf("test: unmarking, cut at %lu: character %lu\n", (unsigned long)cut, (unsigned long)c);
+        wrong = 1;
+    }
+}
+
 int main(void)
 {
     static const struct value values[] = {
@@ -236,6 +265,7 @@ int main(void)
     expect("the same, five flips", SKARROWITH_REFUSED + 3, data, sizeof data);
     expect_both_interfaces();
     expect_signs();
+    expect_unmarking();
     expect_one_pass();
     expect_words(1, 260, 17, "the line is empty");
     expect_words(8, 14, 14, "checksum wrong");

@@ -18,7 +18,7 @@
  *
  * Lent memory is a pointer and the number of its places; with 0 of them the pointer may be null. Output that is too short
  * for what is to be written is refused by 21; a longer one is changed in its first places alone. A count that is answered
- * beside (rows, i, filled, written, milliohm, hundredths) is written through a pointer to it, which may not be null. Memory for
+ * beside (rows, i, filled, written, milliohm, hundredths, used, made) is written through a pointer to it, which may not be null. Memory for
  * uint16_t, uint32_t, int64_t and size_t is aligned as C aligns these types; bytes and records may stand at any address.
  *
  * Stack, as measured. skarrowith_bundle_list takes 28,000 bytes, skarrowith_replay_error 5,800, the simulated meter up to
@@ -192,6 +192,28 @@ uint32_t skarrowith_gap(uint64_t ended, uint64_t begins);
  * Answers 0, or refuses by 21, 60, 61 or 62.
  */
 uint32_t skarrowith_error(uint64_t m1, uint64_t m2, uint64_t s1, uint64_t s2, int64_t *tenths, size_t places);
+
+/*
+ * From a serial port
+ *
+ * With PARENB, INPCK and PARMRK set and IGNPAR, IGNBRK, BRKINT, ISTRIP and PARODD clear (termios(3)), at CS8, a port passes on a
+ * byte that came with right parity as itself, but FF as FF FF, and one that came with wrong parity as FF 00 and the byte.
+ */
+
+/*
+ * Makes characters of such bytes, with the parity bit as it was received: without a mark it is the one that makes the nine
+ * bits even, with one the other. A break is passed on as FF 00 00 and reads as 100 hex, a byte 00 with wrong parity. FF before
+ * any other byte than 00 and FF is no mark: it reads as 1FF hex, FF with wrong parity, and the byte behind it by itself. So no
+ * line is accepted that has one of these in it. A framing error is marked too, and reads as wrong parity.
+ *
+ * bytes, len:         as they were read.
+ * characters, places: takes the characters, in the first places. With as many places as bytes there is always room.
+ * used, made:         take how many bytes were used and how many characters made; not null.
+ *
+ * What is left unused is the beginning of a mark, FF or FF 00 at the end, or what there was no room for: lend it again, in front
+ * of what is read next. Any bytes get a result: answers 0, and cannot refuse.
+ */
+uint32_t skarrowith_unmark(const uint8_t *bytes, size_t len, uint16_t *characters, size_t places, size_t *used, size_t *made);
 
 /*
  * The resistance box

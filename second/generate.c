@@ -6,6 +6,7 @@
 #include "make_bundle.h"
 #include "make_line.h"
 #include "make_replay.h"
+#include "make_serial.h"
 #include "make_telegram.h"
 #include "number.h"
 
@@ -44,6 +45,15 @@ static void generate_either(void)
     print_characters(&mbus);
     printf(" optical");
     print_characters(&optical);
+}
+
+static void generate_unmark(void)
+{
+    static struct marked m;
+    some_marked(&m);
+    printf("unmark +%zu", some_room(&m));
+    for (size_t i = 0; i < m.n; i++)
+        printf(" %02X", m.b[i]);
 }
 
 static void print_entry(const struct second_entry *e)
@@ -346,6 +356,7 @@ int main(int argc, char **argv)
         {"list", generate_list},   {"kept", generate_kept},   {"next", generate_next},         {"salvage", generate_salvage},
         {"resistance", generate_resistance}, {"temperature", generate_temperature},
         {"either", generate_either},
+        {"unmark", generate_unmark},
         {"replay", generate_replay},
         {"sweep", generate_sweep},
     };

@@ -1,9 +1,10 @@
 -- 01, "How much each promise says": the empty programs are caught. A statement of the front page stands here as a demand on any program; the rules
 -- meet it by the theorem, and the empty program does not, even where rules and code are changed alike.
-use Prim.Native.Nat.{ℕ, _+_, _≤_, _<_}
+use Prim.Native.Nat.{ℕ, _+_, _*_, _%_, _≤_, _<_}
 use mathlib.Core.Bool.{Bool, true, false, true≢false}
-use mathlib.Core.List.{List, [], _∷_, _++_}
+use mathlib.Core.List.{List, [], _∷_, _++_, map}
 use mathlib.Core.Path.{_≡_, refl, sym, ap, _∙_}
+use native.Mathlib.Nat.{mod-lt}
 use native.Mathlib.Omega.{arith}
 use lib.Count.{onesIn}
 use lib.Dec.{lit<, lit≤}
@@ -16,7 +17,7 @@ use Rattle.mbus_rules.specs.declared.Request.the-variants as requests
 use Rattle.mbus_rules.specs.declared.Telegram.{Telegram}
 use Rattle.mbus_rules.specs.declared.View.the-variants.{Asks}
 use Rattle.mbus_rules.specs.Lists.{at, any, total}
-use Rattle.mbus_rules.specs.Characters.{odd, carrier}
+use Rattle.mbus_rules.specs.Characters.{over, byteOf, odd, carrier}
 use Rattle.mbus_rules.specs.Answers.{Answer, reads, refusal}
 use Rattle.mbus_rules.specs.Telegrams.{ack, readOf, enterOf, blank}
 use Rattle.mbus_rules.specs.TelegramSizes.{Sized}
@@ -27,10 +28,13 @@ use Rattle.mbus_rules.specs.Writing.{lineOf, unwritable, writeLine}
 use Rattle.mbus_rules.specs.Flips.{Place, Places, flips, repeated}
 use Rattle.mbus_rules.proofs.Laws.LineLaws.{bare-sized}
 use Rattle.bytes_lent.specs.Lent.{stored, told}
+use Rattle.bytes_lent.specs.Pieces.{pieces}
 use Rattle.mbus_search.specs.Searching.{accepts, Begins, Spot, findIn}
 use Rattle.mbus_either.specs.declared.Interface.the-variants.{Mbus, Optical}
 use Rattle.mbus_either.specs.Interfaces.{LiveLine, liveOn, findEither}
 use Rattle.host_either.specs.Finding.{lineInterface}
+use Rattle.serial_marks.specs.Marks.{marked}
+use Rattle.serial_marks.specs.Unmarking.{Unmarking, unmarkedIn}
 use Rattle.exchange_replies.specs.Fits.{fits}
 use Rattle.exchange_steps.specs.declared.Cause.the-variants.{Silent}
 use Rattle.exchange_steps.specs.declared.State.the-variants.{Waiting, Resend, Well}
@@ -48,6 +52,7 @@ use Rattle.demands.specs.Lines as lines
 use Rattle.demands.specs.Writer as writer
 use Rattle.demands.specs.Search as search
 use Rattle.demands.specs.Interfaces as interfaces
+use Rattle.demands.specs.Serial as serial
 use Rattle.demands.specs.Exchange as exchange
 use Rattle.demands.specs.Meter as meter
 
@@ -141,6 +146,51 @@ optical-comes-first find first d =
     let o = first (0x1E5 ∷ []) (0x1E5 ∷ []) 0 1 begins in
     let m = d (0x1E5 ∷ []) (0x1E5 ∷ []) 0 1 begins in
     omega (arith, ap (told lineInterface) (sym (o .1) ∙ m .1))
+
+-- ---- characters from a serial port: what is made of bytes in so many places
+
+abbrev pub GivesBack : (ℕ → List ℕ → List ℕ) → Type 0
+GivesBack made = (cs : List ℕ) → any over cs ≡ false → (k : ℕ) → made (length cs + k) (pieces marked cs) ≡ cs
+
+pub rules-give-back : GivesBack (λ room bytes. unmarkedIn room bytes .characters)
+rules-give-back cs h k = ap (λ (u : Unmarking). u .characters) (serial.characters-back cs h k)
+
+-- one that makes nothing
+pub makes-nothing : GivesBack (λ room bytes. []) → ⊥
+unfolding any
+makes-nothing d = omega (arith, ap (λ (s : List ℕ). length s) (d (0x1E5 ∷ []) refl 0))
+
+-- one that drops the parity bit, whatever its bytes are: that of an ack is 1
+byte-first : (s : List ℕ) → at (map byteOf s) 0 < 256
+byte-first [] = lit< tt
+byte-first (b ∷ s) = mod-lt b (lit< tt)
+
+pub drops-the-parity-bit : (bytesOf : ℕ → List ℕ → List ℕ) → GivesBack (λ room bytes. map byteOf (bytesOf room bytes)) → ⊥
+unfolding any
+drops-the-parity-bit bytesOf d =
+    omega (arith, ap (λ (s : List ℕ). at s 0) (d (0x1E5 ∷ []) refl 0), byte-first (bytesOf 1 (pieces marked (0x1E5 ∷ []))))
+
+-- and one that works it out from the byte alone: that of an ack with wrong parity is 0
+alone : (x b : ℕ) → x < 2 → 256 * x + b ≡ 0x0E5 → b ≡ 0xE5
+alone x b h e = omega arith
+
+ack-carried : carrier 0xE5 ≡ 0x1E5
+unfolding carrier onesIn
+ack-carried = refl
+
+not-carried : (b : ℕ) → carrier b ≡ 0x0E5 → ⊥
+unfolding carrier
+not-carried b e =
+    let ack : b ≡ 0xE5 = alone (onesIn 8 b % 2) b (mod-lt (onesIn 8 b) (lit< tt)) e in
+    omega (arith, sym ack-carried ∙ ap carrier (sym ack) ∙ e)
+
+carried-first : (s : List ℕ) → at (map carrier s) 0 ≡ 0x0E5 → ⊥
+carried-first [] e = omega arith
+carried-first (b ∷ s) e = not-carried b e
+
+pub works-it-out : (bytesOf : ℕ → List ℕ → List ℕ) → GivesBack (λ room bytes. map carrier (bytesOf room bytes)) → ⊥
+unfolding any
+works-it-out bytesOf d = carried-first (bytesOf 1 (pieces marked (0x0E5 ∷ []))) (ap (λ (s : List ℕ). at s 0) (d (0x0E5 ∷ []) refl 0))
 
 -- ---- a simulated meter: what it answers to a step
 

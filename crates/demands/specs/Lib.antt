@@ -3,6 +3,7 @@ pub mod Lines
 pub mod Writer
 pub mod Search
 pub mod Interfaces
+pub mod Serial
 pub mod Exchange
 pub mod Meter
 pub mod Bundle

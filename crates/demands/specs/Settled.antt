@@ -12,6 +12,8 @@ use Rattle.mbus_writing.specs.declared.Written.{Written}
 use Rattle.mbus_writing.specs.Answering.{WritesLine}
 use Rattle.mbus_either.specs.declared.Either.{Either}
 use Rattle.mbus_either.specs.Stretches.{HandsEither}
+use Rattle.serial_marks.specs.declared.Unmarked.{Unmarked}
+use Rattle.serial_marks.specs.Unmarking.{Unmarks}
 use Rattle.bundle_check.specs.Records.{Recorded}
 use Rattle.bundle_check.specs.Handing.{BodyPlace}
 use Rattle.bundle_check.specs.Stretches.{Handed}
@@ -27,6 +29,7 @@ use Rattle.bundle_adding.specs.Shown.{Adds}
 use Rattle.listing_text.specs.declared.Listed.{Listed}
 use Rattle.listing_text.specs.Shown.{Lists}
 use Rattle.host_words.specs.Saying.{Says}
+use Rattle.host_serial.specs.Calls.{UnmarksFor}
 use Rattle.exchange_steps.specs.declared.Exchange.{Exchange}
 use Rattle.host_exchange.specs.Calls as exchanges
 use Rattle.meter_steps.specs.Meters.{Deed}
@@ -54,6 +57,9 @@ two-equations a b x y p q i = (equation a (x .0) (y .0) (p .0) (q .0) i, equatio
 pub writing-settled : (t : Telegram) (before : List ℕ) → Settled (λ (x : Written × List ℕ). WritesLine t before (x .1) (x .0))
 writing-settled t before x y p q = two-equations _ _ x y (p .answer, p .places) (q .answer, q .places)
 
+pub unmarking-settled : (bytes before : List ℕ) → Settled (λ (x : Unmarked × List ℕ). Unmarks bytes before (x .1) (x .0))
+unmarking-settled bytes before x y p q = two-equations _ _ x y (p .answer, p .left) (q .answer, q .left)
+
 pub adding-settled : (before : List ℕ) (filled : ℕ) (k : Recorded) → Settled (λ (x : Added × List ℕ). Adds before filled k (x .0) (x .1))
 adding-settled before filled k x y p q = two-equations _ _ x y (p .answers, p .leaves) (q .answers, q .leaves)
 
@@ -76,6 +82,13 @@ listing-settled b before x y p q = two-equations _ _ x y (p .answer, p .holds) (
 pub leaves-settled : {A B : Type 0} (tell : A → ℕ) (written : A → List B) (a : Answer A) (before : List B)
     → Settled (λ (x : ℕ × List B). Leaves tell written a before (x .1) (x .0))
 leaves-settled tell written a before x y p q = two-equations _ _ x y (p .answer, p .left) (q .answer, q .left)
+
+-- unmarking: the answer, the characters, and the two numbers
+pub unmark-settled : (bytes before : List ℕ) → Settled (λ (x : (ℕ × List ℕ) × (ℕ × ℕ)). UnmarksFor bytes before (x .0 .1) (x .1 .0) (x .1 .1) (x .0 .0))
+unmark-settled bytes before x y p q i = (
+  two-equations _ _ (x .0) (y .0) (p .answer, p .left) (q .answer, q .left) i,
+  two-equations _ _ (x .1) (y .1) (p .bytesUsed, p .charactersMade) (q .bytesUsed, q .charactersMade) i,
+)
 
 -- the same with the reply, or the meter's answer, beside it
 pub exchange-heard-settled : (a : Answer Exchange) (telegram : Telegram) (before out : List ℕ)
