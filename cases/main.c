@@ -3,6 +3,7 @@
  * (host/cases.c). With arguments it knows only the capabilities that they name.
  */
 #include "bundles.h"
+#include "captures.h"
 #include "histories.h"
 #include "lines.h"
 #include "resistances.h"
@@ -21,6 +22,7 @@ static const struct {
     {"list", answer_list},   {"kept", answer_kept},   {"next", answer_next},         {"salvage", answer_salvage},
     {"resistance", answer_resistance}, {"temperature", answer_temperature},
     {"either", answer_either},
+    {"length", answer_length}, {"after", answer_after},
     {"replay", answer_replay},
 };
 

@@ -10,6 +10,8 @@ enum function {
     REFUSAL_TEXT,
     FIND_LINE,
     FIND_EITHER,
+    LINE_LENGTH,
+    FIND_LINE_AFTER,
     READ_LINE,
     WRITE_LINE,
     WRITE_REQUEST,

@@ -3,6 +3,8 @@ pub mod Lines
 pub mod Writer
 pub mod Search
 pub mod Interfaces
+pub mod After
+pub mod Whole
 pub mod Exchange
 pub mod Meter
 pub mod Bundle

@@ -12,8 +12,8 @@ use Rattle.mbus_whole.specs.declared.Whole.{Whole}
 use Rattle.mbus_whole.specs.declared.Whole.the-variants.{Known, NotYet, NoLine}
 
 -- 5: the count is 1 after E5, 5 after 10, second byte + 6 after 68.
-abbrev pub countOf : List ℕ → ℕ
-countOf b = cond (isAck b) 1 (cond (isShort b) 5 (at b 1 + 6))
+abbrev pub lineCount : List ℕ → ℕ
+lineCount b = cond (isAck b) 1 (cond (isShort b) 5 (at b 1 + 6))
 
 -- 6, of the bytes that are there: second and third byte differ, or fourth is not 68 (the long form alone has them)
 abbrev pub wrongLengthsIn : List ℕ → Bool
@@ -21,7 +21,7 @@ wrongLengthsIn b = isLong b && ((ltb 2 (length b) && not (eqb (at b 1) (at b 2))
 
 -- the count of a line with these first bytes, or 0 where 4 or 6 refuses every such line
 abbrev pub leftBy : List ℕ → ℕ
-leftBy b = cond (wrongStart b || wrongLengthsIn b) 0 (countOf b)
+leftBy b = cond (wrongStart b || wrongLengthsIn b) 0 (lineCount b)
 
 -- 2 and 3: one of so many first characters, of those that are there, is over 511 or odd
 abbrev pub unsoundIn : ℕ → List ℕ → Bool

@@ -16,7 +16,7 @@ use Rattle.mbus_rules.proofs.Laws.ListLaws.{map-take, at-bytes-end}
 use Rattle.mbus_rules.proofs.Laws.Tests.{by-test, neither}
 use Rattle.mbus_whole.specs.declared.Whole.{Whole}
 use Rattle.mbus_whole.specs.declared.Whole.the-variants.{Known, NotYet, NoLine}
-use Rattle.mbus_whole.specs.Wholes.{countOf, wrongLengthsIn, leftBy, unsoundIn, lacksCount, lineLength}
+use Rattle.mbus_whole.specs.Wholes.{lineCount, wrongLengthsIn, leftBy, unsoundIn, lacksCount, lineLength}
 
 -- where none of the first characters passes a test, none of fewer of them does
 clean : (test : ℕ → Bool) (w : List ℕ) (m n k : ℕ) → m ≤ n → any test (take n w) ≡ false → any test (take m (take k w)) ≡ false
@@ -52,10 +52,10 @@ not-yet-by false false n e = let z : _≡_ {A = ℕ} 0 1 = cc in absurd (omega a
 pub left-none : (b : List ℕ) → (wrongStart b || wrongLengthsIn b) ≡ true → leftBy b ≡ 0
 left-none b e = rw e
 
-pub left-some : (b : List ℕ) → (wrongStart b || wrongLengthsIn b) ≡ false → leftBy b ≡ countOf b
+pub left-some : (b : List ℕ) → (wrongStart b || wrongLengthsIn b) ≡ false → leftBy b ≡ lineCount b
 left-some b e = rw e
 
-pub count-some : (b : List ℕ) → 0 < countOf b
+pub count-some : (b : List ℕ) → 0 < lineCount b
 count-some b = go (isAck b) (isShort b)
   where
     go : (ack short : Bool) → 0 < cond ack 1 (cond short 5 (at b 1 + 6))
@@ -85,13 +85,13 @@ module _ (w : List ℕ) (k : ℕ) (some : 1 ≤ k) (inside : k ≤ length w) whe
   start = at-first 0 some
 
   -- the second byte is there, or is not asked for: the count is the same
-  pub same-count : wrongStart few ≡ false → lacksCount few ≡ false → countOf few ≡ countOf all
+  pub same-count : wrongStart few ≡ false → lacksCount few ≡ false → lineCount few ≡ lineCount all
   same-count s l = by-test (isLong few)
       (λ t. let two : 2 ≤ k = omega (arith, few-length, ltb-false (length few) 2 (rw t at l)) in rw (start, at-first 1 (omega arith)))
       (λ t. by-test (isAck few) (λ a. rw (← start, a)) (λ a. by-test (isShort few) (λ h. rw (← start, a, h)) (λ h. absurd (true≢false (rw (a, h, t) at s)))))
 
   -- a second byte that is not there is read as 0
-  pub count-grows : countOf few ≤ countOf all
+  pub count-grows : lineCount few ≤ lineCount all
   count-grows = by-test (isLong few) (λ t. long (eqb-true _ _ t)) (λ t. by-test (isAck few) (λ a. rw (← start, a) (omega arith))
       (λ a. by-test (isShort few) (λ h. rw (← start, a, h) (omega arith)) (λ h. rw (← start, a, h) (omega (arith, second)))))
     where
@@ -99,7 +99,7 @@ module _ (w : List ℕ) (k : ℕ) (some : 1 ≤ k) (inside : k ≤ length w) whe
       second = by-test (ltb 1 k) (λ t. let l = ltb-true 1 k t in omega (arith, at-first 1 l))
           (λ t. omega (arith, at-bytes-end (take k w) 1 (omega (arith, length-take-le k w inside, ltb-false 1 k t))))
 
-      long : at few 0 ≡ 0x68 → countOf few ≤ countOf all
+      long : at few 0 ≡ 0x68 → lineCount few ≤ lineCount all
       long e = let f : at all 0 ≡ 0x68 = sym start ∙ e in rw (e, f) (omega (arith, second))
 
   -- ---- what is refused by the bytes that are there stays refused

@@ -19,7 +19,7 @@ use Rattle.mbus_rules.proofs.Laws.LineCode.{line-code}
 use Rattle.mbus_rules.proofs.Laws.Tests.{by-test, neither}
 use Rattle.mbus_whole.specs.declared.Whole.{Whole}
 use Rattle.mbus_whole.specs.declared.Whole.the-variants.{Known, NotYet, NoLine}
-use Rattle.mbus_whole.specs.Wholes.{countOf, wrongLengthsIn, leftBy, unsoundIn, lacksCount, lengthBy, lineLength, Agree}
+use Rattle.mbus_whole.specs.Wholes.{lineCount, wrongLengthsIn, leftBy, unsoundIn, lacksCount, lengthBy, lineLength, Agree}
 use Rattle.mbus_whole.proofs.Laws.Beginnings
 
 answer : (s : List ℕ) → 1 ≤ length s → lineLength s ≡ lengthBy s (leftBy (map byteOf s))
@@ -39,7 +39,7 @@ known-some s n e = told-some s (λ y. let z : _≡_ {A = ℕ} 0 1 = cc in omega 
 -- what a known length tells
 pub record KnownBy (s : List ℕ) (n : ℕ) : Type 0 where
   pub passed : (wrongStart (map byteOf s) || wrongLengthsIn (map byteOf s)) ≡ false
-  pub count : countOf (map byteOf s) ≡ n
+  pub count : lineCount (map byteOf s) ≡ n
   pub clean : unsoundIn n s ≡ false
   pub there : lacksCount (map byteOf s) ≡ false
 
@@ -82,11 +82,11 @@ module _ (w : List ℕ) (k : ℕ) (inside : k ≤ length w) where
       (λ t. let passed : (wrongStart few || wrongLengthsIn few) ≡ false = by-test (wrongStart few || wrongLengthsIn few)
       (λ u. absurd (true≢false (sym (Beginnings.refused-stays w k some inside u) ∙ t))) (λ u. u) in
       let left = Beginnings.left-some few passed in
-      let unsound : unsoundIn (countOf few) (take k w) ≡ true =
-      rw (left, ne-eqb (countOf few) 0 (λ z. omega (arith, Beginnings.count-some few))) at bad in
-      rw (Beginnings.left-some all t) (by-test (unsoundIn (countOf all) w) (λ u. rw (u, or-true))
-      (λ u. let both = neither (any over (take (countOf all) w)) (any odd (take (countOf all) w)) u in
-      absurd (true≢false (sym unsound ∙ Beginnings.sound-first w (countOf few) (countOf all) k (Beginnings.count-grows w k some inside) (both .0) (both .1))))))
+      let unsound : unsoundIn (lineCount few) (take k w) ≡ true =
+      rw (left, ne-eqb (lineCount few) 0 (λ z. omega (arith, Beginnings.count-some few))) at bad in
+      rw (Beginnings.left-some all t) (by-test (unsoundIn (lineCount all) w) (λ u. rw (u, or-true))
+      (λ u. let both = neither (any over (take (lineCount all) w)) (any odd (take (lineCount all) w)) u in
+      absurd (true≢false (sym unsound ∙ Beginnings.sound-first w (lineCount few) (lineCount all) k (Beginnings.count-grows w k some inside) (both .0) (both .1))))))
 
   pub known-stays : (m n : ℕ) → lineLength (take k w) ≡ Known m → lineLength w ≡ Known n → m ≡ n
   known-stays m n e f =
@@ -137,7 +137,7 @@ module _ (l : List ℕ) (f : Sound Framed l) where
   bytes-length : length (map byteOf l) ≡ length l
   bytes-length = length-map l byteOf
 
-  known-of : countOf (map byteOf l) ≡ length l → (wrongStart (map byteOf l) || wrongLengthsIn (map byteOf l)) ≡ false → lacksCount (map byteOf l) ≡ false
+  known-of : lineCount (map byteOf l) ≡ length l → (wrongStart (map byteOf l) || wrongLengthsIn (map byteOf l)) ≡ false → lacksCount (map byteOf l) ≡ false
       → lineLength l ≡ Known (length l)
   known-of c p t = known-when l (length l) (omega (arith, Beginnings.count-some (map byteOf l))) (record {
     passed = p;
