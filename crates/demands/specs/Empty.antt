@@ -29,8 +29,8 @@ use Rattle.mbus_rules.proofs.Laws.LineLaws.{bare-sized}
 use Rattle.bytes_lent.specs.Lent.{stored, told}
 use Rattle.mbus_search.specs.Searching.{accepts, Begins, Spot, findIn}
 use Rattle.mbus_after.specs.After.{BeginsAfter, TimedSpot, findAfter}
-use Rattle.mbus_whole.specs.declared.Whole.{Whole}
-use Rattle.mbus_whole.specs.declared.Whole.the-variants.{Known, NotYet, NoLine}
+use Rattle.mbus_whole.specs.declared.HowLong.{HowLong}
+use Rattle.mbus_whole.specs.declared.HowLong.the-variants.{Known, NotYet, NoLine}
 use Rattle.mbus_whole.specs.Wholes.{lineLength, Agree}
 use Rattle.mbus_either.specs.declared.Interface.the-variants.{Mbus, Optical}
 use Rattle.mbus_either.specs.Interfaces.{LiveLine, liveOn, findEither}
@@ -165,7 +165,7 @@ finds-nothing-after number d =
 
 -- ---- the length of a line, by its first characters
 
-abbrev pub KnowsLines : (List ℕ → Whole) → Type 0
+abbrev pub KnowsLines : (List ℕ → HowLong) → Type 0
 KnowsLines program =
     (first line : List ℕ) → Accepted line → Agree first line → 2 ≤ length first → program first ≡ Known (length line)
 
@@ -173,13 +173,13 @@ pub rules-know : KnowsLines lineLength
 rules-know = whole.line-is-known
 
 -- 1 where a length is told
-abbrev tells : Whole → ℕ
+abbrev tells : HowLong → ℕ
 tells (Known n) = 1
 tells NotYet = 0
 tells NoLine = 0
 
 -- one that never tells a length, and says NotYet or NoLine as it likes
-pub length-never-known : (program : List ℕ → Whole) → ((first : List ℕ) → tells (program first) ≡ 0) → KnowsLines program → ⊥
+pub length-never-known : (program : List ℕ → HowLong) → ((first : List ℕ) → tells (program first) ≡ 0) → KnowsLines program → ⊥
 length-never-known program mute d =
     let r = d (0x1E5 ∷ 0 ∷ []) (0x1E5 ∷ []) (ack, ack-read) refl (lit≤ tt) in omega (arith, mute (0x1E5 ∷ 0 ∷ []), ap tells r)
 

@@ -36,8 +36,8 @@ use Rattle.bench_indication.specs.Errors.{indicationOf}
 use Rattle.bench_indication.specs.Errors as errors
 use Rattle.mbus_search.specs.Searching.{Spot, lengthHere, further, orElse, findIn}
 use Rattle.mbus_after.specs.After.{TimedSpot, movedTimed, orLater, findAfter}
-use Rattle.mbus_whole.specs.declared.Whole.{Whole}
-use Rattle.mbus_whole.specs.declared.Whole.the-variants.{Known, NotYet, NoLine}
+use Rattle.mbus_whole.specs.declared.HowLong.{HowLong}
+use Rattle.mbus_whole.specs.declared.HowLong.the-variants.{Known, NotYet, NoLine}
 use Rattle.mbus_either.specs.Interfaces.{liveOn, orOptical, findEither}
 use Rattle.mbus_either.specs.declared.Interface.the-variants.{Optical}
 use Rattle.exchange_steps.specs.declared.Exchange.{Exchange}
@@ -243,12 +243,12 @@ after-by t (c ∷ s) (time ∷ times) = go (cond (leb t time) (lengthHere (c ∷
     go (refusal n) (reads p) h = tt
 
 -- The length of a line, for C: 0, 1 or 18.
-abbrev lengthAnswer : Whole → Answer ℕ
+abbrev lengthAnswer : HowLong → Answer ℕ
 lengthAnswer (Known n) = reads 0
 lengthAnswer NotYet = reads 1
 lengthAnswer NoLine = refusal 18
 
-pub length-by : (w : Whole) → (lengthNumber w ≡ told (λ (n : ℕ). n) (lengthAnswer w)) × By (18 ∷ []) (lengthAnswer w)
+pub length-by : (w : HowLong) → (lengthNumber w ≡ told (λ (n : ℕ). n) (lengthAnswer w)) × By (18 ∷ []) (lengthAnswer w)
 unfolding By any
 length-by (Known n) = (refl, tt)
 length-by NotYet = (refl, tt)

@@ -29,7 +29,7 @@ use Rattle.exchange_steps.specs.declared.Exchange.{Exchange}
 use Rattle.host_exchange.specs.Calls as exchanges
 use Rattle.meter_steps.specs.Meters.{Deed}
 use Rattle.host_meter.specs.Calls as meters
-use Rattle.mbus_whole.specs.declared.Whole.{Whole}
+use Rattle.mbus_whole.specs.declared.HowLong.{HowLong}
 use Rattle.host_capture.specs.Calls.{TellsLength}
 use Rattle.host_bundle.specs.Lent.{Gives}
 use Rattle.host_bundle.specs.Bundled.{AddsIn, ListsIn}
@@ -89,7 +89,7 @@ pub gives-settled : (a : Answer ℕ) (before : ℕ) → Settled (λ (x : ℕ × 
 gives-settled a before x y p q = two-equations _ _ x y (p .number, p .place) (q .number, q .place)
 
 -- the length of a line, by its first characters
-pub length-settled : (w : Whole) (before : ℕ) → Settled (λ (x : ℕ × ℕ). TellsLength w before (x .1) (x .0))
+pub length-settled : (w : HowLong) (before : ℕ) → Settled (λ (x : ℕ × ℕ). TellsLength w before (x .1) (x .0))
 length-settled w before x y p q = two-equations _ _ x y (p .answer, p .left) (q .answer, q .left)
 
 pub add-settled : (buffer : List ℕ) (filled : ℕ) (k : Recorded)

@@ -10,7 +10,7 @@ use native.Mathlib.Omega.{arith}
 use Rattle.mbus_rules.specs.Lists.{at, any}
 use Rattle.mbus_rules.specs.Characters.{odd, byteOf}
 use Rattle.mbus_rules.specs.Lines.{Accepted}
-use Rattle.mbus_whole.specs.declared.Whole.the-variants.{Known, NotYet, NoLine}
+use Rattle.mbus_whole.specs.declared.HowLong.the-variants.{Known, NotYet, NoLine}
 use Rattle.mbus_whole.specs.Wholes.{lineLength, Agree}
 use Rattle.mbus_whole.proofs.Laws.Meaning
 

@@ -3,25 +3,25 @@ use Prim.Native.Nat.{ℕ, _+_}
 use mathlib.Core.List.{List, [], _∷_}
 use mathlib.Core.Path.{_≡_}
 use Rattle.mbus_rules.specs.Answers.{Answer}
-use Rattle.mbus_whole.specs.declared.Whole.{Whole}
-use Rattle.mbus_whole.specs.declared.Whole.the-variants.{Known, NotYet, NoLine}
+use Rattle.mbus_whole.specs.declared.HowLong.{HowLong}
+use Rattle.mbus_whole.specs.declared.HowLong.the-variants.{Known, NotYet, NoLine}
 use Rattle.mbus_after.specs.After.{TimedSpot, findAfter}
 use Rattle.bytes_numbers.specs.Records.{wordsOf}
 use Rattle.bytes_lent.specs.Lent.{done, placed, Leaves}
 
 -- 0 where the length is known, 1 where it is not yet, or 256 plus 18
-abbrev pub lengthNumber : Whole → ℕ
+abbrev pub lengthNumber : HowLong → ℕ
 lengthNumber (Known n) = 0
 lengthNumber NotYet = 1
 lengthNumber NoLine = 256 + 18
 
 -- the length in its place, or what was there
-abbrev pub lengthLeft : Whole → ℕ → ℕ
+abbrev pub lengthLeft : HowLong → ℕ → ℕ
 lengthLeft (Known n) before = n
 lengthLeft NotYet before = before
 lengthLeft NoLine before = before
 
-pub record TellsLength (w : Whole) (before after r : ℕ) : Type 0 where
+pub record TellsLength (w : HowLong) (before after r : ℕ) : Type 0 where
   pub answer : r ≡ lengthNumber w
   pub left : after ≡ lengthLeft w before
 

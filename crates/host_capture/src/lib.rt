@@ -9,7 +9,7 @@ ghost use Rattle.host_capture.specs.Calls.{TellsLength, timedBytes, Find
 use bytes_numbers::put_record;
 use mbus_after::FoundAfter;
 use mbus_after::find_line_after;
-use mbus_whole::Whole;
+use mbus_whole::HowLong;
 use mbus_whole::line_length;
 
 // 0 and how many characters the accepted line has that begins with these; 1 where it is not yet known; or 256 plus 18.
@@ -18,12 +18,12 @@ pub extern "C" fn skarrowith_line_length(first: &[u16], length: &mut usize) -> u
     ensures { λ r. ⌜ TellsLength (lineLength (now (first .entry))) (now (length .entry)) (now (length .exit)) r ⌝ }
 {
     match line_length(first) {
-        Whole::Known(n) => {
+        HowLong::Known(n) => {
             *length = n;
             0
         },
-        Whole::NotYet => 1,
-        Whole::NoLine => 256 + 18,
+        HowLong::NotYet => 1,
+        HowLong::NoLine => 256 + 18,
     }
 }
 

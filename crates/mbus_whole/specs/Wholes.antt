@@ -8,8 +8,8 @@ use lib.ListN.{length, take}
 use Rattle.mbus_rules.specs.Lists.{at, any}
 use Rattle.mbus_rules.specs.Characters.{over, odd, byteOf}
 use Rattle.mbus_rules.specs.Lines.{isAck, isShort, isLong, wrongStart}
-use Rattle.mbus_whole.specs.declared.Whole.{Whole}
-use Rattle.mbus_whole.specs.declared.Whole.the-variants.{Known, NotYet, NoLine}
+use Rattle.mbus_whole.specs.declared.HowLong.{HowLong}
+use Rattle.mbus_whole.specs.declared.HowLong.the-variants.{Known, NotYet, NoLine}
 
 -- 5: the count is 1 after E5, 5 after 10, second byte + 6 after 68.
 abbrev pub lineCount : List ℕ → ℕ
@@ -33,10 +33,10 @@ lacksCount b = isLong b && ltb (length b) 2
 
 -- How many characters the accepted line has that begins with these; not yet known; or no accepted line begins so. Of more characters
 -- than the line has, those behind its end change nothing.
-abbrev pub lengthBy : List ℕ → ℕ → Whole
+abbrev pub lengthBy : List ℕ → ℕ → HowLong
 lengthBy s n = cond (eqb n 0 || unsoundIn n s) NoLine (cond (lacksCount (map byteOf s)) NotYet (Known n))
 
-unfoldable pub lineLength : List ℕ → Whole
+unfoldable pub lineLength : List ℕ → HowLong
 lineLength s = cond (eqb (length s) 0) NotYet (lengthBy s (leftBy (map byteOf s)))
 
 -- A line and first characters agree: one of them is the beginning of the other.

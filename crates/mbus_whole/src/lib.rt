@@ -9,7 +9,7 @@ use mbus_characters::line::soundness_of;
 use mbus_rules::Outcome;
 
 // How many characters the accepted line has that begins so; not yet known; or no accepted line begins so.
-pub enum Whole {
+pub enum HowLong {
     Known(usize),
     NotYet,
     NoLine,
@@ -58,23 +58,23 @@ fn unsound_in(first: &[u16], count: usize) -> bool
 }
 
 // How many characters the accepted line has that begins with these. Those behind its end change nothing.
-pub fn line_length(first: &[u16]) -> Whole
+pub fn line_length(first: &[u16]) -> HowLong
     ensures { λ r. ⌜ r ≡ lineLength (now (first .entry)) ⌝ }
 {
     if first.len() == 0 {
-        return Whole::NotYet;
+        return HowLong::NotYet;
     }
     let count = left_by(first);
     if count == 0 {
-        return Whole::NoLine;
+        return HowLong::NoLine;
     }
     let unsound = unsound_in(first, count);
     if unsound {
-        return Whole::NoLine;
+        return HowLong::NoLine;
     }
     let start = low_at(first, 0);
     if (start == 0x68) & (first.len() < 2) {
-        return Whole::NotYet;
+        return HowLong::NotYet;
     }
-    Whole::Known(count)
+    HowLong::Known(count)
 }

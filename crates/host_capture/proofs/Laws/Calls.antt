@@ -6,7 +6,7 @@ use mathlib.Core.Path.{_≡_, refl, sym, ap, _∙_}
 use lib.Dec.{ltb}
 use lib.ListN.{length}
 use Rattle.mbus_rules.specs.Answers.{reads, refusal}
-use Rattle.mbus_whole.specs.declared.Whole.{Whole}
+use Rattle.mbus_whole.specs.declared.HowLong.{HowLong}
 use Rattle.mbus_after.specs.declared.FoundAfter.{FoundAfter}
 use Rattle.mbus_after.specs.declared.FoundAfter.the-variants as founds
 use Rattle.mbus_after.specs.After.{TimedSpot, timedAt, findAfter, afterShown}
@@ -21,7 +21,7 @@ use Rattle.host_capture.specs.Calls.{lengthNumber, lengthLeft, TellsLeng
 
 -- ---- the length
 
-pub tells : {w v x : Whole} (before : ℕ) → v ≡ w → v ≡ x → TellsLength w before (lengthLeft x before) (lengthNumber x)
+pub tells : {w v x : HowLong} (before : ℕ) → v ≡ w → v ≡ x → TellsLength w before (lengthLeft x before) (lengthNumber x)
 tells before e t = rw (← e, t) (record { answer = refl; left = refl })
 
 -- ---- the line after a time

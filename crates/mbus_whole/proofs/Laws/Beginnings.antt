@@ -14,8 +14,8 @@ use Rattle.mbus_rules.specs.Characters.{over, odd, byteOf}
 use Rattle.mbus_rules.specs.Lines.{isAck, isShort, isLong, wrongStart}
 use Rattle.mbus_rules.proofs.Laws.ListLaws.{map-take, at-bytes-end}
 use Rattle.mbus_rules.proofs.Laws.Tests.{by-test, neither}
-use Rattle.mbus_whole.specs.declared.Whole.{Whole}
-use Rattle.mbus_whole.specs.declared.Whole.the-variants.{Known, NotYet, NoLine}
+use Rattle.mbus_whole.specs.declared.HowLong.{HowLong}
+use Rattle.mbus_whole.specs.declared.HowLong.the-variants.{Known, NotYet, NoLine}
 use Rattle.mbus_whole.specs.Wholes.{lineCount, wrongLengthsIn, leftBy, unsoundIn, lacksCount, lineLength}
 
 -- where none of the first characters passes a test, none of fewer of them does

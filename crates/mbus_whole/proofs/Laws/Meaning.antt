@@ -17,8 +17,8 @@ use Rattle.mbus_rules.proofs.Laws.Codes.{Sound}
 use Rattle.mbus_rules.proofs.Laws.Frames.{Framed, Short, Long, form}
 use Rattle.mbus_rules.proofs.Laws.LineCode.{line-code}
 use Rattle.mbus_rules.proofs.Laws.Tests.{by-test, neither}
-use Rattle.mbus_whole.specs.declared.Whole.{Whole}
-use Rattle.mbus_whole.specs.declared.Whole.the-variants.{Known, NotYet, NoLine}
+use Rattle.mbus_whole.specs.declared.HowLong.{HowLong}
+use Rattle.mbus_whole.specs.declared.HowLong.the-variants.{Known, NotYet, NoLine}
 use Rattle.mbus_whole.specs.Wholes.{lineCount, wrongLengthsIn, leftBy, unsoundIn, lacksCount, lengthBy, lineLength, Agree}
 use Rattle.mbus_whole.proofs.Laws.Beginnings
 
@@ -197,7 +197,7 @@ module _ (f l : List ℕ) (agree : Agree f l) (a : Accepted l) where
   pub known-unless : lineLength f ≢ NotYet → lineLength f ≡ Known (length l)
   known-unless n = go (lineLength f) refl
     where
-      go : (x : Whole) → lineLength f ≡ x → lineLength f ≡ Known (length l)
+      go : (x : HowLong) → lineLength f ≡ x → lineLength f ≡ Known (length l)
       go (Known m) e = e ∙ ap Known (sym (only-length m e))
       go NotYet e = absurd (n e)
       go NoLine e = absurd (not-refused e)

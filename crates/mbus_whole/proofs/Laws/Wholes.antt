@@ -17,8 +17,8 @@ use Rattle.mbus_rules.specs.Telegrams.{outcomeShown}
 use Rattle.mbus_rules.specs.declared.Outcome.{Outcome}
 use Rattle.mbus_rules.specs.declared.Outcome.the-variants.{Accepted, Refused}
 use Rattle.mbus_characters.specs.Gathering.{sound}
-use Rattle.mbus_whole.specs.declared.Whole.{Whole}
-use Rattle.mbus_whole.specs.declared.Whole.the-variants.{Known, NotYet, NoLine}
+use Rattle.mbus_whole.specs.declared.HowLong.{HowLong}
+use Rattle.mbus_whole.specs.declared.HowLong.the-variants.{Known, NotYet, NoLine}
 use Rattle.mbus_whole.specs.Wholes.{leftBy, unsoundIn, lacksCount, lineLength}
 
 -- ---- the characters that are there
