@@ -3,6 +3,7 @@
  * (host/cases.c). With arguments it knows only the capabilities that they name.
  */
 #include "bundles.h"
+#include "captures.h"
 #include "histories.h"
 #include "lines.h"
 #include "resistances.h"
@@ -23,6 +24,7 @@ static const struct {
     {"resistance", answer_resistance}, {"temperature", answer_temperature},
     {"either", answer_either},
     {"unmark", answer_unmark},
+    {"length", answer_length}, {"after", answer_after},
     {"replay", answer_replay},
     {"sweep", answer_sweep},
 };

@@ -22,6 +22,8 @@ static const struct {
     [FIND_LINE] = {"skarrowith_find_line", "0", "18 21"},
     [FIND_EITHER] = {"skarrowith_find_either", "1 2", "18 21"},
     [UNMARK] = {"skarrowith_unmark", "0", ""},
+    [LINE_LENGTH] = {"skarrowith_line_length", "0 1", "18"},
+    [FIND_LINE_AFTER] = {"skarrowith_find_line_after", "0", "18 21"},
     [READ_LINE] = {"skarrowith_read_line", "1 2 3 4 5", "1 2 3 4 5 6 7 8 9 10 11 12 13 14 16 21"},
     [WRITE_LINE] = {"skarrowith_write_line", "1 5 10 63", "20 21 101"},
     [WRITE_REQUEST] = {"skarrowith_write_request", "5 10", "20 21"},

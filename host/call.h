@@ -11,6 +11,8 @@ enum function {
     FIND_LINE,
     FIND_EITHER,
     UNMARK,
+    LINE_LENGTH,
+    FIND_LINE_AFTER,
     READ_LINE,
     WRITE_LINE,
     WRITE_REQUEST,

@@ -29,6 +29,8 @@ static size_t count, places = 4096, told, made;
 static uint32_t number;
 static int64_t tenths;
 static struct skarrowith_found found;
+static struct skarrowith_found_after found_after;
+static uint64_t times[MOST]; /* when the characters began: each 11 after the one before it */
 static struct skarrowith_telegram telegram;
 static struct skarrowith_exchange waiting, exchange;
 static struct skarrowith_meter set_up, meter;
@@ -46,6 +48,17 @@ static uint32_t find(void) { return skarrowith_find_line(characters, count, &fou
 /* The line is in the M-Bus capture, beside a long optical one; or in the optical one, and as many characters of M-Bus have none. */
 static uint32_t find_on_mbus(void) { return skarrowith_find_either(characters, count, other, places, &found, sizeof found); }
 static uint32_t find_on_optical(void) { return skarrowith_find_either(other, count, characters, count, &found, sizeof found); }
+
+static uint32_t line_length(void) { return skarrowith_line_length(characters, 3, &told); }
+static uint32_t line_length_of_all(void) { return skarrowith_line_length(characters, count, &told); }
+
+/* All of it began in time, or none of it. */
+static uint32_t find_after(void) { return skarrowith_find_line_after(characters, count, times, count, 0, &found_after, sizeof found_after); }
+
+static uint32_t find_too_early(void)
+{
+    return skarrowith_find_line_after(characters, count, times, count, UINT64_MAX, &found_after, sizeof found_after);
+}
 
 /* 256 bytes that came with right parity. */
 static uint32_t unmark(void) { return skarrowith_unmark(bytes, count, characters, MOST, &told, &made); }
@@ -222,10 +235,51 @@ static void put_noise(void)
     }
 }
 
+/* The times of a capture without pauses. */
+static void put_times(void)
+{
+    for (size_t i = 0; i < count; i++)
+        times[i] = 1000 + 11 * i;
+}
+
+static void put_timed_data(void)
+{
+    put_data();
+    put_times();
+}
+
+static void put_timed_noise(void)
+{
+    put_noise();
+    put_times();
+}
+
 static void put_starts(void)
 {
     for (count = 0; count < places; count++)
         characters[count] = 0x168;
+}
+
+static void put_timed_starts(void)
+{
+    put_starts();
+    put_times();
+}
+
+static void put_acks(void)
+{
+    for (count = 0; count < places; count++)
+        characters[count] = 0x1E5;
+    put_times();
+}
+
+/* Noise that began in time before each ack, and acks that all began too early: a place found and passed over in every two. */
+static void put_falling(void)
+{
+    for (count = 0; count < places; count++) {
+        characters[count] = count % 2 == 0 ? 0 : 0x1E5;
+        times[count] = count % 2 == 0 ? UINT64_MAX : 0;
+    }
 }
 
 /* 512 rows so far apart: a read request and 000's data line in turn, at one position or at all of them. */
@@ -323,6 +377,13 @@ static const struct {
     {"unmark", put_unmarked, unmark, unmark_by_second},
     {"find-noise", put_noise, find, NULL},
     {"find-starts", put_starts, find, NULL},
+    {"length-three", put_data, line_length, NULL},
+    {"length-all", put_data, line_length_of_all, NULL},
+    {"after-data", put_timed_data, find_after, NULL},
+    {"find-after-noise", put_timed_noise, find_after, NULL},
+    {"find-after-starts", put_timed_starts, find_after, NULL},
+    {"find-early", put_acks, find_too_early, NULL},
+    {"find-falling", put_falling, find_too_early, NULL},
     {"resistance", put_ack, resistance, resistance_by_second},
     {"temperature", put_ack, temperature, NULL},
     {"check-bundle", put_bundle, check_bundle, NULL},

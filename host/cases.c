@@ -5,6 +5,7 @@
 #include "skarrowith.h"
 
 #include "../second/bundle.h"
+#include "../second/capture.h"
 #include "../second/contents.h"
 #include "../second/exchange.h"
 #include "../second/indication.h"
@@ -138,6 +139,21 @@ size_t second_unmark(const uint8_t *bytes, size_t n, uint16_t *characters, size_
     size_t made = 0;
     skarrowith_unmark(bytes, n, characters, places, used, &made);
     return made;
+}
+
+int second_line_length(const uint16_t *first, size_t n, size_t *length)
+{
+    uint32_t answer = skarrowith_line_length(first, n, length);
+    return answer == SKARROWITH_NOT_YET ? SECOND_NOT_YET : refusal_in(answer);
+}
+
+int second_find_after(const uint16_t *capture, size_t n, const uint64_t *times, size_t times_n, uint64_t t,
+                      struct second_timed *found)
+{
+    struct skarrowith_found_after r = {0, 0, 0};
+    uint32_t answer = skarrowith_find_line_after(capture, n, times, times_n, t, &r, sizeof r);
+    *found = (struct second_timed){(size_t)r.place, (size_t)r.length, r.time};
+    return refusal_in(answer);
 }
 
 int second_wake(uint64_t count, uint16_t *out, size_t places)

@@ -8,6 +8,7 @@
  */
 #include "call.h"
 #include "compare_bundle.h"
+#include "compare_capture.h"
 #include "compare_exchange.h"
 #include "compare_line.h"
 #include "compare_meter.h"
@@ -38,7 +39,7 @@ static const struct {
 } parts[] = {
     {compare_check_line, 240}, {compare_read, 50},      {compare_write, 50},  {compare_request, 10},
     {compare_find, 5},         {compare_words, 10},     {compare_wake, 10},   {compare_gap, 10},
-    {compare_either, 5},       {compare_unmark, 20},
+    {compare_either, 5},       {compare_unmark, 20},       {compare_length, 10},    {compare_after, 5},
     {compare_error, 20},       {compare_exchange, 20},  {compare_meter, 12},  {compare_bundle, 15},
     {compare_resistance, 10},  {compare_temperature, 10}, {compare_replay, 20},
 };

@@ -107,6 +107,72 @@ static void expect_both_interfaces(void)
     expect_either("no place", SKARROWITH_REFUSED + 21, noise, 3, at_once, 1, 0, 99, 99);
 }
 
+static void expect_length(const char *name, uint32_t answer, const uint16_t *first, size_t count, size_t length)
+{
+    size_t told = 99;
+    uint32_t got = skarrowith_line_length(first, count, &told);
+    if (got != answer || told != length) {
+        printf("test: %s, %zu characters: %lu, and not %lu, with %zu\n", name, count, (unsigned long)got, (unsigned long)answer, told);
+        wrong = 1;
+    } else {
+        right++;
+    }
+}
+
+/* 000's data line comes in, and another line behind it. */
+static void expect_coming_in(void)
+{
+    static uint16_t line[SECOND_EXAMPLE + 3];
+    static const uint16_t odd[] = {0x0E5};
+    second_example_line(line);
+    line[SECOND_EXAMPLE] = 0x1E5;
+    line[SECOND_EXAMPLE + 1] = 0x0E5;
+    line[SECOND_EXAMPLE + 2] = 0xFFFF;
+    expect_length("nothing", SKARROWITH_NOT_YET, NULL, 0, 99);
+    expect_length("odd parity", SKARROWITH_REFUSED + 18, odd, 1, 99);
+    expect_length("the first of data", SKARROWITH_NOT_YET, line, 1, 99);
+    for (size_t count = 2; count <= SECOND_EXAMPLE + 3; count++)
+        expect_length("data", 0, line, count, SECOND_EXAMPLE);
+    for (size_t i = 0; i < SECOND_EXAMPLE; i++) {
+        line[i] ^= 256;
+        expect_length("data with an odd parity", SKARROWITH_REFUSED + 18, line, SECOND_EXAMPLE, 99);
+        line[i] ^= 256;
+    }
+}
+
+static void expect_after(const char *name, uint32_t answer, const uint64_t *times, size_t times_count, uint64_t t, size_t size,
+                         struct skarrowith_found_after where)
+{
+    static const uint16_t capture[] = {0x1E5, 0x0FF, 0x1E5, 0x1E5};
+    struct skarrowith_found_after found = {99, 99, 99};
+    uint32_t got = skarrowith_find_line_after(capture, 4, times, times_count, t, size == 0 ? NULL : &found, size);
+    if (got != answer || found.place != where.place || found.length != where.length || found.time != where.time) {
+        printf("test: %s: %lu, and not %lu, at %lu\n", name, (unsigned long)got, (unsigned long)answer, (unsigned long)found.place);
+        wrong = 1;
+    } else {
+        right++;
+    }
+}
+
+/* An ack that was left in a buffer, noise, and two acks. */
+static void expect_after_a_time(void)
+{
+    static const uint64_t times[] = {900, 1000, 1011, 1022, 1033}, falling[] = {900, 1000, 999, 1000};
+    const struct skarrowith_found_after none = {99, 99, 99};
+    const size_t whole = sizeof none;
+    expect_after("from 0 on", 0, times, 4, 0, whole, (struct skarrowith_found_after){0, 1, 900});
+    expect_after("from the send's end on", 0, times, 4, 1000, whole, (struct skarrowith_found_after){2, 1, 1011});
+    expect_after("from its beginning on", 0, times, 4, 1011, whole, (struct skarrowith_found_after){2, 1, 1011});
+    expect_after("from one later on", 0, times, 4, 1012, whole, (struct skarrowith_found_after){3, 1, 1022});
+    expect_after("too late for all", SKARROWITH_REFUSED + 18, times, 5, 1023, whole, none);
+    expect_after("a time that falls", 0, falling, 4, 1000, whole, (struct skarrowith_found_after){3, 1, 1000});
+    expect_after("two times", SKARROWITH_REFUSED + 18, times, 2, 1000, whole, none);
+    expect_after("no times", SKARROWITH_REFUSED + 18, NULL, 0, 0, whole, none);
+    expect_after("no times, and no place for it", SKARROWITH_REFUSED + 18, NULL, 0, 0, 0, none);
+    expect_after("23 bytes", SKARROWITH_REFUSED + 21, times, 4, 1000, whole - 1, none);
+    expect_after("no place", SKARROWITH_REFUSED + 21, times, 4, 0, 0, none);
+}
+
 /* 2 and 3 at every place of lines of every count up to 300: a late odd parity comes before an early wrong first byte, and a late
  * character over 511 before an early odd parity. */
 static void expect_one_pass(void)
@@ -266,6 +332,8 @@ int main(void)
     expect_both_interfaces();
     expect_signs();
     expect_unmarking();
+    expect_coming_in();
+    expect_after_a_time();
     expect_one_pass();
     expect_words(1, 260, 17, "the line is empty");
     expect_words(8, 14, 14, "checksum wrong");

@@ -18,8 +18,9 @@
  *
  * Lent memory is a pointer and the number of its places; with 0 of them the pointer may be null. Output that is too short
  * for what is to be written is refused by 21; a longer one is changed in its first places alone. A count that is answered
- * beside (rows, i, filled, written, milliohm, hundredths, used, made) is written through a pointer to it, which may not be null. Memory for
- * uint16_t, uint32_t, int64_t and size_t is aligned as C aligns these types; bytes and records may stand at any address.
+ * beside (rows, i, filled, written, milliohm, hundredths, length, used, made)  is written through a pointer to it, which may not be null.
+ * Memory for uint16_t, uint32_t, uint64_t, int64_t and size_t is aligned as C aligns these types; bytes and records may stand
+ * at any address.
  *
  * Stack, as measured. skarrowith_bundle_list takes 28,000 bytes, skarrowith_replay_error 5,800, the simulated meter up to
  * 4,300, every other function fewer than 1,600.
@@ -148,6 +149,32 @@ struct skarrowith_found {
  * where none begins, or 21.
  */
 uint32_t skarrowith_find_line(const uint16_t *capture, size_t count, struct skarrowith_found *found, size_t size);
+
+/* The length of a line that comes in is not yet known: the second character says it. */
+#define SKARROWITH_NOT_YET 1u
+
+/*
+ * How many characters the accepted line has that begins with these, so that a host reads no character too many and waits
+ * for none. length is not null. Answers 0 and the length, which stays the same when more characters come, those behind the
+ * line's end too; SKARROWITH_NOT_YET, before the first character and after a first 68; or refuses by 18 where no accepted
+ * line begins so. A length that is told is the only one that an accepted line can have here; whether the line is accepted
+ * is for reading to say, once it is there.
+ */
+uint32_t skarrowith_line_length(const uint16_t *first, size_t count, size_t *length);
+
+/* Where a line was found, and when its first character began: 24 bytes. */
+struct skarrowith_found_after {
+    uint64_t place, length, time;
+};
+
+/*
+ * The same as skarrowith_find_line among the lines whose first character began at t or later: times[i] is when capture[i]
+ * began. With the end of the last send as t, what was left in a buffer and noise are passed over, and the first line is
+ * found that this send may count. A character without a time begins no line; times beyond the capture are not looked at;
+ * times may fall. Answers 0, or refuses by 18 where none begins, or 21.
+ */
+uint32_t skarrowith_find_line_after(const uint16_t *capture, size_t count, const uint64_t *times, size_t times_count,
+                                    uint64_t t, struct skarrowith_found_after *found, size_t size);
 
 /* The interfaces of a position: which capture has the line. */
 #define SKARROWITH_MBUS 1u

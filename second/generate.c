@@ -4,6 +4,7 @@
  */
 #include "chance.h"
 #include "make_bundle.h"
+#include "make_capture.h"
 #include "make_line.h"
 #include "make_replay.h"
 #include "make_serial.h"
@@ -92,6 +93,25 @@ static void generate_write(void)
         entries = (size_t)t.count;
     printf("write +%zu", places);
     print_telegram(&t, entries);
+}
+
+static void generate_length(void)
+{
+    struct line l = {{0}, 0};
+    some_first(&l);
+    printf("length");
+    print_characters(&l);
+}
+
+static void generate_after(void)
+{
+    static struct timed_capture made;
+    some_timed_capture(&made);
+    printf("after +%" PRIu64 " times", made.t);
+    for (size_t i = 0; i < made.times_n; i++)
+        printf(" +%" PRIu64, made.times[i]);
+    printf(" capture");
+    print_characters(&made.characters);
 }
 
 static void generate_wake(void)
@@ -357,6 +377,7 @@ int main(int argc, char **argv)
         {"resistance", generate_resistance}, {"temperature", generate_temperature},
         {"either", generate_either},
         {"unmark", generate_unmark},
+        {"length", generate_length}, {"after", generate_after},
         {"replay", generate_replay},
         {"sweep", generate_sweep},
     };

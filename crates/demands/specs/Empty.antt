@@ -22,7 +22,7 @@ use Rattle.mbus_rules.specs.Answers.{Answer, reads, refusal}
 use Rattle.mbus_rules.specs.Telegrams.{ack, readOf, enterOf, blank}
 use Rattle.mbus_rules.specs.TelegramSizes.{Sized}
 use Rattle.mbus_rules.specs.Host.{lineNumber}
-use Rattle.mbus_rules.specs.Lines.{readBody, readLine}
+use Rattle.mbus_rules.specs.Lines.{readBody, readLine, Accepted}
 use Rattle.mbus_rules.specs.Views.{viewed}
 use Rattle.mbus_rules.specs.Writing.{lineOf, unwritable, writeLine}
 use Rattle.mbus_rules.specs.Flips.{Place, Places, flips, repeated}
@@ -30,6 +30,10 @@ use Rattle.mbus_rules.proofs.Laws.LineLaws.{bare-sized}
 use Rattle.bytes_lent.specs.Lent.{stored, told}
 use Rattle.bytes_lent.specs.Pieces.{pieces}
 use Rattle.mbus_search.specs.Searching.{accepts, Begins, Spot, findIn}
+use Rattle.mbus_after.specs.After.{BeginsAfter, TimedSpot, findAfter}
+use Rattle.mbus_whole.specs.declared.HowLong.{HowLong}
+use Rattle.mbus_whole.specs.declared.HowLong.the-variants.{Known, NotYet, NoLine}
+use Rattle.mbus_whole.specs.Wholes.{lineLength, Agree}
 use Rattle.mbus_either.specs.declared.Interface.the-variants.{Mbus, Optical}
 use Rattle.mbus_either.specs.Interfaces.{LiveLine, liveOn, findEither}
 use Rattle.host_either.specs.Finding.{lineInterface}
@@ -53,6 +57,8 @@ use Rattle.demands.specs.Writer as writer
 use Rattle.demands.specs.Search as search
 use Rattle.demands.specs.Interfaces as interfaces
 use Rattle.demands.specs.Serial as serial
+use Rattle.demands.specs.After as after
+use Rattle.demands.specs.Whole as whole
 use Rattle.demands.specs.Exchange as exchange
 use Rattle.demands.specs.Meter as meter
 
@@ -146,6 +152,41 @@ optical-comes-first find first d =
     let o = first (0x1E5 ∷ []) (0x1E5 ∷ []) 0 1 begins in
     let m = d (0x1E5 ∷ []) (0x1E5 ∷ []) 0 1 begins in
     omega (arith, ap (told lineInterface) (sym (o .1) ∙ m .1))
+
+-- and one after a time
+abbrev pub FindsSince : (ℕ → List ℕ → List ℕ → Answer TimedSpot) → Type 0
+FindsSince find =
+    (t : ℕ) (s times : List ℕ) (place n : ℕ) → BeginsAfter t s times place n
+    → (p : TimedSpot) × (find t s times ≡ reads p) × (p .spot .place ≤ place)
+
+pub rules-find-after : FindsSince findAfter
+rules-find-after = after.line-is-found
+
+-- one that finds nothing from any time on
+pub finds-nothing-after : (number : ℕ → List ℕ → List ℕ → ℕ) → FindsSince (λ t s times. refusal (number t s times)) → ⊥
+finds-nothing-after number d =
+    let r = d 0 (0x1E5 ∷ []) (0 ∷ []) 0 1 (record { begins = (lit≤ tt, ap accepts ack-read); timed = lit< tt; since = lit≤ tt }) in
+    omega (arith, ap (told (λ (p : TimedSpot). 0)) (r .1))
+
+-- ---- the length of a line, by its first characters
+
+abbrev pub KnowsLines : (List ℕ → HowLong) → Type 0
+KnowsLines program =
+    (first line : List ℕ) → Accepted line → Agree first line → 2 ≤ length first → program first ≡ Known (length line)
+
+pub rules-know : KnowsLines lineLength
+rules-know = whole.line-is-known
+
+-- 1 where a length is told
+abbrev tells : HowLong → ℕ
+tells (Known n) = 1
+tells NotYet = 0
+tells NoLine = 0
+
+-- one that never tells a length, and says NotYet or NoLine as it likes
+pub length-never-known : (program : List ℕ → HowLong) → ((first : List ℕ) → tells (program first) ≡ 0) → KnowsLines program → ⊥
+length-never-known program mute d =
+    let r = d (0x1E5 ∷ 0 ∷ []) (0x1E5 ∷ []) (ack, ack-read) refl (lit≤ tt) in omega (arith, mute (0x1E5 ∷ 0 ∷ []), ap tells r)
 
 -- ---- characters from a serial port: what is made of bytes in so many places
 

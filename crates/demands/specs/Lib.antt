@@ -4,6 +4,8 @@ pub mod Writer
 pub mod Search
 pub mod Interfaces
 pub mod Serial
+pub mod After
+pub mod Whole
 pub mod Exchange
 pub mod Meter
 pub mod Bundle

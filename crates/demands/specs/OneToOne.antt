@@ -22,6 +22,8 @@ use Rattle.bench_indication.specs.Errors.{shownIndication}
 use Rattle.bench_indication.proofs.Laws.Errors as errors
 use Rattle.mbus_search.specs.Searching.{foundShown}
 use Rattle.mbus_search.proofs.Laws.Meaning as searches
+use Rattle.mbus_after.specs.After.{afterShown}
+use Rattle.mbus_after.proofs.Laws.Meaning as afters
 use Rattle.mbus_either.specs.Interfaces.{eitherShown}
 use Rattle.mbus_either.proofs.Laws.Lines as eithers
 use Rattle.exchange_steps.specs.Steps as exchanges
@@ -82,9 +84,12 @@ written-apart (refusal m) (reads n) e = cc
 written-apart (reads m) (refusal n) e = cc
 written-apart (reads m) (reads n) e = cc
 
--- search in one capture and in two, gap, wake-up, error
+-- search in one capture, after a time and in two, gap, wake-up, error
 pub found-apart : Apart foundShown
 found-apart = searches.found-same
+
+pub after-apart : Apart afterShown
+after-apart = afters.after-same
 
 pub either-apart : Apart eitherShown
 either-apart = eithers.either-same

@@ -10,7 +10,7 @@ use lib.ListN.{length, take, drop}
 use borrow.Author.Tests.{eqb-true}
 use Rattle.bytes_numbers.specs.Numbers.{number}
 use Rattle.bytes_lent.specs.Same.{same}
-use Rattle.bytes_lent.specs.Lent.{needs, placed}
+use Rattle.bytes_lent.specs.Lent.{told, needs, placed}
 use Rattle.mbus_telegrams.specs.Kinds.{kindIn}
 use Rattle.bench_clock.specs.declared.Clock.{Clock}
 use Rattle.bench_clock.specs.Times.{earlier, gapLeast, gapMost}
@@ -35,6 +35,9 @@ use Rattle.mbus_rules.specs.Writing.{lineOf, unwritable, writeLine}
 use Rattle.bench_indication.specs.Errors.{indicationOf}
 use Rattle.bench_indication.specs.Errors as errors
 use Rattle.mbus_search.specs.Searching.{Spot, lengthHere, further, orElse, findIn}
+use Rattle.mbus_after.specs.After.{TimedSpot, movedTimed, orLater, findAfter}
+use Rattle.mbus_whole.specs.declared.HowLong.{HowLong}
+use Rattle.mbus_whole.specs.declared.HowLong.the-variants.{Known, NotYet, NoLine}
 use Rattle.mbus_either.specs.Interfaces.{liveOn, orOptical, findEither}
 use Rattle.mbus_either.specs.declared.Interface.the-variants.{Optical}
 use Rattle.exchange_steps.specs.declared.Exchange.{Exchange}
@@ -74,6 +77,7 @@ use Rattle.meter_record.specs.MeterRecords.{meterSize, meterBytes, meterIn, unr
 use Rattle.host_lines.specs.Calls.{readFor, writeFor, requestFor}
 use Rattle.host_search.specs.Finding.{findFor}
 use Rattle.host_either.specs.Finding.{eitherFor}
+use Rattle.host_capture.specs.Calls.{lengthNumber, afterFor}
 use Rattle.host_bench.specs.Calls.{errorFor}
 use Rattle.host_replay.specs.Calls.{replayFor}
 use Rattle.host_exchange.specs.Calls as exchanges
@@ -227,6 +231,29 @@ searching-by (c ∷ s) = go (lengthHere (c ∷ s)) (findIn s) (searching-by s)
     go (reads n) b h = tt
     go (refusal n) (refusal m) h = h
     go (refusal n) (reads p) h = tt
+
+pub after-by : (t : ℕ) (s times : List ℕ) → By (18 ∷ []) (findAfter t s times)
+unfolding By findAfter any
+after-by t [] times = refl
+after-by t (c ∷ s) [] = refl
+after-by t (c ∷ s) (time ∷ times) = go (cond (leb t time) (lengthHere (c ∷ s)) (refusal 18)) (findAfter t s times) (after-by t s times)
+  where
+    go : (a : Answer ℕ) (b : Answer TimedSpot) → By (18 ∷ []) b → By (18 ∷ []) (orLater a time (movedTimed 1 b))
+    go (reads n) b h = tt
+    go (refusal n) (refusal m) h = h
+    go (refusal n) (reads p) h = tt
+
+-- The length of a line, for C: 0, 1 or 18.
+abbrev lengthAnswer : HowLong → Answer ℕ
+lengthAnswer (Known n) = reads 0
+lengthAnswer NotYet = reads 1
+lengthAnswer NoLine = refusal 18
+
+pub length-by : (w : HowLong) → (lengthNumber w ≡ told (λ (n : ℕ). n) (lengthAnswer w)) × By (18 ∷ []) (lengthAnswer w)
+unfolding By any
+length-by (Known n) = (refl, tt)
+length-by NotYet = (refl, tt)
+length-by NoLine = (refl, refl)
 
 pub either-by : (mbus optical : List ℕ) → By (18 ∷ []) (findEither mbus optical)
 either-by mbus optical = go (findIn mbus)
@@ -503,6 +530,10 @@ module _ (b out : List ℕ) where
   pub find-for-by : By (18 ∷ 21 ∷ []) (findFor b out)
   unfolding any
   find-for-by = placed-by _ 16 out (findIn b) refl (more (18 ∷ []) _ _ refl (searching-by b))
+
+  pub after-for-by : (t : ℕ) (times : List ℕ) → By (18 ∷ 21 ∷ []) (afterFor t b times out)
+  unfolding any
+  after-for-by t times = placed-by _ 24 out (findAfter t b times) refl (more (18 ∷ []) _ _ refl (after-by t b times))
 
   pub kept-into-by : (i : ℕ) → By (21 ∷ 101 ∷ 39 ∷ []) (keptInto b i out)
   unfolding any

@@ -34,6 +34,8 @@ use Rattle.exchange_steps.specs.declared.Exchange.{Exchange}
 use Rattle.host_exchange.specs.Calls as exchanges
 use Rattle.meter_steps.specs.Meters.{Deed}
 use Rattle.host_meter.specs.Calls as meters
+use Rattle.mbus_whole.specs.declared.HowLong.{HowLong}
+use Rattle.host_capture.specs.Calls.{TellsLength}
 use Rattle.host_bundle.specs.Lent.{Gives}
 use Rattle.host_bundle.specs.Bundled.{AddsIn, ListsIn}
 use Rattle.host_bundle.specs.Salvaging.{SalvagesIn}
@@ -104,6 +106,10 @@ meter-heard-settled a t before out x y p q i =
 -- a number in its place, and the buffer or the places beside it
 pub gives-settled : (a : Answer ℕ) (before : ℕ) → Settled (λ (x : ℕ × ℕ). Gives a before (x .0) (x .1))
 gives-settled a before x y p q = two-equations _ _ x y (p .number, p .place) (q .number, q .place)
+
+-- the length of a line, by its first characters
+pub length-settled : (w : HowLong) (before : ℕ) → Settled (λ (x : ℕ × ℕ). TellsLength w before (x .1) (x .0))
+length-settled w before x y p q = two-equations _ _ x y (p .answer, p .left) (q .answer, q .left)
 
 pub add-settled : (buffer : List ℕ) (filled : ℕ) (k : Recorded)
     → Settled (λ (x : (ℕ × ℕ) × List ℕ). AddsIn buffer filled k (x .0 .0) (x .1) (x .0 .1))

@@ -41,6 +41,9 @@ use Rattle.exchange_steps.specs.declared.Exchange.{Exchange}
 use Rattle.host_exchange.specs.Calls as exchanges
 use Rattle.meter_steps.specs.Meters.{Deed}
 use Rattle.host_meter.specs.Calls as meters
+use Rattle.mbus_whole.specs.declared.HowLong.{HowLong}
+use Rattle.mbus_whole.specs.declared.HowLong.the-variants.{NotYet, NoLine}
+use Rattle.host_capture.specs.Calls.{lengthNumber, lengthLeft, TellsLength}
 use Rattle.host_bundle.specs.Lent.{Gives, leftIn}
 use Rattle.host_bundle.specs.Bundled.{AddsIn, ListsIn}
 use Rattle.host_bundle.specs.Salvaging.{salvageFor, SalvagesIn}
@@ -155,3 +158,11 @@ module _ (n : ℕ) where
     number = p .answer ∙ ap numberOf e;
     same = by-answer (saying.held out) out (λ m. refl) (follow said (fitted out)) n after e (p .holds);
   }
+
+-- ---- the length of a line, by its first characters: also where it is not yet known
+
+pub length-untouched : (w : HowLong) (before after r : ℕ) → w ≡ NoLine → TellsLength w before after r → Untouched 18 r before after
+length-untouched w before after r e p = record { number = p .answer ∙ ap lengthNumber e; same = p .left ∙ ap (λ (x : HowLong). lengthLeft x before) e }
+
+pub length-not-yet : (w : HowLong) (before after r : ℕ) → w ≡ NotYet → TellsLength w before after r → (r ≡ 1) × (after ≡ before)
+length-not-yet w before after r e p = (p .answer ∙ ap lengthNumber e, p .left ∙ ap (λ (x : HowLong). lengthLeft x before) e)

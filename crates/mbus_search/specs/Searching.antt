@@ -51,6 +51,11 @@ unfoldable pub findIn : List ℕ → Answer Spot
 findIn [] = refusal 18
 findIn (c ∷ s) = orElse (lengthHere (c ∷ s)) (further (findIn s))
 
+-- the spot as seen from so many places before
+abbrev pub movedBy : ℕ → Answer Spot → Answer Spot
+movedBy k (refusal n) = refusal n
+movedBy k (reads p) = reads (record { place = k + p .place; length = p .length })
+
 -- The program's answer: the place and the length, or the number.
 abbrev pub foundShown : Answer Spot → Found
 foundShown (refusal n) = Refused n

@@ -29,20 +29,29 @@ spot-copied out p n l = l ∙ ap (copied out 0) (spot-record p n)
 spot-length : (p : Spot) → length (spotBytes p) ≡ 16
 spot-length p = ap length (sym (spot-record (p .place) (p .length))) ∙ record-length [] (p .place ∷ p .length ∷ []) []
 
--- place and length of an answer, where they were put into 16 bytes or there were fewer
+-- what is written of an answer, where it was put into so many bytes or there were fewer
+module _ {A : Type 0} (number : A → ℕ) (written : A → List ℕ) (size : ℕ) (out : List ℕ) (x : A) (sized : length (written x) ≡ size)
+    {short : Bool} {after : List ℕ} (s : short ≡ ltb (length out) size) (l : after ≡ copied out 0 (written x)) where
+  pub record-short : short ≡ true → Leaves number written (placed size out (reads x)) out after (256 + 21)
+  record-short t =
+      let few : ltb (length out) size ≡ true = sym s ∙ t in
+      let kept : after ≡ out = l ∙ none-copied out (written x) (rw sized few) in
+      rw (kept, few) (leaves-all written out number refl)
+
+  pub record-kept : short ≡ false → {r : ℕ} → r ≡ number x → Leaves number written (placed size out (reads x)) out after r
+  record-kept t n =
+      let many : ltb (length out) size ≡ false = sym s ∙ t in
+      let room : length (written x) ≤ length out = omega (arith, sized, ltb-false (length out) size many) in
+      rw many (leaves-copied written out number refl refl room l n)
+
+-- place and length of an answer
 module _ {A : Type 0} (number : A → ℕ) (spot : A → Spot) (out : List ℕ) (x : A) {short : Bool} {after : List ℕ} (s : short ≡ ltb (length out) 16)
     (l : after ≡ copied out 0 (spotBytes (spot x))) where
   pub spot-short : short ≡ true → Leaves number (λ y. spotBytes (spot y)) (placed 16 out (reads x)) out after (256 + 21)
-  spot-short t =
-      let few : ltb (length out) 16 ≡ true = sym s ∙ t in
-      let kept : after ≡ out = l ∙ none-copied out (spotBytes (spot x)) (rw (spot-length (spot x)) few) in
-      rw (kept, few) (leaves-all (λ y. spotBytes (spot y)) out number refl)
+  spot-short t = record-short number (λ y. spotBytes (spot y)) 16 out x (spot-length (spot x)) s l t
 
   pub spot-kept : short ≡ false → {r : ℕ} → r ≡ number x → Leaves number (λ y. spotBytes (spot y)) (placed 16 out (reads x)) out after r
-  spot-kept t n =
-      let many : ltb (length out) 16 ≡ false = sym s ∙ t in
-      let room : length (spotBytes (spot x)) ≤ length out = omega (arith, spot-length (spot x), ltb-false (length out) 16 many) in
-      rw many (leaves-copied (λ y. spotBytes (spot y)) out number refl refl room l n)
+  spot-kept t n = record-kept number (λ y. spotBytes (spot y)) 16 out x (spot-length (spot x)) s l t n
 
 -- ---- one capture
 

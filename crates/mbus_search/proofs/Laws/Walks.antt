@@ -25,14 +25,9 @@ use Rattle.mbus_shape.proofs.Laws.WholeLaws.{frame-whole}
 use Rattle.mbus_reading.proofs.Laws.TakingLaws.{sound-line}
 use Rattle.mbus_search.specs.declared.Found.{Found}
 use Rattle.mbus_search.specs.declared.Found.the-variants.{At, Refused}
-use Rattle.mbus_search.specs.Searching.{accepts, lengthHere, Spot, further, orElse, findIn, foundShown}
+use Rattle.mbus_search.specs.Searching.{accepts, lengthHere, Spot, further, orElse, findIn, movedBy, foundShown}
 use Rattle.mbus_search.specs.Allowed.{allowedAt}
 use Rattle.mbus_search.proofs.Laws.SearchLaws.{here-hit, here-none}
-
--- the spot as seen from so many places before
-abbrev pub movedBy : ℕ → Answer Spot → Answer Spot
-movedBy k (refusal n) = refusal n
-movedBy k (reads p) = reads (record { place = k + p .place; length = p .length })
 
 moved-further : (k : ℕ) (a : Answer Spot) → movedBy k (further a) ≡ movedBy (k + 1) a
 moved-further k (refusal n) = refl

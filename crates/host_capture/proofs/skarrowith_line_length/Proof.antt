@@ -1,0 +1,43 @@
+-- `host_capture::skarrowith_line_length` meets its contract, by the three cases of the answer. Assumes nothing.
+use denote.Ref.{now}
+use borrow.Author.Needs.{needs}
+use Rattle.host_capture.proofs.Laws.Calls.{tells}
+use Rattle.host_capture.proofs.skarrowith_line_length.Statement.{statement}
+use Rattle.host_capture.proofs.skarrowith_line_length.Tie as tie
+
+line-length-requires : tie.Need-line-length-requires
+line-length-requires c κs = search needs
+
+enum-known-n : tie.Need-enum-known-n
+enum-known-n c = search needs
+
+enum-told : tie.Need-enum-told
+enum-told c = search needs
+
+enum-told-2 : tie.Need-enum-told-2
+enum-told-2 c = search needs
+
+add-result : tie.Need-add-result
+add-result c = search needs
+
+returns : tie.Need-returns
+returns c = tells (now (c .before .before .before .before .before .args .length)) (c .before .before .before .line-length .ensures) (c .before .n .given .1)
+
+returns-2 : tie.Need-returns-2
+returns-2 c = tells (now (c .before .before .before .before .args .length)) (c .before .before .line-length .ensures) (c .enum-told .given .1)
+
+returns-3 : tie.Need-returns-3
+returns-3 c = tells (now (c .before .before .before .before .args .length)) (c .before .before .line-length .ensures) (c .enum-told2 .given .1)
+
+pub skarrowith-line-length-spec : {M : Type 1} → statement M
+skarrowith-line-length-spec =
+    tie.close
+    (tie.spec
+    line-length-requires
+    enum-known-n
+    enum-told
+    enum-told-2
+    add-result
+    returns
+    returns-2
+    returns-3)
