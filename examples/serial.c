@@ -151,24 +151,6 @@ static int send_line(struct port *p, const uint16_t *line, size_t count, uint64_
 
 /* ---- the exchange */
 
-/*
- * How many characters the accepted line has that begins so: 0 and the length; 1, not yet known; or refused by 18, there is none.
- * Stands here for skarrowith_line_length until the header has it.
- */
-static uint32_t line_length(const uint16_t *first, size_t count, size_t *length)
-{
-    if (count == 0)
-        return 1;
-    if (first[0] == 0x1E5 || first[0] == 0x110) {
-        *length = first[0] == 0x1E5 ? 1 : 5;
-        return 0;
-    }
-    if (first[0] != 0x168)
-        return SKARROWITH_REFUSED + 18;
-    *length = count > 1 ? (first[1] & 0xFF) + 6u : 0;
-    return count > 1 ? 0 : 1;
-}
-
 /* Hears the first characters as a line. One that began before the send had ended does not count and is passed over. */
 static uint32_t hear(struct port *p, size_t count, struct skarrowith_exchange *x, struct skarrowith_telegram *reply)
 {
@@ -194,7 +176,7 @@ static uint32_t await_line(struct port *p, struct skarrowith_exchange *x, struct
     uint32_t state = SKARROWITH_WAITING;
     while (state == SKARROWITH_WAITING) {
         size_t length = 0;
-        int is_known = line_length(p->line, p->count, &length) == 0;
+        int is_known = skarrowith_line_length(p->line, p->count, &length) == 0;
         uint64_t until = wait_until(p, length, x);
         if (is_known && length <= p->count)
             state = hear(p, length, x, reply);
