@@ -24,3 +24,4 @@ pub mod Replay
 pub mod Values
 pub mod Weekdays
 pub mod Signs
+pub mod Binary
