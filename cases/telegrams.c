@@ -18,8 +18,11 @@ static int take_entry(struct second_entry *e)
     e->unit = (unsigned)unit;
     if (take_name("number"))
         return take_signed(&e->count);
-    e->is_time = take_name("time");
-    if (!e->is_time)
+    e->sort = SECOND_BINARY;
+    if (take_name("binary"))
+        return take_signed(&e->count);
+    e->sort = SECOND_TIME;
+    if (!take_name("time"))
         return 0;
     for (int i = 0; i < SECOND_PARTS; i++) {
         if (!take(&part, 0xFF))
@@ -74,8 +77,8 @@ int refused(int refusal)
 static void say_entry(const struct second_entry *e)
 {
     printf(" %02X %02X", e->structure, e->unit);
-    if (!e->is_time) {
-        printf(" number %+" PRId64, e->count);
+    if (e->sort != SECOND_TIME) {
+        printf(" %s %+" PRId64, e->sort == SECOND_BINARY ? "binary" : "number", e->count);
         return;
     }
     printf(" time");

@@ -180,6 +180,27 @@ static void put_request(void) { put(request, sizeof request); }
 static void put_enter(void) { put(enter, sizeof enter); }
 static void put_data(void) { put(second_example, sizeof second_example); }
 
+/* The longest line of a meter that answers in binary, 89 characters: 000's header, six values of eight bytes, and the time. */
+static void put_binary(void)
+{
+    static const uint8_t units[] = {0x0B, 0x11, 0x59, 0x5D, 0x2D, 0x3B};
+    static const uint8_t value[] = {0x07, 0, 0x78, 0x56, 0x34, 0x12, 0x45, 0x23, 0x71, 0x06};
+    enum { HEADER_END = 19, TIME_AT = 53, TIME = 8 };
+    uint8_t b[SKARROWITH_LINE_MOST];
+    size_t at = HEADER_END;
+    memcpy(b, second_example, at);
+    for (size_t i = 0; i < sizeof units; i++, at += sizeof value) {
+        memcpy(b + at, value, sizeof value);
+        b[at + 1] = units[i];
+    }
+    memcpy(b + at, second_example + TIME_AT, TIME);
+    at += TIME;
+    b[1] = b[2] = (uint8_t)(at - 4);
+    b[at] = (uint8_t)second_sum(b + 4, at - 4);
+    b[at + 1] = 0x16;
+    put(b, at + 2);
+}
+
 /* A read that waits for 000's data line, and a meter with that line as its template that is asked by a read. */
 static void put_waiting(void)
 {
@@ -365,6 +386,8 @@ static const struct {
     {"noise-500", put_noise_500, check, read_by_second},
     {"words", put_ack, words, NULL},
     {"read-data", put_data, read_line, read_by_second},
+    {"binary", put_binary, check, read_by_second},
+    {"read-binary", put_binary, read_line, read_by_second},
     {"hear-data", put_waiting, exchange_heard, NULL},
     {"resent", put_asking, exchange_resent, NULL},
     {"meter-read", put_meter, meter_heard, NULL},

@@ -35,8 +35,8 @@ static struct skarrowith_entry entry_record(const struct second_entry *e)
     memset(&r, 0, sizeof r);
     r.structure = (uint8_t)e->structure;
     r.unit = (uint8_t)e->unit;
-    r.sort = e->is_time ? SKARROWITH_TIME : SKARROWITH_DECIMAL;
-    if (!e->is_time) {
+    r.sort = e->sort == SECOND_TIME ? SKARROWITH_TIME : e->sort == SECOND_BINARY ? SKARROWITH_BINARY : SKARROWITH_DECIMAL;
+    if (e->sort != SECOND_TIME) {
         r.value.count = e->count;
         return r;
     }
@@ -72,10 +72,11 @@ static struct skarrowith_telegram telegram_record(const struct second_telegram *
 static struct second_entry entry_of(const struct skarrowith_entry *r)
 {
     const struct skarrowith_moment *m = &r->value.time;
+    enum second_sort sort = r->sort == SKARROWITH_BINARY ? SECOND_BINARY : SECOND_DECIMAL;
     if (r->sort != SKARROWITH_TIME)
-        return (struct second_entry){r->structure, r->unit, 0, r->value.count, {0}};
+        return (struct second_entry){r->structure, r->unit, sort, r->value.count, {0}};
     return (struct second_entry){
-        r->structure, r->unit, 1, 0, {m->year, m->month, m->day, m->hour, m->minute, m->second, m->weekday}};
+        r->structure, r->unit, SECOND_TIME, 0, {m->year, m->month, m->day, m->hour, m->minute, m->second, m->weekday}};
 }
 
 static struct second_telegram telegram_of(const struct skarrowith_telegram *r)

@@ -44,14 +44,14 @@ static int answer_untouched(void)
 /* The totals that a read shows: energy is the first of 000's entries and volume the second. */
 static void shows(const char *what, uint64_t t, uint64_t volume, uint64_t energy, uint8_t access)
 {
-    uint16_t line[77];
+    uint16_t line[SKARROWITH_LINE_MOST];
     struct skarrowith_telegram again;
     expect(what, hear(SKARROWITH_READ, FE, 0, t), SKARROWITH_DATA);
     expect(what, answer.entries[0].value.count, energy);
     expect(what, answer.entries[1].value.count, volume);
     expect(what, answer.access, access);
     expect(what, answer.address, OWN);
-    uint32_t count = skarrowith_write_line(&answer, sizeof answer, line, 77);
+    uint32_t count = skarrowith_write_line(&answer, sizeof answer, line, SKARROWITH_LINE_MOST);
     expect("its line has 63 characters", count, 63);
     expect("its line is accepted", skarrowith_read_line(line, count, &again, sizeof again), SKARROWITH_DATA);
     expect("its line reads as it", memcmp(&again, &answer, sizeof again) == 0, 1);

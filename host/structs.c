@@ -5,14 +5,16 @@
 
 #include <string.h>
 
+static const unsigned sorts[] = {
+    [SECOND_DECIMAL] = SKARROWITH_DECIMAL, [SECOND_TIME] = SKARROWITH_TIME, [SECOND_BINARY] = SKARROWITH_BINARY};
+
 static int is_entry(const struct skarrowith_entry *e, const struct second_entry *s)
 {
     const struct skarrowith_moment *m = &e->value.time;
     const unsigned *parts = s->moment;
-    unsigned sort = s->is_time ? SKARROWITH_TIME : SKARROWITH_DECIMAL;
-    if (e->structure != s->structure || e->unit != s->unit || e->sort != sort)
+    if (e->structure != s->structure || e->unit != s->unit || e->sort != sorts[s->sort])
         return 0;
-    if (!s->is_time)
+    if (s->sort != SECOND_TIME)
         return e->value.count == s->count;
     return m->year == parts[0] && m->month == parts[1] && m->day == parts[2] && m->hour == parts[3] &&
            m->minute == parts[4] && m->second == parts[5] && m->weekday == parts[6];

@@ -299,6 +299,67 @@ static void expect_unmarking(void)
     }
 }
 
+/* 000's data line with its inlet in binary, in a structure and so many bytes: read, and written back. */
+static void expect_binary(const char *name, uint8_t structure, const uint8_t *value, size_t n, int64_t count)
+{
+    enum { BEHIND = INLET_AT + 3, REST = SECOND_EXAMPLE - 2 - BEHIND };
+    uint8_t b[SKARROWITH_LINE_MOST];
+    uint16_t line[SKARROWITH_LINE_MOST], out[SKARROWITH_LINE_MOST];
+    struct skarrowith_telegram t;
+    size_t end = INLET_AT + n + REST;
+    memcpy(b, second_example, INLET_AT);
+    b[INLET_AT - 2] = structure;
+    memcpy(b + INLET_AT, value, n);
+    memcpy(b + INLET_AT + n, second_example + BEHIND, REST);
+    b[1] = b[2] = (uint8_t)(end - 4);
+    b[end] = (uint8_t)second_sum(b + 4, end - 4);
+    b[end + 1] = 0x16;
+    for (size_t i = 0; i < end + 2; i++)
+        line[i] = second_character(b[i]);
+    hold(name, skarrowith_read_line(line, end + 2, &t, sizeof t), SKARROWITH_DATA);
+    hold(name, t.entries[INLET].sort, SKARROWITH_BINARY);
+    hold(name, t.entries[INLET].value.count, count);
+    hold(name, skarrowith_write_line(&t, sizeof t, out, SKARROWITH_LINE_MOST), (int64_t)end + 2);
+    hold(name, memcmp(line, out, 2 * (end + 2)), 0);
+}
+
+/* A telegram of six binary values and a time, its inlet of another structure, sort and count: what writing it answers. */
+static void expect_sort(const char *name, uint8_t structure, uint8_t sort, int64_t count, uint32_t answer)
+{
+    static const uint8_t units[] = {0x03, 0x11, 0x59, 0x5D, 0x2D, 0x3B};
+    const struct skarrowith_moment moment = {.year = 18, .month = 7, .day = 23};
+    struct skarrowith_telegram t = {.kind = SKARROWITH_DATA, .number = 12345678, .maker = 0x4E89, .meter_type = 4, .count = 7};
+    uint16_t line[SKARROWITH_LINE_MOST];
+    for (size_t i = 0; i < sizeof units; i++)
+        t.entries[i] = (struct skarrowith_entry){.structure = 0x07, .unit = units[i], .sort = SKARROWITH_BINARY, .value.count = 1};
+    t.entries[6] = (struct skarrowith_entry){.structure = 0x06, .unit = 0x6D, .sort = SKARROWITH_TIME, .value.time = moment};
+    t.entries[INLET].structure = structure;
+    t.entries[INLET].sort = sort;
+    t.entries[INLET].value.count = count;
+    hold(name, skarrowith_write_line(&t, sizeof t, line, SKARROWITH_LINE_MOST), answer);
+}
+
+static void expect_binaries(void)
+{
+    expect_binary("1.06 in one byte", 0x01, (const uint8_t[]){0x6A}, 1, 106);
+    expect_binary("-1.50 in two bytes", 0x02, (const uint8_t[]){0x6A, 0xFF}, 2, -150);
+    expect_binary("-1.50 in three bytes", 0x03, (const uint8_t[]){0x6A, 0xFF, 0xFF}, 3, -150);
+    expect_binary("-1.50 in four bytes", 0x04, (const uint8_t[]){0x6A, 0xFF, 0xFF, 0xFF}, 4, -150);
+    expect_binary("1.50 in six bytes", 0x06, (const uint8_t[]){0x96, 0, 0, 0, 0, 0}, 6, 150);
+    expect_binary("the smallest in eight bytes", 0x07, (const uint8_t[]){0, 0, 0, 0, 0, 0, 0, 0x80}, 8, INT64_MIN);
+    expect_binary("the largest in eight bytes", 0x07, (const uint8_t[]){255, 255, 255, 255, 255, 255, 255, 127}, 8, INT64_MAX);
+    expect_sort("the longest line", 0x07, SKARROWITH_BINARY, INT64_MIN, SKARROWITH_LINE_MOST);
+    expect_sort("one byte", 0x01, SKARROWITH_BINARY, -128, SKARROWITH_LINE_MOST - 7);
+    expect_sort("one byte, too small", 0x01, SKARROWITH_BINARY, -129, SKARROWITH_REFUSED + 20);
+    expect_sort("one byte, too large", 0x01, SKARROWITH_BINARY, 128, SKARROWITH_REFUSED + 20);
+    expect_sort("digits in a binary structure", 0x07, SKARROWITH_DECIMAL, 1, SKARROWITH_REFUSED + 20);
+    expect_sort("binary in digits", 0x0C, SKARROWITH_BINARY, 1, SKARROWITH_REFUSED + 20);
+    expect_sort("digits among binary", 0x0C, SKARROWITH_DECIMAL, 1, SKARROWITH_LINE_MOST - 4);
+    expect_sort("a time in a measured unit", 0x06, SKARROWITH_TIME, 0, SKARROWITH_REFUSED + 20);
+    expect_sort("structure 05", 0x05, SKARROWITH_BINARY, 1, SKARROWITH_REFUSED + 20);
+    expect_sort("no sort", 0x07, 3, 1, SKARROWITH_REFUSED + SKARROWITH_NO_RECORD);
+}
+
 int main(void)
 {
     static const struct value values[] = {
@@ -334,6 +395,7 @@ int main(void)
     expect_unmarking();
     expect_coming_in();
     expect_after_a_time();
+    expect_binaries();
     expect_one_pass();
     expect_words(1, 260, 17, "the line is empty");
     expect_words(8, 14, 14, "checksum wrong");

@@ -32,7 +32,7 @@
  * Records. A struct below is its record, byte for byte (x86-64 is little-endian, and no struct has padding of the
  * compiler's). Each is lent with its size in bytes, sizeof x. Memory for a record that is written may be longer, and is
  * refused by 21 if it is shorter. What is read must be a record, else it is refused by SKARROWITH_NO_RECORD: it has exactly
- * its size; bytes named zero are 0; a telegram's kind is 1 to 5 and the sort of each of its seven entries 0 or 1. No other
+ * its size; bytes named zero are 0; a telegram's kind is 1 to 5 and the sort of each of its seven entries 0 to 2. No other
  * field of a telegram is asked about there: one with a count of 9 or a month 13 is a record, and what is done with it says
  * the rest (writing refuses it by 20, set-up by 72). An exchange and a meter are records only if some history of steps leads
  * to them; 24 zeros are the record of no exchange. Columns are records if their count is not over 512.
@@ -92,7 +92,7 @@ uint32_t skarrowith_refusal_text(uint32_t number, char *out, size_t len);
  */
 
 /* The most characters of a line that is written. */
-#define SKARROWITH_LINE_MOST 77u
+#define SKARROWITH_LINE_MOST 89u
 
 /*
  * A point in time. Year 0 to 99 means 2000 to 2099. weekday is the one the meter sends: 1 for Monday to 7 for Sunday, 0 for
@@ -103,17 +103,24 @@ struct skarrowith_moment {
     uint8_t zero;
 };
 
-/* What an entry's value is. */
+/* What an entry's value is: packed digits, a point in time, or binary. */
 #define SKARROWITH_DECIMAL 0
 #define SKARROWITH_TIME 1
+#define SKARROWITH_BINARY 2
 
 /*
- * An entry: its value is a count of the last digit, whose power of ten the unit byte gives, or a point in time.
+ * An entry: its value is a count, of which the unit byte gives the power of ten, or a point in time.
  *
- * A count may be below 0 for inlet, outlet and flow, and for nothing else. The sign takes the place of the highest digit (a
- * line has F there), so that one below 0 has a digit fewer than the structure: -150 is the inlet -1.50 degrees in unit 59, and
- * structure 0A holds -999 to 9999. A sign elsewhere, a minus zero and a digit over 9 are refused by 12 when a line is read; a
- * count that no line has is refused by 20 when it is written.
+ * The structure says what sort of value it is. 0A, 0B, 0C and 0E are packed digits: value.count, with SKARROWITH_DECIMAL. 01,
+ * 02, 03, 04, 06 and 07 are binary, 1, 2, 3, 4, 6 and 8 bytes in two's complement: value.count, with SKARROWITH_BINARY. 06 with
+ * the unit 6D is a point in time: value.time, with SKARROWITH_TIME; 6D has no other structure. An entry of another sort is
+ * refused by 20 when it is written. The unit bytes of energy are 00 to 07 for Wh and 08 to 0F for J: one quantity, which a
+ * telegram has once.
+ *
+ * A count may be below 0 for inlet, outlet and flow, and for nothing else. In digits the sign takes the place of the highest
+ * one (a line has F there), so that a count below 0 has a digit fewer than the structure: -150 is the inlet -1.50 degrees in
+ * unit 59, and structure 0A holds -999 to 9999, 02 holds -32768 to 32767. A count below 0 elsewhere, a minus zero and a digit
+ * over 9 are refused by 12 when a line is read; a count that no line has is refused by 20 when it is written.
  */
 struct skarrowith_entry {
     uint8_t structure, unit, sort;
@@ -192,7 +199,7 @@ uint32_t skarrowith_find_either(const uint16_t *mbus, size_t mbus_count, const u
 uint32_t skarrowith_read_line(const uint16_t *line, size_t count, struct skarrowith_telegram *telegram, size_t size);
 
 /*
- * Writes the line of a telegram into the first places. Answers the number of its characters, at most 77, or refuses by
+ * Writes the line of a telegram into the first places. Answers the number of its characters, at most 89, or refuses by
  * 101, 20 (no accepted line reads as this telegram) or 21.
  */
 uint32_t skarrowith_write_line(const struct skarrowith_telegram *telegram, size_t size, uint16_t *line, size_t places);
@@ -349,8 +356,9 @@ struct skarrowith_meter {
  * Times are counted in bit times of 1/2400 s and must not go back from step to step (70); the first step may carry any.
  * Each step first returns a meter to use that is in verification and has had no instruction for 4,320,000.
  *
- * set_up:  a meter in use, with its own address and a data template, whose address is kept and ignored and whose energy and
- *          volume have structure 0C. Answers 0, or refuses by 101 (the template), 21 (the meter) or 72.
+ * set_up:  a meter in use, with its own address and a data template, whose address is kept and ignored and whose energy, in
+ *          Wh or J, and volume have structure 0C; its other entries may be binary. Answers 0, or refuses by 101 (the
+ *          template), 21 (the meter) or 72.
  * heard:   a line was heard at t. Answers SKARROWITH_SILENCE, SKARROWITH_ACK or SKARROWITH_DATA; then the answer's telegram has
  *          been written to answer, which silence leaves as it was. Refuses by 101 (the meter), 21 (answer) or 70.
  * measure: adds to the totals in force, as counts of the template's last digits. Answers 0, or refuses by 101, 70 or 71

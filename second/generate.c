@@ -60,8 +60,8 @@ static void generate_unmark(void)
 static void print_entry(const struct second_entry *e)
 {
     printf(" %02X %02X", e->structure, e->unit);
-    if (!e->is_time)
-        printf(" number %+" PRId64, e->count);
+    if (e->sort != SECOND_TIME)
+        printf(" %s %+" PRId64, e->sort == SECOND_BINARY ? "binary" : "number", e->count);
     else
         printf(" time +%u +%u +%u +%u +%u +%u +%u", e->moment[0], e->moment[1], e->moment[2], e->moment[3], e->moment[4],
                e->moment[5], e->moment[6]);

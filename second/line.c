@@ -1,6 +1,8 @@
 /* Reading, writing and search, from document 01. Works on bytes: a line is stripped of its parity bits first. */
 #include "line.h"
 
+#include "number.h"
+
 #include <string.h>
 
 /* What a unit byte measures, whether data must have it, and whether it may be below zero (2026-07). */
@@ -8,7 +10,7 @@ static const struct {
     unsigned first, last;
     int required, may_be_negative;
 } quantities[] = {
-    {0x00, 0x07, 1, 0}, /* energy */
+    {0x00, 0x0F, 1, 0}, /* energy, in Wh and from 08 on in J (2026-06) */
     {0x10, 0x17, 1, 0}, /* volume */
     {0x28, 0x2F, 0, 0}, /* power */
     {0x38, 0x3F, 0, 1}, /* flow */
@@ -17,31 +19,36 @@ static const struct {
     {0x6D, 0x6D, 1, 0}, /* time */
 };
 
+/* The bytes of a value, and what they are; structure 06 is a point in time where the unit is 6D. */
+static const struct {
+    unsigned structure;
+    size_t width;
+    enum second_sort sort;
+} structures[] = {
+    {0x01, 1, SECOND_BINARY},  {0x02, 2, SECOND_BINARY},  {0x03, 3, SECOND_BINARY},  {0x04, 4, SECOND_BINARY},
+    {0x06, 6, SECOND_BINARY},  {0x07, 8, SECOND_BINARY},  {0x0A, 2, SECOND_DECIMAL}, {0x0B, 3, SECOND_DECIMAL},
+    {0x0C, 4, SECOND_DECIMAL}, {0x0E, 6, SECOND_DECIMAL},
+};
+
 enum {
     QUANTITIES = sizeof quantities / sizeof quantities[0],
+    STRUCTURES = sizeof structures / sizeof structures[0],
     HEADER_AT = 3,
     ENTRIES_AT = 15,
-    WIDEST = 6,
+    MOST_DIGITS = 12,
     MINUS = 0xF,
+    TIME_UNIT = 0x6D,
+    TIME_STRUCTURE = 0x06,
     FRAME_MOST = 255 + 6 /* no longer line gets past refusal 5 */
 };
 
-/* The bytes of a value, by structure; 0 where there is no such structure. */
-static size_t width_of(unsigned structure)
+/* A place in the list; STRUCTURES where there is no such structure. */
+static size_t place_of(unsigned structure)
 {
-    switch (structure) {
-    case 0x0A:
-        return 2;
-    case 0x0B:
-        return 3;
-    case 0x0C:
-        return 4;
-    case 0x0E:
-    case 0x06:
-        return 6;
-    default:
-        return 0;
-    }
+    size_t s = 0;
+    while (s < STRUCTURES && structures[s].structure != structure)
+        s++;
+    return s;
 }
 
 static int quantity_of(unsigned unit)
@@ -88,12 +95,12 @@ static int64_t digits(const unsigned char *bytes, size_t n)
 }
 
 /*
- * The value of an entry: digits, or F in the highest place and the size in the places below (2026-07). Says whether it has
- * one; 0 has no minus.
+ * The value of an entry in digits: as they stand, or F in the highest place and the size in the places below (2026-07). Says
+ * whether it has one; 0 has no minus.
  */
 static int value_from(const unsigned char *b, size_t width, int may_be_negative, int64_t *value)
 {
-    unsigned char size[WIDEST];
+    unsigned char size[MOST_DIGITS / 2];
     int is_negative = b[width - 1] >> 4 == MINUS;
     memcpy(size, b, width);
     if (is_negative)
@@ -131,17 +138,21 @@ static int entry_from(const unsigned char *b, size_t left, struct second_entry *
 {
     if (left < 2)
         return 11;
-    size_t width = width_of(b[0]);
+    size_t s = place_of(b[0]);
     int quantity = quantity_of(b[1]);
-    if (width == 0 || quantity < 0 || (b[0] == 0x06) != (b[1] == 0x6D) || left - 2 < width)
+    if (s == STRUCTURES || quantity < 0 || (b[1] == TIME_UNIT && b[0] != TIME_STRUCTURE) || left - 2 < structures[s].width)
         return 11;
     e->structure = b[0];
     e->unit = b[1];
-    e->is_time = b[0] == 0x06;
-    *taken = 2 + width;
-    if (e->is_time)
+    e->sort = b[1] == TIME_UNIT ? SECOND_TIME : structures[s].sort;
+    *taken = 2 + structures[s].width;
+    int may_be_negative = quantities[quantity].may_be_negative;
+    if (e->sort == SECOND_TIME)
         return moment_from(b + 2, e->moment) ? 0 : 13;
-    return value_from(b + 2, width, quantities[quantity].may_be_negative, &e->count) ? 0 : 12;
+    if (e->sort == SECOND_DECIMAL)
+        return value_from(b + 2, structures[s].width, may_be_negative, &e->count) ? 0 : 12;
+    e->count = second_signed(b + 2, structures[s].width);
+    return e->count < 0 && !may_be_negative ? 12 : 0;
 }
 
 static int entries_from(const unsigned char *body, size_t n, struct second_telegram *t)
@@ -290,18 +301,22 @@ static size_t put_value(unsigned char *b, size_t width, int64_t value)
 static size_t put_entry(unsigned char *b, const struct second_entry *e)
 {
     const unsigned *m = e->moment;
-    size_t width = width_of(e->structure);
+    size_t s = place_of(e->structure), width = s == STRUCTURES ? 0 : structures[s].width;
     b[0] = (unsigned char)e->structure;
     b[1] = (unsigned char)e->unit;
-    if (e->structure != 0x06)
+    if (e->sort == SECOND_DECIMAL)
         return 2 + put_value(b + 2, width, e->count);
+    if (e->sort == SECOND_BINARY) {
+        second_put_number(b + 2, width, (uint64_t)e->count);
+        return 2 + width;
+    }
     b[2] = (unsigned char)m[5];
     b[3] = (unsigned char)m[4];
     b[4] = (unsigned char)((m[3] & 31) | m[6] << 5);
     b[5] = (unsigned char)((m[2] & 31) | m[0] << 5);
     b[6] = (unsigned char)((m[1] & 15) | m[0] >> 3 << 4);
     b[7] = 0;
-    return 2 + width;
+    return 8;
 }
 
 static size_t put_data(unsigned char *b, const struct second_telegram *t)
@@ -359,9 +374,9 @@ static size_t put_line(unsigned char *b, const struct second_telegram *t)
 
 static int same_entry(const struct second_entry *a, const struct second_entry *b)
 {
-    if (a->structure != b->structure || a->unit != b->unit || a->is_time != b->is_time)
+    if (a->structure != b->structure || a->unit != b->unit || a->sort != b->sort)
         return 0;
-    return a->is_time ? memcmp(a->moment, b->moment, sizeof a->moment) == 0 : a->count == b->count;
+    return a->sort == SECOND_TIME ? memcmp(a->moment, b->moment, sizeof a->moment) == 0 : a->count == b->count;
 }
 
 static int same_telegram(const struct second_telegram *a, const struct second_telegram *b)
@@ -376,8 +391,8 @@ static int same_telegram(const struct second_telegram *a, const struct second_te
 
 int second_write(const struct second_telegram *t, uint16_t *out, size_t places, size_t *length)
 {
-    unsigned char bytes[SECOND_LONGEST];
-    uint16_t line[SECOND_LONGEST];
+    unsigned char bytes[FRAME_MOST]; /* what is no telegram may be longer than every line: seven values of eight bytes */
+    uint16_t line[FRAME_MOST];
     struct second_telegram back;
     size_t n = put_line(bytes, t);
     for (size_t i = 0; i < n; i++)

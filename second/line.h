@@ -7,11 +7,14 @@
 
 enum second_kind { SECOND_ACK, SECOND_READ, SECOND_ENTER, SECOND_LEAVE, SECOND_DATA };
 
-enum { SECOND_ENTRIES = 7, SECOND_PARTS = 7, SECOND_LONGEST = 77 };
+/* What an entry's value is: packed digits, a point in time, or binary (document 02, 2026-06). */
+enum second_sort { SECOND_DECIMAL, SECOND_TIME, SECOND_BINARY };
+
+enum { SECOND_ENTRIES = 7, SECOND_PARTS = 7, SECOND_LONGEST = 89 };
 
 struct second_entry {
     unsigned structure, unit;
-    int is_time;
+    enum second_sort sort;
     int64_t count;                 /* where it is no time */
     unsigned moment[SECOND_PARTS]; /* year, month, day, hour, minute, second, weekday, where it is one */
 };

@@ -110,12 +110,20 @@ static size_t entry_place(const struct bytes *body, int is_time)
 {
     size_t places[8], n = 0, at = 15;
     while (at + 1 < body->n && n < 8) {
-        int time = body->b[at] == 0x06;
+        int time = body->b[at + 1] == 0x6D;
         if (time == is_time)
             places[n++] = at;
-        at += 2 + (time ? 6 : digits_of(body->b[at]) / 2);
+        at += 2 + bytes_of(body->b[at]);
     }
     return n == 0 ? 15 : places[below((unsigned)n)];
+}
+
+static size_t energy_place(const struct bytes *body)
+{
+    size_t at = 15;
+    while (at + 1 < body->n && body->b[at + 1] > 0x0F)
+        at += 2 + bytes_of(body->b[at]);
+    return at;
 }
 
 static void miss_moment(unsigned char *v)
@@ -170,11 +178,21 @@ static void miss_digits(unsigned char *v, size_t width)
     }
 }
 
+/* 12: below zero for any quantity, by the top bit of the last byte, or -1. */
+static void miss_binary(unsigned char *v, size_t width)
+{
+    if (once_in(2))
+        memset(v, 0xFF, width);
+    else
+        v[width - 1] |= 0x80;
+}
+
 /* 11 */
 static void miss_entry(struct bytes *body)
 {
+    static const unsigned char none[] = {0x05, 0x08, 0x0D, 0x00, 0x09, 0x0F}, others[] = {0x04, 0x07, 0x01, 0x02, 0x03, 0x0E};
     size_t at = entry_place(body, once_in(4)), zeros = below(8);
-    switch (below(5)) {
+    switch (below(8)) {
     case 0:
         push(body, below(16));
         break;
@@ -185,28 +203,45 @@ static void miss_entry(struct bytes *body)
         body->b[at + 1] = (unsigned char)below(128);
         break;
     case 3:
-        body->n -= between(1, 6);
+        body->n -= between(1, 9);
+        break;
+    case 4:
+        body->b[at] = none[below(6)];
+        break;
+    case 5: /* 6D takes only 06 */
+        body->b[entry_place(body, 1)] = others[below(6)];
+        break;
+    case 6: /* six bytes of binary as a time, and the other way round */
+        body->b[at] = 0x06;
+        body->b[at + 1] = (unsigned char)(body->b[at + 1] == 0x6D ? 0x59 : 0x6D);
         break;
     default:
-        push(body, once_in(2) ? 0x06 : 0x0A);
+        push(body, once_in(2) ? 0x06 : once_in(2) ? 0x07 : 0x0A);
         push(body, once_in(2) ? 0x6D : 0x00);
         while (zeros-- > 0)
             push(body, 0);
     }
 }
 
-static void repeat_entry(struct bytes *body)
+static void repeat_entry(struct bytes *body, size_t from)
 {
-    size_t from = entry_place(body, once_in(4));
-    size_t n = 2 + (body->b[from] == 0x06 ? 6 : digits_of(body->b[from]) / 2);
+    size_t n = 2 + bytes_of(body->b[from]);
     for (size_t i = 0; i < n; i++)
         push(body, body->b[from + i]);
+}
+
+/* Wh and J in one telegram. */
+static void repeat_energy(struct bytes *body)
+{
+    size_t last = body->n;
+    repeat_entry(body, energy_place(body));
+    body->b[last + 1] ^= 8;
 }
 
 static void drop_entry(struct bytes *body)
 {
     size_t from = entry_place(body, once_in(4));
-    size_t n = 2 + (body->b[from] == 0x06 ? 6 : digits_of(body->b[from]) / 2);
+    size_t n = 2 + bytes_of(body->b[from]);
     memmove(body->b + from, body->b + from + n, body->n - from - n);
     body->n -= n;
 }
@@ -223,15 +258,20 @@ static void miss_body(struct bytes *body, unsigned refusal)
         miss_entry(body);
         break;
     case 12:
-        miss_digits(body->b + at + 2, digits_of(body->b[at]) / 2);
+        if (body->b[at] < 0x08)
+            miss_binary(body->b + at + 2, bytes_of(body->b[at]));
+        else
+            miss_digits(body->b + at + 2, bytes_of(body->b[at]));
         break;
     case 13:
         miss_moment(body->b + entry_place(body, 1) + 2);
         break;
     case 14:
     case 15: /* no refusal any more: so one of an eighth entry more */
-        if (once_in(2))
-            repeat_entry(body);
+        if (once_in(4))
+            repeat_energy(body);
+        else if (once_in(2))
+            repeat_entry(body, entry_place(body, once_in(4)));
         else
             body->b[at + 1] = body->b[entry_place(body, 0) + 1];
         break;

@@ -67,23 +67,44 @@ static void measure(void)
         talk.volume -= talk.volume < 3000000 ? talk.volume : 3000000;
 }
 
-/* The volume in one of its units, and the time. */
+/* A volume whose millilitres pass 64 bits: the largest, or one that is small again modulo 2^64. */
+static void put_too_much(struct second_entry *e)
+{
+    uint64_t wraps = UINT64_MAX;
+    e->structure = 0x07;
+    e->sort = SECOND_BINARY;
+    for (unsigned tens = e->unit - 0x10; tens > 0; tens--)
+        wraps /= 10;
+    e->count = e->unit == 0x10 || once_in(2) ? INT64_MAX - below(3) : (int64_t)(wraps + below(3));
+}
+
+/* The volume in one of its units, in digits or binary. */
+static void put_volume(struct second_entry *e)
+{
+    static const unsigned char structures[] = {0x0C, 0x0C, 0x0E, 0x04, 0x06, 0x07};
+    unsigned tens = once_in(8) ? below(8) : below(4);
+    e->structure = structures[below(6)];
+    e->sort = e->structure < 0x08 ? SECOND_BINARY : SECOND_DECIMAL;
+    e->unit = 0x10 + tens;
+    for (e->count = (int64_t)talk.volume; tens > 0; tens--)
+        e->count /= 10;
+    if (once_in(30))
+        e->count = once_in(2) ? 99999999 : 99999999 - below(3);
+    if (e->structure == 0x0C)
+        e->count %= 100000000;
+    if (once_in(40))
+        put_too_much(e);
+}
+
+/* The volume and the time. */
 static void put_figures(struct second_telegram *t)
 {
     for (uint64_t i = 0; i < t->count; i++) {
         struct second_entry *e = &t->entries[i];
-        unsigned tens = once_in(8) ? below(8) : below(4);
-        if (e->is_time)
+        if (e->sort == SECOND_TIME)
             memcpy(e->moment, talk.moment, sizeof talk.moment);
-        else if (e->unit >= 0x10 && e->unit <= 0x17) {
-            e->structure = once_in(3) ? 0x0E : 0x0C;
-            e->unit = 0x10 + tens;
-            for (e->count = talk.volume; tens > 0; tens--)
-                e->count /= 10;
-            if (once_in(30))
-                e->count = once_in(2) ? 99999999 : 99999999 - below(3);
-            e->count %= 100000000;
-        }
+        else if (e->unit >= 0x10 && e->unit <= 0x17)
+            put_volume(e);
     }
 }
 

@@ -5,9 +5,16 @@
 
 #include <string.h>
 
-unsigned digits_of(unsigned structure)
+unsigned bytes_of(unsigned structure)
 {
-    return structure == 0x0A ? 4 : structure == 0x0B ? 6 : structure == 0x0C ? 8 : 12;
+    static const unsigned char bytes[16] = {0, 1, 2, 3, 4, 0, 6, 8, 0, 0, 2, 3, 4, 0, 6, 0};
+    return structure < 16 ? bytes[structure] : 0;
+}
+
+/* Of a structure that may be none. */
+static unsigned digits_of(unsigned structure)
+{
+    return bytes_of(structure) == 0 ? 12 : 2 * bytes_of(structure);
 }
 
 static uint64_t power_of_ten(unsigned n)
@@ -32,14 +39,31 @@ static int64_t size_for(unsigned digits)
     }
 }
 
-/* Flow, inlet and outlet are as often as not below zero: the sign has the place of a digit, and zero has none. */
+/* Binary of so many bytes, not below zero: small, nearly the largest, or of any width. */
+static int64_t binary_for(unsigned bytes)
+{
+    int64_t largest = INT64_MAX >> (64 - 8 * bytes);
+    switch (below(4)) {
+    case 0:
+        return below(3);
+    case 1:
+        return largest - below(2);
+    default:
+        return (int64_t)(of_any_width() & (uint64_t)largest);
+    }
+}
+
+/* Flow, inlet and outlet are as often as not below zero: in digits the sign has the place of one, and zero has none. */
 static int64_t count_for(unsigned structure, unsigned unit)
 {
+    int is_negative = unit >= 0x38 && once_in(2);
     int64_t size;
-    if (unit < 0x38 || once_in(2))
-        return size_for(digits_of(structure));
-    size = size_for(digits_of(structure) - 1);
-    return size == 0 ? -1 : -size;
+    if (structure < 0x08) {
+        size = binary_for(bytes_of(structure));
+        return is_negative ? -size - 1 : size;
+    }
+    size = size_for(digits_of(structure) - (is_negative ? 1 : 0));
+    return is_negative && size == 0 ? -1 : is_negative ? -size : size;
 }
 
 static void good_moment(unsigned m[SECOND_PARTS])
@@ -56,21 +80,22 @@ static void good_moment(unsigned m[SECOND_PARTS])
     m[6] = once_in(2) ? 0 : below(8); /* as often as not one that contradicts the date */
 }
 
-/* An entry of a quantity, 0 to 6 in 01's order. */
-static struct second_entry good_entry(unsigned quantity)
+/* An entry of a quantity, 0 to 6 in 01's order, of some structure or of this one, which is binary. */
+static struct second_entry good_entry(unsigned quantity, unsigned wanted)
 {
     static const unsigned char units[] = {0x00, 0x10, 0x28, 0x38, 0x58, 0x5C, 0x6D};
-    static const unsigned char structures[] = {0x0A, 0x0B, 0x0C, 0x0E};
+    static const unsigned char digits[] = {0x0A, 0x0B, 0x0C, 0x0E}, binary[] = {0x01, 0x02, 0x03, 0x04, 0x06, 0x07};
     struct second_entry e = {0};
     e.unit = units[quantity];
     if (quantity == 6) {
         e.structure = 0x06;
-        e.is_time = 1;
+        e.sort = SECOND_TIME;
         good_moment(e.moment);
         return e;
     }
-    e.unit += below(quantity < 4 ? 8 : 4);
-    e.structure = structures[below(4)];
+    e.unit += below(quantity == 0 ? 16 : quantity < 4 ? 8 : 4);
+    e.sort = wanted != 0 || once_in(2) ? SECOND_BINARY : SECOND_DECIMAL;
+    e.structure = wanted != 0 ? wanted : e.sort == SECOND_BINARY ? binary[below(6)] : digits[below(4)];
     e.count = count_for(e.structure, e.unit);
     return e;
 }
@@ -92,6 +117,7 @@ unsigned some_maker(unsigned first, unsigned last)
 static void good_data(struct second_telegram *t)
 {
     static const unsigned char types[] = {0x04, 0x0B, 0x0C, 0x0D};
+    unsigned wanted = once_in(12) ? 0x01 : once_in(12) ? 0x07 : 0; /* the shortest lines and the longest, now and then */
     t->number = (uint32_t)(chance() % 100000000);
     t->maker = some_maker(1, 26);
     t->version = below(256);
@@ -100,7 +126,7 @@ static void good_data(struct second_telegram *t)
     t->status = below(256);
     for (unsigned q = 0; q < 7; q++)
         if ((q != 2 && q != 3) || once_in(2))
-            t->entries[t->count++] = good_entry(q);
+            t->entries[t->count++] = good_entry(q, wanted);
     for (unsigned i = (unsigned)t->count - 1; i > 0; i--)
         swap_entries(t, i, below(i + 1));
 }
@@ -126,7 +152,25 @@ enum second_kind some_kind(void)
 
 /* ---- with a rule broken */
 
-/* At the ends of what a width holds, and at what it would hold were the sign no digit; or below zero for any quantity. */
+/* At the ends of what so many bytes hold, with a sign and without one; or below zero for any quantity. */
+static int64_t edge_binary(unsigned bytes)
+{
+    int64_t largest = INT64_MAX >> (64 - 8 * bytes);
+    switch (below(5)) {
+    case 0:
+        return largest - below(2);
+    case 1:
+        return bytes == 8 ? INT64_MIN : largest + 1 + below(2);
+    case 2:
+        return bytes == 8 ? INT64_MIN + 1 : -largest - 1 - below(2);
+    case 3:
+        return bytes == 8 ? -2 : 2 * largest + 1 + below(2);
+    default:
+        return -1;
+    }
+}
+
+/* At the ends of what digits hold, and at what they would hold were the sign none of them; or below zero for any quantity. */
 static int64_t edge_count(unsigned structure)
 {
     int64_t end = (int64_t)power_of_ten(digits_of(structure)), lowest = -(end / 10);
@@ -148,20 +192,20 @@ static int64_t edge_count(unsigned structure)
 
 static void break_entry(struct second_entry *e)
 {
-    unsigned part = below(SECOND_PARTS);
+    unsigned part = below(SECOND_PARTS), bytes = bytes_of(e->structure);
     uint64_t any;
     switch (below(8)) {
     case 0:
         e->structure = below(16);
         break;
     case 1:
-        e->unit = below(128);
+        e->unit = once_in(4) ? e->unit ^ 8 : below(128); /* Wh for J, perhaps */
         break;
     case 2:
-        e->is_time = !e->is_time;
+        e->sort = (enum second_sort)below(3);
         break;
     case 3:
-        e->count = edge_count(e->structure);
+        e->count = e->structure < 0x08 && bytes > 0 ? edge_binary(bytes) : edge_count(e->structure);
         break;
     case 4:
         any = of_any_width();
@@ -255,6 +299,7 @@ struct second_telegram meter_template(void)
     for (size_t i = 0; i < t.count; i++)
         if (t.entries[i].unit < 0x18 && !once_in(40)) {
             t.entries[i].structure = 0x0C;
+            t.entries[i].sort = SECOND_DECIMAL;
             t.entries[i].count = count_for(0x0C, t.entries[i].unit);
         }
     if (once_in(20))

@@ -5,7 +5,8 @@
 #include "exchange.h"
 #include "line.h"
 
-unsigned digits_of(unsigned structure);
+/* The bytes of a value; 0 where there is no such structure. */
+unsigned bytes_of(unsigned structure);
 unsigned some_maker(unsigned first, unsigned last);
 enum second_kind some_kind(void);
 struct second_telegram good_telegram(enum second_kind kind);

@@ -24,10 +24,10 @@ static void put_entry(uint8_t *to, const struct second_entry *e)
 {
     to[0] = (uint8_t)e->structure;
     to[1] = (uint8_t)e->unit;
-    to[2] = e->is_time != 0;
-    if (!e->is_time)
+    to[2] = (uint8_t)e->sort;
+    if (e->sort != SECOND_TIME)
         second_put_number(to + VALUE, 8, (uint64_t)e->count);
-    for (size_t i = 0; e->is_time && i < SECOND_PARTS; i++)
+    for (size_t i = 0; e->sort == SECOND_TIME && i < SECOND_PARTS; i++)
         to[VALUE + i] = (uint8_t)e->moment[i];
 }
 
@@ -49,14 +49,14 @@ void second_put_telegram(uint8_t *to, const struct second_telegram *t)
 
 static int take_entry(const uint8_t *b, struct second_entry *e)
 {
-    if (b[2] > 1 || !is_zero(b + 3, 5) || (b[2] == 1 && b[VALUE + SECOND_PARTS] != 0))
+    if (b[2] > SECOND_BINARY || !is_zero(b + 3, 5) || (b[2] == SECOND_TIME && b[VALUE + SECOND_PARTS] != 0))
         return SECOND_NO_RECORD;
     e->structure = b[0];
     e->unit = b[1];
-    e->is_time = b[2];
-    if (!e->is_time)
+    e->sort = (enum second_sort)b[2];
+    if (e->sort != SECOND_TIME)
         e->count = second_signed(b + VALUE, 8);
-    for (size_t i = 0; e->is_time && i < SECOND_PARTS; i++)
+    for (size_t i = 0; e->sort == SECOND_TIME && i < SECOND_PARTS; i++)
         e->moment[i] = b[VALUE + i];
     return 0;
 }

@@ -69,7 +69,7 @@ static int does_count(const struct spoken *all, size_t i)
     return fits(&all[send], &all[i]);
 }
 
-/* Up to the first number over 10^9; what comes after it would only be larger. */
+/* Up to the first number over 10^9; what comes after it would only be larger, and might pass 64 bits (2026-06). */
 static uint64_t millilitres(const struct second_telegram *t)
 {
     uint64_t volume = 0;
@@ -92,7 +92,7 @@ static int64_t day_of(const unsigned m[6])
 static int64_t second_of(const struct second_telegram *t)
 {
     for (size_t i = 0; i < t->count; i++)
-        if (t->entries[i].is_time) {
+        if (t->entries[i].sort == SECOND_TIME) {
             const unsigned *m = t->entries[i].moment;
             return day_of(m) * 86400 + m[3] * 3600 + m[4] * 60 + m[5];
         }

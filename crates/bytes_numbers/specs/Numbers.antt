@@ -1,18 +1,10 @@
 -- 01, "The run bundle": all numbers low byte first.
-use Prim.Native.Nat.{ℕ, zero, suc, _+_, _*_, _/_, _%_, _^_, _<_}
-use mathlib.Core.List.{List, [], _∷_}
+use Prim.Native.Nat.{ℕ, _^_, _<_}
+use mathlib.Core.List.{List}
 use mathlib.Core.Path.{_≡_}
 use lib.ListN.{take, drop}
-
--- the number that the bytes are
-unfoldable pub number : List ℕ → ℕ
-number [] = 0
-number (b ∷ s) = b + 256 * number s
-
--- a number as so many bytes
-unfoldable pub bytesOf : ℕ → ℕ → List ℕ
-bytesOf zero n = []
-bytesOf (suc k) n = n % 256 ∷ bytesOf k (n / 256)
+-- the number that the bytes are, and a number as so many bytes
+unfoldable pub use Rattle.mbus_rules.specs.Numbers.{number, bytesOf}
 
 -- What reading a number of so many bytes from a place on answers: a byte that is missing counts as 0.
 pub record Numbered (s : List ℕ) (at width r : ℕ) : Type 0 where

@@ -28,3 +28,4 @@ pub mod Sweep
 pub mod Values
 pub mod Weekdays
 pub mod Signs
+pub mod Binary

@@ -21,7 +21,7 @@ use Rattle.mbus_rules.specs.Headers.{wrongHeader}
 use Rattle.mbus_rules.specs.Lines.{readBody, readLine}
 use Rattle.mbus_rules.specs.Lists.{any, total}
 use Rattle.mbus_rules.specs.Moments.{wrongMoment}
-use Rattle.mbus_rules.specs.Quantities.{quantityOf, widthOf, paired, isTime, flow, inlet, outlet}
+use Rattle.mbus_rules.specs.Quantities.{quantityOf, widthOf, paired, isTime, isBinary, flow, inlet, outlet}
 use Rattle.mbus_rules.specs.Signs.{minus, sizeBytes, marked, signedOf, wrongSigned, signedBytes, fitsSigned, belowZero}
 use Rattle.mbus_rules.specs.Telegrams.{dataOf}
 use Rattle.mbus_rules.specs.Writing.{wrongValue, bytesOfEntries, lineOf}
@@ -77,19 +77,20 @@ bounds = (refl, refl, refl, refl, refl, refl, refl, refl, refl, refl)
 -- ---- where a sign is allowed
 
 -- minus zero is refused whatever the quantity
-pub minus-zero : (unit : ℕ) (b : List ℕ) → isTime unit ≡ false → minus b ≡ true → digitsOf (sizeBytes b) ≡ 0 → wrongNumber unit b ≡ true
-minus-zero unit b t m z = rw (t, m, z, or-true (any overNine (sizeBytes b)))
+pub minus-zero : (st unit : ℕ) (b : List ℕ) → isBinary st ≡ false → isTime unit ≡ false → minus b ≡ true → digitsOf (sizeBytes b) ≡ 0
+    → wrongNumber st unit b ≡ true
+minus-zero st unit b p t m z = rw (t, p, m, z, or-true (any overNine (sizeBytes b)))
 
 -- a sign that is accepted stands at inlet, outlet or flow, ..
-pub sign-allowed : (unit : ℕ) (b : List ℕ) → isTime unit ≡ false → wrongNumber unit b ≡ false → minus b ≡ true
+pub sign-allowed : (st unit : ℕ) (b : List ℕ) → isBinary st ≡ false → isTime unit ≡ false → wrongNumber st unit b ≡ false → minus b ≡ true
     → (eqb (quantityOf unit) inlet || eqb (quantityOf unit) outlet || eqb (quantityOf unit) flow) ≡ true
-sign-allowed unit b t w m =
-    let both = neither (wrongSigned b) (minus b && not (mayFall unit)) (rw t at w) in
+sign-allowed st unit b p t w m =
+    let both = neither (wrongSigned b) (minus b && not (mayFall unit)) (rw (t, p) at w) in
     not-false (mayFall unit) (rw m at (both .1))
 
 -- .. and there it is
-pub sign-read : (unit : ℕ) (b : List ℕ) → mayFall unit ≡ true → wrongSigned b ≡ false → wrongNumber unit b ≡ false
-sign-read unit b f w = rw (w, f, and-false (minus b), and-false (not (isTime unit)))
+pub sign-read : (st unit : ℕ) (b : List ℕ) → isBinary st ≡ false → mayFall unit ≡ true → wrongSigned b ≡ false → wrongNumber st unit b ≡ false
+sign-read st unit b p f w = rw (p, w, f, and-false (minus b), and-false (not (isTime unit)))
 
 -- F, or A to E, in a lower place is refused whatever the quantity; A to E in the highest place are, as F is where it is no minus
 sizes-kept : (b : List ℕ) → any overNine b ≡ false → any overNine (sizeBytes b) ≡ false
@@ -104,13 +105,14 @@ sizes-kept (b ∷ c ∷ s) e =
     let h = neither (overNine b) (any overNine (c ∷ s)) e in
     ap₂ _||_ (h .0) (sizes-kept (c ∷ s) (h .1))
 
-pub lower-place : (unit : ℕ) (b : List ℕ) → isTime unit ≡ false → any overNine (sizeBytes b) ≡ true → wrongNumber unit b ≡ true
-lower-place unit b t o =
-    by-test (minus b) (λ m. rw (t, m, o))
-    (λ m. by-test (any overNine b) (λ d. rw (t, m, d)) (λ d. absurd (true≢false (sym o ∙ sizes-kept b d))))
+pub lower-place : (st unit : ℕ) (b : List ℕ) → isBinary st ≡ false → isTime unit ≡ false → any overNine (sizeBytes b) ≡ true → wrongNumber st unit b ≡ true
+lower-place st unit b p t o =
+    by-test (minus b) (λ m. rw (t, p, m, o))
+    (λ m. by-test (any overNine b) (λ d. rw (t, p, m, d)) (λ d. absurd (true≢false (sym o ∙ sizes-kept b d))))
 
-pub highest-place : (unit : ℕ) (b : List ℕ) → isTime unit ≡ false → minus b ≡ false → any overNine b ≡ true → wrongNumber unit b ≡ true
-highest-place unit b t m o = rw (t, m, o)
+pub highest-place : (st unit : ℕ) (b : List ℕ) → isBinary st ≡ false → isTime unit ≡ false → minus b ≡ false → any overNine b ≡ true
+    → wrongNumber st unit b ≡ true
+highest-place st unit b p t m o = rw (t, p, m, o)
 
 -- in a meter number F is 10, as any digit over 9
 pub number-without-sign : (part : List ℕ) → any overNine (take 4 part) ≡ true → wrongHeader part ≡ true
@@ -118,5 +120,5 @@ unfolding wrongHeader
 number-without-sign part o = rw o
 
 -- a number below zero cannot be written for any other quantity
-pub not-written : (w unit n : ℕ) → mayFall unit ≡ false → wrongValue w unit (Number (record { count = negsuc n })) ≡ true
-not-written w unit n f = rw (f, or-true (isTime unit || not (fitsSigned w (negsuc n))))
+pub not-written : (st unit n : ℕ) → mayFall unit ≡ false → wrongValue st unit (Number (record { count = negsuc n })) ≡ true
+not-written st unit n f = rw (f, or-true (isTime unit || isBinary st || not (fitsSigned (widthOf st) (negsuc n))))

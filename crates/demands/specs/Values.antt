@@ -3,16 +3,16 @@ use Prim.Native.Nat.{ℕ, _+_, _*_}
 use mathlib.Core.List.{List, [], _∷_, map}
 use mathlib.Core.Path.{_≡_, refl}
 use lib.Count.{onesIn}
-use lib.ListN.{length, drop}
+use lib.ListN.{drop}
 use lib.IntN.{pos, negℤ}
 use Rattle.mbus_rules.specs.declared.Value.the-variants.{Number, Time}
 use Rattle.mbus_rules.specs.declared.Entry.{Entry}
 use Rattle.mbus_rules.specs.declared.Header.{Header}
 use Rattle.mbus_rules.specs.declared.Telegram.{Telegram}
-use Rattle.mbus_rules.specs.Lists.{at, any, total}
+use Rattle.mbus_rules.specs.Lists.{any, total}
 use Rattle.mbus_rules.specs.Characters.{odd, byteOf, carrier}
 use Rattle.mbus_rules.specs.Answers.{reads, refusal}
-use Rattle.mbus_rules.specs.Digits.{digitsOf, packed}
+use Rattle.mbus_rules.specs.Digits.{digitsOf}
 use Rattle.mbus_rules.specs.Signs.{minus}
 use Rattle.mbus_rules.specs.Moments.{wrongMoment}
 use Rattle.mbus_rules.specs.Headers.{wrongHeader}
@@ -20,7 +20,7 @@ use Rattle.mbus_rules.specs.Quantities.{quantityOf, widthOf, paired, powerOf}
 use Rattle.mbus_rules.specs.Entries.{readEntries}
 use Rattle.mbus_rules.specs.Telegrams.{ack, readOf, enterOf, leaveOf, dataOf}
 use Rattle.mbus_rules.specs.Lines.{readBody, readLine}
-use Rattle.mbus_rules.specs.Writing.{bytesOfEntries, lineOf}
+use Rattle.mbus_rules.specs.Writing.{lineOf}
 use Rattle.mbus_rules.specs.Flips.{flipBit, flips}
 use Rattle.mbus_rules.specs.FourFlips.{dataLine, four}
 use Rattle.bench_indication.specs.Errors.{errorOf, indicationOf}
@@ -89,27 +89,3 @@ thirteen-hold = (refl, (refl, (refl, (refl, (refl, from-six)))))
   where
     from-six : Hold (drop 5 thirteen)
     from-six = (refl, (refl, (refl, (refl, ((refl, refl, refl, refl, refl), (refl, ((refl, refl, refl, refl), ((refl, refl), tt))))))))
-
--- ---- 01, "Telegrams": L runs from 39 to 71, and both are reached
-
--- the five required quantities, four digits each; and all seven, twelve digits each
-abbrev pub fewest : Telegram
-fewest = dataOf 0 (exampleHeader 3 0) (packedEntry 0x0A 0x03 9999 ∷ packedEntry 0x0A 0x11 9999 ∷ packedEntry 0x0A 0x59 7812 ∷ packedEntry 0x0A 0x5D 6534
-    ∷ exampleTime 0 ∷ [])
-
-abbrev pub most : Telegram
-most =
-    dataOf 0 (exampleHeader 3 0) (
-    packedEntry 0x0E 0x03 999999999999 ∷ packedEntry 0x0E 0x11 999999999999 ∷ packedEntry 0x0E 0x59 7812 ∷ packedEntry 0x0E 0x5D 6534
-    ∷ packedEntry 0x0E 0x2D 999999999999 ∷ packedEntry 0x0E 0x3B 999999999999 ∷ exampleTime 0 ∷ []
-    )
-
-pub shortest-data : (readLine (lineOf fewest) ≡ reads fewest) × (at (map byteOf (lineOf fewest)) 1 ≡ 39)
-unfolding readLine readBody readEntries any total odd carrier onesIn lineOf wrongHeader digitsOf minus wrongMoment quantityOf widthOf paired packed
-    bytesOfEntries
-shortest-data = (refl, refl)
-
-pub longest-data : (readLine (lineOf most) ≡ reads most) × (at (map byteOf (lineOf most)) 1 ≡ 71) × (length (lineOf most) ≡ 77)
-unfolding readLine readBody readEntries any total odd carrier onesIn lineOf wrongHeader digitsOf minus wrongMoment quantityOf widthOf paired packed
-    bytesOfEntries
-longest-data = (refl, refl, refl)

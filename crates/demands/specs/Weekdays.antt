@@ -62,9 +62,9 @@ bits-are-weekday d b₁ b₂ hour b₄ b₅ b₆ h =
 -- ---- writing
 
 -- A point in time that can be written can be written on each weekday, 0 for not said among them.
-pub any-weekday-written : (width unit d : ℕ) (m : Moment) → d < 8 → wrongValue width unit (Time m) ≡ false
-    → wrongValue width unit (Time (onWeekday d m)) ≡ false
-any-weekday-written width unit d m h e =
+pub any-weekday-written : (st unit d : ℕ) (m : Moment) → d < 8 → wrongValue st unit (Time m) ≡ false
+    → wrongValue st unit (Time (onWeekday d m)) ≡ false
+any-weekday-written st unit d m h e =
     let k = none (not (isTime unit)) (not (dateExists m) ∷ not (timeExists m) ∷ not (weekdayExists m) ∷ []) e in
     rw (k .0, k .1 .0, k .1 .1 .0, lt-ltb d 8 h)
 
@@ -76,9 +76,9 @@ weekdays-written t e i m w h v =
     let k = none (ltb 0 (t .method)) (wrongData t ∷ []) w in
     let g : GoodData t = good-data t (k .1 .0) in
     let right : wrongEntry x ≡ false = none-at wrongEntry (entriesOf t) e i (g .good .right) h in
-    let value : wrongValue (widthOf (x .structure)) (x .unit) (Time m) ≡ false =
-    ap (wrongValue (widthOf (x .structure)) (x .unit)) (sym v)
-    ∙ neither (not (paired (x .structure) (x .unit))) (wrongValue (widthOf (x .structure)) (x .unit) (x .value)) right .1 in
+    let value : wrongValue (x .structure) (x .unit) (Time m) ≡ false =
+    ap (wrongValue (x .structure) (x .unit)) (sym v)
+    ∙ neither (not (paired (x .structure) (x .unit))) (wrongValue (x .structure) (x .unit) (x .value)) right .1 in
     let n = none (not (isTime (x .unit))) (not (dateExists m) ∷ not (timeExists m) ∷ not (weekdayExists m) ∷ []) value in
     ltb-true (m .weekday) 8 (not-false (weekdayExists m) (n .1 .1 .1 .0))
 

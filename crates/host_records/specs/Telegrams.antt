@@ -7,7 +7,7 @@ use lib.ListN.{take, drop}
 use mir.Syntax.{w64}
 use mir.Val.{toZ, ofZ}
 use Rattle.mbus_rules.specs.declared.Value.{Value}
-use Rattle.mbus_rules.specs.declared.Value.the-variants.{Number, Time}
+use Rattle.mbus_rules.specs.declared.Value.the-variants.{Number, Time, Binary}
 use Rattle.mbus_rules.specs.declared.Entry.{Entry}
 use Rattle.mbus_rules.specs.declared.Header.{Header}
 use Rattle.mbus_rules.specs.declared.Telegram.{Telegram}
@@ -25,15 +25,17 @@ telegramSize = 136
 
 -- ---- written
 
--- 0 for a decimal number, 1 for a point in time
+-- 0 for a decimal number, 1 for a point in time, 2 for a number in binary (02, 2026-06)
 abbrev pub sortOf : Value → ℕ
 sortOf (Number d) = 0
 sortOf (Time m) = 1
+sortOf (Binary w) = 2
 
 -- a number in two's complement, which is `int64_t`
 abbrev pub valueRecord : Value → List ℕ
 valueRecord (Number d) = bytesOf 8 (ofZ w64 (d .count))
 valueRecord (Time m) = m .year ∷ m .month ∷ m .day ∷ m .hour ∷ m .minute ∷ m .second ∷ m .weekday ∷ 0 ∷ []
+valueRecord (Binary w) = bytesOf 8 (ofZ w64 (w .count))
 
 abbrev pub entryBytes : Entry → List ℕ
 entryBytes e = e .structure ∷ e .unit ∷ sortOf (e .value) ∷ 0 ∷ 0 ∷ 0 ∷ 0 ∷ 0 ∷ valueRecord (e .value)
@@ -57,7 +59,7 @@ abbrev pub valueIn : ℕ → List ℕ → Value
 valueIn sort b =
     cond (eqb sort 1)
     (Time (record { year = at b 8; month = at b 9; day = at b 10; hour = at b 11; minute = at b 12; second = at b 13; weekday = at b 14 }))
-    (Number (record { count = toZ w64 (number (take 8 (drop 8 b))) }))
+    (cond (eqb sort 2) (Binary (record { count = toZ w64 (number (take 8 (drop 8 b))) })) (Number (record { count = toZ w64 (number (take 8 (drop 8 b))) })))
 
 unfoldable pub entryIn : List ℕ → Entry
 entryIn b = record { structure = at b 0; unit = at b 1; value = valueIn (at b 2) b }

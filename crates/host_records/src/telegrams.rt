@@ -24,6 +24,7 @@ use mbus_rules::Outcome;
 use mbus_rules::Reading;
 use mbus_rules::Telegram;
 use mbus_rules::Value;
+use mbus_rules::Whole;
 use mbus_telegrams::kinds::kind_in;
 use mbus_telegrams::kinds::kind_number;
 use mbus_telegrams::refused;
@@ -37,6 +38,7 @@ fn sort_of(value: Value) -> u8
     match value {
         Value::Number(_) => 0,
         Value::Time(_) => 1,
+        Value::Binary(_) => 2,
     }
 }
 
@@ -84,6 +86,7 @@ fn value_word(value: Value) -> u64
     match value {
         Value::Number(d) => word_of(d.count),
         Value::Time(m) => moment_word(m),
+        Value::Binary(w) => word_of(w.count),
     }
 }
 
@@ -181,7 +184,8 @@ fn entry_in(b: &[u8]) -> Entry
 {
     let structure = b[0];
     let unit = b[1];
-    let time = b[2] == 1;
+    let sort = b[2];
+    let time = sort == 1;
     if time {
         let m = Moment {
             year: b[8],
@@ -199,6 +203,14 @@ fn entry_in(b: &[u8]) -> Entry
         };
     }
     let count = count_of(number_at(b, 8, 8));
+    let binary = sort == 2;
+    if binary {
+        return Entry {
+            structure,
+            unit,
+            value: Value::Binary(Whole { count }),
+        };
+    }
     Entry {
         structure,
         unit,

@@ -129,6 +129,10 @@ fn say_entry(e: Entry) {
             say_signed(d.count);
         }
         Value::Time(m) => say_moment(m),
+        Value::Binary(w) => {
+            say(b" binary");
+            say_signed(w.count);
+        }
     }
 }
 

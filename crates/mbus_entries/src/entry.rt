@@ -1,18 +1,23 @@
 // One entry: what 11 to 14 say of it.
 ghost use mathlib.Core.Path.{_≡_};
 ghost use mathlib.Core.Bool.{not, _&&_, _||_};
+ghost use Prim.Native.Nat.{_≤_};
+ghost use lib.ListN.{length};
 ghost use Rattle.mbus_rules.specs.Entries.{mayFall};
-ghost use Rattle.mbus_entries.specs.Trying.{Long, valued, valuedShown, tried, triedShown, nextOf};
+ghost use Rattle.mbus_entries.specs.Trying.{Long, numbered, valued, valuedShown, tried, triedShown, nextOf};
+use mbus_fields::binary::coded_of;
 use mbus_fields::digits::Signed;
 use mbus_fields::digits::signed_of;
 use mbus_fields::moments::timed_of;
 use mbus_fields::quantities::UNIT_OF_TIME;
 use mbus_fields::quantities::goes_with;
+use mbus_fields::quantities::low_width;
 use mbus_fields::quantities::may_fall;
 use mbus_fields::quantities::quantity_of;
 use mbus_rules::Decimal;
 use mbus_rules::Entry;
 use mbus_rules::Value;
+use mbus_rules::Whole;
 
 // The value of an entry, or what it is refused by.
 pub enum Valued {
@@ -24,6 +29,21 @@ pub enum Valued {
 pub enum Tried {
     Passed(usize, usize, Entry),
     Refused(u16),
+}
+
+// The number that the bytes hold in binary, or what 12 says of it.
+fn binary_value(unit: u8, value: &[u8]) -> Valued
+    requires { ⌜ length (now value) ≤ 8 ⌝ }
+    ensures { λ r. ⌜ r ≡ valuedShown (numbered unit (now (value .entry))) ⌝ }
+{
+    let number = coded_of(value);
+    let may = may_fall(unit);
+    if number.falls & !may {
+        return Valued::Refused(12);
+    }
+    Valued::Holds(Value::Binary(Whole {
+        count: number.count,
+    }))
 }
 
 // The digits break the rule, or have a minus where the unit allows none. The unit is asked only where there is one.
@@ -38,17 +58,21 @@ fn wrong_number(unit: u8, number: Signed) -> bool
 }
 
 // The value that the bytes hold, or what 12 and 13 say of it.
-fn value_of(unit: u8, value: &[u8]) -> Valued
-    requires { ⌜ Long unit (now value) ⌝ }
-    ensures { λ r. ⌜ r ≡ valuedShown (valued unit (now (value .entry))) ⌝ }
+fn value_of(structure: u8, unit: u8, value: &[u8]) -> Valued
+    requires { ⌜ Long structure unit (now value) ⌝ }
+    ensures { λ r. ⌜ r ≡ valuedShown (valued structure unit (now (value .entry))) ⌝ }
 {
-    if unit == UNIT_OF_TIME {
-        let time = timed_of(&value[..6]);
-        if time.wrong {
-            return Valued::Refused(13);
+    // a structure below 8 is binary or a point in time
+    if structure < 8 {
+        if unit == UNIT_OF_TIME {
+            let time = timed_of(&value[..6]);
+            if time.wrong {
+                return Valued::Refused(13);
+            }
+            let moment = time.moment;
+            return Valued::Holds(Value::Time(moment));
         }
-        let moment = time.moment;
-        return Valued::Holds(Value::Time(moment));
+        return binary_value(unit, value);
     }
     let number = signed_of(value);
     let wrong = wrong_number(unit, number);
@@ -71,12 +95,11 @@ pub fn try_entry(rest: &[u8]) -> Tried
     let unit = rest[1];
     let quantity = quantity_of(unit);
     let paired = goes_with(structure, quantity);
-    // the low three bits of every structure that goes with a quantity are its width
-    let width = (structure % 8) as usize;
+    let width = low_width(structure);
     if !paired | (rest.len() < 2 + width) {
         return Tried::Refused(11);
     }
-    let value = value_of(unit, &rest[2..2 + width]);
+    let value = value_of(structure, unit, &rest[2..2 + width]);
     match value {
         Valued::Refused(n) => Tried::Refused(n),
         Valued::Holds(v) => Tried::Passed(

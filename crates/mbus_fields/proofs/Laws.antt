@@ -2,5 +2,6 @@
 pub mod WordLaws
 pub mod GatherLaws
 pub mod MarkLaws
+pub mod CodeLaws
 pub mod JoinLaws
 pub mod TableLaws

@@ -1,5 +1,5 @@
--- The fields of a data telegram as they are read: packed digits and the point in time, each with whether its rule is broken; and a pair.
-use Prim.Native.Nat.{ℕ, zero, suc, _-_, _*_}
+-- The fields of a data telegram as they are read: packed digits and the point in time, each with whether its rule is broken; binary; and a pair.
+use Prim.Native.Nat.{ℕ, zero, suc, _-_, _*_, _%_}
 use mathlib.Core.Bool.{Bool, true, false, cond, _&&_, _||_}
 use mathlib.Core.List.{List}
 use lib.Dec.{ltb, leb, eqb}
@@ -7,11 +7,13 @@ use lib.IntN.{pos, negℤ}
 use Rattle.mbus_rules.specs.Lists.{any}
 use Rattle.mbus_rules.specs.Digits.{overNine, digitsOf}
 use Rattle.mbus_rules.specs.Signs.{minus, signedOf, wrongSigned}
+use Rattle.mbus_rules.specs.Binary.{negative, binaryOf}
 use Rattle.mbus_rules.specs.Moments.{wrongMoment, momentOf}
-use Rattle.mbus_rules.specs.Quantities.{isPacked, time, unknown}
+use Rattle.mbus_rules.specs.Quantities.{isPacked, isBinary, time, unknown}
 use Rattle.bytes_numbers.specs.Numbers.{bytesOf}
 use Rattle.mbus_fields.specs.declared.digits.Packed.{Packed}
 use Rattle.mbus_fields.specs.declared.digits.Signed.{Signed}
+use Rattle.mbus_fields.specs.declared.binary.Coded.{Coded}
 use Rattle.mbus_fields.specs.declared.moments.Timed.{Timed}
 
 -- 01, "Header" and "Entry": packed BCD, low byte first.
@@ -37,10 +39,18 @@ signOn false size = record { wrong = size .wrong; falls = false; count = pos (si
 abbrev pub markedIn : ℕ → ℕ → Signed
 markedIn mark word = signOn (leb mark word) (packedOf (bytesOf 8 (cond (leb mark word) (word - mark) word)))
 
+-- 02, 2026-06: binary, and whether it is negative.
+abbrev pub codedOf : List ℕ → Coded
+codedOf b = record { falls = negative b; count = binaryOf b }
+
 -- 01, "Time, 6 bytes".
 abbrev pub timedOf : List ℕ → Timed
 timedOf b = record { wrong = wrongMoment b; moment = momentOf b }
 
--- 01, "Entry": structure 06 goes with time only, packed BCD with each other quantity.
+-- 01, "Entry": time goes with structure 06 only, packed BCD and binary with each other quantity.
 abbrev pub goesWith : ℕ → ℕ → Bool
-goesWith st q = cond (eqb q time) (eqb st 0x06) (isPacked st && ltb q unknown)
+goesWith st q = cond (eqb q time) (eqb st 0x06) ((isPacked st || isBinary st) && ltb q unknown)
+
+-- the width of a structure by its low three bits
+abbrev pub lowWidth : ℕ → ℕ
+lowWidth st = cond (eqb st 0x07) 8 (st % 8)

@@ -85,7 +85,7 @@ pub fn packed_in(word: u64) -> Packed
 }
 
 // F in the highest place of so many bytes, at most eight, and 1 of none, which no word of none reaches.
-fn mark_of(width: usize) -> u64
+pub(crate) fn mark_of(width: usize) -> u64
     ensures { λ r. ⌜ r ≡ markOf (min width 8) ⌝ }
 {
     if width == 4 {

@@ -1,4 +1,5 @@
-// The fields of a data telegram: packed digits, the table of quantities and structures, the point in time, the header.
+// The fields of a data telegram: packed digits, binary, the table of quantities and structures, the point in time, the header.
+pub mod binary;
 pub mod digits;
 pub mod headers;
 pub mod moments;

@@ -1,8 +1,9 @@
 // The table of quantities and structures.
 ghost use mathlib.Core.Path.{_≡_};
-ghost use Rattle.mbus_rules.specs.Quantities.{quantityOf, widthOf, isPacked, paired};
+ghost use mathlib.Core.Bool.{_||_};
+ghost use Rattle.mbus_rules.specs.Quantities.{quantityOf, widthOf, isPacked, isBinary, paired};
 ghost use Rattle.mbus_rules.specs.Entries.{mayFall};
-ghost use Rattle.mbus_fields.specs.Fields.{goesWith};
+ghost use Rattle.mbus_fields.specs.Fields.{goesWith, lowWidth};
 
 // The rows of the table in its order, and a number for a unit byte that is in no row.
 pub const ENERGY: u8 = 0;
@@ -21,7 +22,7 @@ pub const TIME: u8 = 6;
 
 pub const UNKNOWN: u8 = 7;
 
-// The unit byte of a time, and the structure that goes with it alone.
+// The unit byte of a time, and the structure that it goes with alone.
 pub const UNIT_OF_TIME: u8 = 0x6D;
 
 pub const POINT_IN_TIME: u8 = 0x06;
@@ -35,11 +36,24 @@ pub const EIGHT_DIGITS: u8 = 0x0C;
 
 pub const TWELVE_DIGITS: u8 = 0x0E;
 
+// The structures of binary. Six bytes are the point in time too.
+pub const ONE_BYTE: u8 = 0x01;
+
+pub const TWO_BYTES: u8 = 0x02;
+
+pub const THREE_BYTES: u8 = 0x03;
+
+pub const FOUR_BYTES: u8 = 0x04;
+
+pub const SIX_BYTES: u8 = 0x06;
+
+pub const EIGHT_BYTES: u8 = 0x07;
+
 // The row of the table that has the unit byte.
 pub fn quantity_of(unit: u8) -> u8
     ensures { λ r. ⌜ r ≡ quantityOf unit ⌝ }
 {
-    if (0x00 <= unit) & (unit <= 0x07) {
+    if (0x00 <= unit) & (unit <= 0x0F) {
         return ENERGY;
     }
     if (0x10 <= unit) & (unit <= 0x17) {
@@ -60,25 +74,6 @@ pub fn quantity_of(unit: u8) -> u8
     if unit == UNIT_OF_TIME { TIME } else { UNKNOWN }
 }
 
-// The bytes of a value of the structure, 0 for an unknown structure.
-pub fn width_of(structure: u8) -> usize
-    ensures { λ r. ⌜ r ≡ widthOf structure ⌝ }
-{
-    if structure == FOUR_DIGITS {
-        return 2;
-    }
-    if structure == SIX_DIGITS {
-        return 3;
-    }
-    if structure == EIGHT_DIGITS {
-        return 4;
-    }
-    if structure == TWELVE_DIGITS {
-        return 6;
-    }
-    if structure == POINT_IN_TIME { 6 } else { 0 }
-}
-
 // The structure is one of packed digits.
 pub fn is_packed(structure: u8) -> bool
     ensures { λ r. ⌜ r ≡ isPacked structure ⌝ }
@@ -89,7 +84,42 @@ pub fn is_packed(structure: u8) -> bool
         | (structure == TWELVE_DIGITS)
 }
 
-// The structure goes with the quantity: a point in time with time alone, packed digits with each other.
+// The structure is one of binary.
+pub fn is_binary(structure: u8) -> bool
+    ensures { λ r. ⌜ r ≡ isBinary structure ⌝ }
+{
+    (structure == ONE_BYTE)
+        | (structure == TWO_BYTES)
+        | (structure == THREE_BYTES)
+        | (structure == FOUR_BYTES)
+        | (structure == SIX_BYTES)
+        | (structure == EIGHT_BYTES)
+}
+
+// The low three bits of a structure are its width, but for that of eight bytes.
+pub fn low_width(structure: u8) -> usize
+    ensures { λ r. ⌜ r ≡ lowWidth structure ⌝ }
+{
+    if structure == EIGHT_BYTES {
+        return 8;
+    }
+    (structure % 8) as usize
+}
+
+// The bytes of a value of the structure, 0 for an unknown structure.
+pub fn width_of(structure: u8) -> usize
+    ensures { λ r. ⌜ r ≡ widthOf structure ⌝ }
+{
+    let packed = is_packed(structure);
+    let binary = is_binary(structure);
+    let known = packed | binary;
+    if known {
+        return low_width(structure);
+    }
+    0
+}
+
+// The structure goes with the quantity: a point in time with time, packed digits and binary with each other.
 pub fn goes_with(structure: u8, quantity: u8) -> bool
     ensures { λ r. ⌜ r ≡ goesWith structure quantity ⌝ }
 {
@@ -97,7 +127,11 @@ pub fn goes_with(structure: u8, quantity: u8) -> bool
         return structure == POINT_IN_TIME;
     }
     let packed = is_packed(structure);
-    packed & (quantity < UNKNOWN)
+    if packed {
+        return quantity < UNKNOWN;
+    }
+    let binary = is_binary(structure);
+    binary & (quantity < UNKNOWN)
 }
 
 // The structure goes with the unit.

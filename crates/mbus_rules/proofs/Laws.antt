@@ -19,6 +19,8 @@ pub mod ByteLaws
 pub mod DigitLaws
 pub mod Negation
 pub mod SignLaws
+pub mod NumberLaws
+pub mod BinaryLaws
 pub mod MomentLaws
 pub mod HeaderLaws
 pub mod Seven

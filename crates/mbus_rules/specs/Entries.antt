@@ -5,13 +5,14 @@ use mathlib.Core.List.{List, [], _∷_, _++_}
 use lib.Dec.{ltb, eqb}
 use lib.ListN.{length, take, drop}
 use Rattle.mbus_rules.specs.declared.Value.{Value}
-use Rattle.mbus_rules.specs.declared.Value.the-variants.{Number, Time}
+use Rattle.mbus_rules.specs.declared.Value.the-variants.{Number, Time, Binary}
 use Rattle.mbus_rules.specs.declared.Entry.{Entry}
 use Rattle.mbus_rules.specs.Lists.{at, any}
 use Rattle.mbus_rules.specs.Answers.{Answer, reads, refuse}
 use Rattle.mbus_rules.specs.Signs.{minus, signedOf, wrongSigned}
+use Rattle.mbus_rules.specs.Binary.{negative, binaryOf}
 use Rattle.mbus_rules.specs.Moments.{momentOf, wrongMoment}
-use Rattle.mbus_rules.specs.Quantities.{quantityOf, widthOf, paired, isTime, energy, volume, flow, inlet, outlet, time}
+use Rattle.mbus_rules.specs.Quantities.{quantityOf, widthOf, paired, isTime, isBinary, energy, volume, flow, inlet, outlet, time}
 
 -- Structure byte, unit byte, value low byte first: the value's bytes of the entry that the list begins with, and its whole width.
 abbrev pub valueBytes : List ℕ → List ℕ
@@ -20,27 +21,35 @@ valueBytes s = take (widthOf (at s 0)) (drop 2 s)
 abbrev pub entryWidth : List ℕ → ℕ
 entryWidth s = 2 + widthOf (at s 0)
 
--- The value is either a decimal number or a point in time.
-abbrev pub valueOf : ℕ → List ℕ → Value
-valueOf unit b = cond (isTime unit) (Time (momentOf b)) (Number (record { count = signedOf b }))
+-- The value is a decimal number, a number in binary (02, 2026-06) or a point in time.
+abbrev pub valueOf : ℕ → ℕ → List ℕ → Value
+valueOf st unit b =
+    cond (isTime unit) (Time (momentOf b)) (cond (isBinary st) (Binary (record { count = binaryOf b })) (Number (record { count = signedOf b })))
 
 abbrev pub entryOf : List ℕ → Entry
-entryOf s = record { structure = at s 0; unit = at s 1; value = valueOf (at s 1) (valueBytes s) }
+entryOf s = record { structure = at s 0; unit = at s 1; value = valueOf (at s 0) (at s 1) (valueBytes s) }
 
 -- 11: one byte left, unknown structure or unit, wrong pair, or value past the end
 abbrev pub unfit : List ℕ → Bool
 unfit s = ltb (length s) 2 || not (paired (at s 0) (at s 1)) || ltb (length s) (entryWidth s)
 
--- 02, 2026-07: a minus is allowed for inlet, outlet and flow, for no other quantity
+-- 02, 2026-07: a minus is allowed for inlet, outlet and flow, for no other quantity; 2026-06: these may be negative
 abbrev pub mayFall : ℕ → Bool
 mayFall unit = eqb (quantityOf unit) inlet || eqb (quantityOf unit) outlet || eqb (quantityOf unit) flow
 
 -- 12: a BCD digit over 9 in an entry; minus zero, or a minus where none is allowed (02, 2026-07)
-abbrev pub wrongNumber : ℕ → List ℕ → Bool
-wrongNumber unit b = not (isTime unit) && (wrongSigned b || minus b && not (mayFall unit))
+abbrev pub wrongPacked : ℕ → List ℕ → Bool
+wrongPacked unit b = wrongSigned b || minus b && not (mayFall unit)
+
+-- 12: a negative value where none is allowed (02, 2026-06)
+abbrev pub wrongBinary : ℕ → List ℕ → Bool
+wrongBinary unit b = negative b && not (mayFall unit)
+
+abbrev pub wrongNumber : ℕ → ℕ → List ℕ → Bool
+wrongNumber st unit b = not (isTime unit) && cond (isBinary st) (wrongBinary unit b) (wrongPacked unit b)
 
 abbrev pub wrongDigit : List ℕ → Bool
-wrongDigit s = wrongNumber (at s 1) (valueBytes s)
+wrongDigit s = wrongNumber (at s 0) (at s 1) (valueBytes s)
 
 -- 13: time rule broken
 abbrev pub wrongTime : List ℕ → Bool

@@ -4,6 +4,8 @@ pub mod Characters
 pub mod Answers
 pub mod Digits
 pub mod Signs
+pub mod Numbers
+pub mod Binary
 pub mod Moments
 pub mod Headers
 pub mod Quantities

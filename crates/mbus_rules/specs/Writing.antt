@@ -8,7 +8,7 @@ use Rattle.mbus_rules.specs.declared.Kind.{Kind}
 use Rattle.mbus_rules.specs.declared.Kind.the-variants.{Ack, Read, Enter, Leave, Data}
 use Rattle.mbus_rules.specs.declared.Moment.{Moment}
 use Rattle.mbus_rules.specs.declared.Value.{Value}
-use Rattle.mbus_rules.specs.declared.Value.the-variants.{Number, Time}
+use Rattle.mbus_rules.specs.declared.Value.the-variants.{Number, Time, Binary}
 use Rattle.mbus_rules.specs.declared.Entry.{Entry}
 use Rattle.mbus_rules.specs.declared.Header.{Header}
 use Rattle.mbus_rules.specs.declared.Telegram.{Telegram}
@@ -17,9 +17,10 @@ use Rattle.mbus_rules.specs.Characters.{carrier}
 use Rattle.mbus_rules.specs.Answers.{Answer, reads, refuse}
 use Rattle.mbus_rules.specs.Digits.{packed}
 use Rattle.mbus_rules.specs.Signs.{signedBytes, fitsSigned, belowZero, isZero}
+use Rattle.mbus_rules.specs.Binary.{binaryBytes, fitsBinary}
 use Rattle.mbus_rules.specs.Moments.{dateExists, timeExists, weekdayExists}
 use Rattle.mbus_rules.specs.Headers.{makerNamed, heatMeter}
-use Rattle.mbus_rules.specs.Quantities.{quantityOf, widthOf, paired, isTime}
+use Rattle.mbus_rules.specs.Quantities.{quantityOf, widthOf, paired, isTime, isBinary}
 use Rattle.mbus_rules.specs.Entries.{mayFall, seen, missing}
 use Rattle.mbus_rules.specs.Lines.{isMethod}
 
@@ -32,6 +33,7 @@ momentBytes m =
 abbrev pub bytesOfValue : ℕ → Value → List ℕ
 bytesOfValue width (Number d) = signedBytes width (d .count)
 bytesOfValue width (Time m) = momentBytes m
+bytesOfValue width (Binary w) = binaryBytes width (w .count)
 
 abbrev pub bytesOfEntry : Entry → List ℕ
 bytesOfEntry e = e .structure ∷ e .unit ∷ bytesOfValue (widthOf (e .structure)) (e .value)
@@ -72,12 +74,17 @@ bytesOfKind Data t = longFrame (0x08 ∷ t .address ∷ 0x72 ∷ (bytesOfHeader 
 unfoldable pub lineOf : Telegram → List ℕ
 lineOf t = map carrier (bytesOfKind (t .kind) t)
 
+-- 02, 2026-06: the longest line has 89 characters
+abbrev pub longest : ℕ
+longest = 89
+
 -- ---- 20: no accepted line reads as this telegram. The test that the writer computes:
 
 -- something is where this kind has nothing
 abbrev pub usedValue : Value → Bool
 usedValue (Number d) = not (isZero (d .count))
 usedValue (Time m) = true
+usedValue (Binary w) = true
 
 abbrev pub usedEntry : Entry → Bool
 usedEntry e = ltb 0 (e .structure) || ltb 0 (e .unit) || usedValue (e .value)
@@ -89,13 +96,17 @@ usedHeader h =
 abbrev pub usedBody : Telegram → Bool
 usedBody t = usedHeader (t .header) || ltb 0 (t .count) || any usedEntry (t .entries)
 
--- a value of the wrong kind for its unit, too long for its structure, below zero where none is allowed, or a point in time that does not exist
+-- a value of the wrong kind for its unit or its structure, too long for its structure, below zero where none is allowed, or a point in time that
+-- does not exist
 abbrev pub wrongValue : ℕ → ℕ → Value → Bool
-wrongValue width unit (Number d) = isTime unit || not (fitsSigned width (d .count)) || belowZero (d .count) && not (mayFall unit)
-wrongValue width unit (Time m) = not (isTime unit) || not (dateExists m) || not (timeExists m) || not (weekdayExists m)
+wrongValue st unit (Number d) =
+    isTime unit || isBinary st || not (fitsSigned (widthOf st) (d .count)) || belowZero (d .count) && not (mayFall unit)
+wrongValue st unit (Binary w) =
+    isTime unit || not (isBinary st) || not (fitsBinary (widthOf st) (w .count)) || belowZero (w .count) && not (mayFall unit)
+wrongValue st unit (Time m) = not (isTime unit) || not (dateExists m) || not (timeExists m) || not (weekdayExists m)
 
 abbrev pub wrongEntry : Entry → Bool
-wrongEntry e = not (paired (e .structure) (e .unit)) || wrongValue (widthOf (e .structure)) (e .unit) (e .value)
+wrongEntry e = not (paired (e .structure) (e .unit)) || wrongValue (e .structure) (e .unit) (e .value)
 
 abbrev pub unwrittenHeader : Header → Bool
 unwrittenHeader h = not (ltb (h .number) 100000000) || not (makerNamed (h .maker)) || not (heatMeter (h .«meter_type»))

@@ -14,6 +14,11 @@ pub struct Decimal {
     pub count: i64,
 }
 
+// A number in binary.
+pub struct Whole {
+    pub count: i64,
+}
+
 // A point in time. Year 0 to 99 means 2000 to 2099; weekday 1 is Monday and 7 Sunday, 0 is not said.
 pub struct Moment {
     pub year: u8,
@@ -25,10 +30,11 @@ pub struct Moment {
     pub weekday: u8,
 }
 
-// An entry's value.
+// An entry's value: a number keeps whether it came as digits or as binary.
 pub enum Value {
     Number(Decimal),
     Time(Moment),
+    Binary(Whole),
 }
 
 pub struct Entry {

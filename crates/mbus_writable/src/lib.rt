@@ -4,10 +4,12 @@ ghost use lib.ListN.{take, drop};
 ghost use Prim.Native.Nat.{_^_, _≤_};
 ghost use Rattle.mbus_rules.specs.Lists.{any};
 ghost use mathlib.Core.Bool.{not};
-ghost use Rattle.mbus_rules.specs.Quantities.{widthOf};
+ghost use mathlib.Core.Bool.{false};
+ghost use Rattle.mbus_rules.specs.Quantities.{widthOf, isBinary};
 ghost use Rattle.mbus_rules.specs.Signs.{fitsSigned};
 ghost use Rattle.mbus_rules.specs.Writing.{usedValue, usedEntry, usedHeader, usedBody, wrongValue, wrongEntry, unwrittenHeader, wrongData, unwritable};
 ghost use Rattle.mbus_writable.specs.Together.{wrongTogether};
+use mbus_fields::binary::fits_binary;
 use mbus_fields::digits::is_below_zero;
 use mbus_fields::digits::size_of;
 use mbus_fields::headers::heat_meter;
@@ -17,10 +19,10 @@ use mbus_fields::moments::time_exists;
 use mbus_fields::moments::weekday_exists;
 use mbus_fields::quantities::EIGHT_DIGITS;
 use mbus_fields::quantities::FOUR_DIGITS;
-use mbus_fields::quantities::POINT_IN_TIME;
 use mbus_fields::quantities::SIX_DIGITS;
 use mbus_fields::quantities::TWELVE_DIGITS;
 use mbus_fields::quantities::UNIT_OF_TIME;
+use mbus_fields::quantities::is_binary;
 use mbus_fields::quantities::is_paired;
 use mbus_fields::quantities::may_fall;
 use mbus_fields::quantities::quantity_of;
@@ -39,6 +41,7 @@ fn used_value(value: Value) -> bool
     match value {
         Value::Number(d) => 0 < size_of(d.count),
         Value::Time(_) => true,
+        Value::Binary(_) => true,
     }
 }
 
@@ -89,6 +92,7 @@ fn used_body(t: Telegram) -> bool
 
 // One more than the greatest number that the structure has digits for.
 fn limit_of(structure: u8) -> u64
+    requires { ⌜ isBinary structure ≡ false ⌝ }
     ensures { λ r. ⌜ r ≡ 100 ^ widthOf structure ⌝ }
 {
     if structure == FOUR_DIGITS {
@@ -101,9 +105,6 @@ fn limit_of(structure: u8) -> u64
         return 100000000;
     }
     if structure == TWELVE_DIGITS {
-        return 1000000000000;
-    }
-    if structure == POINT_IN_TIME {
         1000000000000
     } else {
         1
@@ -112,6 +113,7 @@ fn limit_of(structure: u8) -> u64
 
 // The number has more digits than the structure has places, of which a sign takes one.
 fn is_long(structure: u8, count: i64) -> bool
+    requires { ⌜ isBinary structure ≡ false ⌝ }
     ensures { λ r. ⌜ r ≡ not (fitsSigned (widthOf structure) count) ⌝ }
 {
     let limit = limit_of(structure);
@@ -123,17 +125,27 @@ fn is_long(structure: u8, count: i64) -> bool
     !(size < limit)
 }
 
-// A value of the wrong kind for its unit, too long for its structure, below zero where none is allowed, or a point in time that does
-// not exist.
+// A value of the wrong kind for its unit or its structure, too long for its structure, below zero where none is allowed, or a point in
+// time that does not exist.
 fn wrong_value(structure: u8, unit: u8, value: Value) -> bool
-    ensures { λ r. ⌜ r ≡ wrongValue (widthOf structure) unit value ⌝ }
+    ensures { λ r. ⌜ r ≡ wrongValue structure unit value ⌝ }
 {
+    let binary = is_binary(structure);
     match value {
         Value::Number(d) => {
+            if binary {
+                return true;
+            }
             let long = is_long(structure, d.count);
             let below = is_below_zero(d.count);
             let may = may_fall(unit);
             (unit == UNIT_OF_TIME) | long | (below & !may)
+        }
+        Value::Binary(w) => {
+            let fits = fits_binary(width_of(structure), w.count);
+            let below = is_below_zero(w.count);
+            let may = may_fall(unit);
+            (unit == UNIT_OF_TIME) | !binary | !fits | (below & !may)
         }
         Value::Time(m) => {
             let date = date_exists(m);

@@ -3,18 +3,20 @@ use Prim.Native.Nat.{ℕ, _+_, _-_, _%_, _≤_}
 use mathlib.Core.Bool.{Bool, true, false, cond, _&&_}
 use mathlib.Core.List.{List, [], _∷_, _++_}
 use mathlib.Core.Path.{_≡_}
+use lib.Dec.{leb}
 use lib.IntN.{ℤ, natAbs}
 use lib.ListN.{length, take, drop, set}
 use Rattle.bytes_lent.specs.Copying.{laid}
 use Rattle.mbus_rules.specs.declared.Value.{Value}
-use Rattle.mbus_rules.specs.declared.Value.the-variants.{Number, Time}
+use Rattle.mbus_rules.specs.declared.Value.the-variants.{Number, Time, Binary}
 use Rattle.mbus_rules.specs.declared.Entry.{Entry}
 use Rattle.mbus_rules.specs.declared.Telegram.{Telegram}
 use Rattle.mbus_rules.specs.Lists.{at, any, total}
 use Rattle.mbus_rules.specs.Digits.{packed}
 use Rattle.mbus_rules.specs.Signs.{belowZero, fitsSigned}
+use Rattle.mbus_rules.specs.Binary.{binaryBytes}
 use Rattle.mbus_rules.specs.Moments.{dateExists, timeExists, weekdayExists}
-use Rattle.mbus_rules.specs.Writing.{momentBytes, bytesOfEntry, bytesOfEntries, wrongEntry, wrongData}
+use Rattle.mbus_rules.specs.Writing.{momentBytes, bytesOfEntry, bytesOfEntries, longest, wrongEntry, wrongData}
 
 -- six bytes with F in the highest place of so many
 abbrev pub markedAt : ℕ → List ℕ → List ℕ
@@ -24,20 +26,22 @@ markedAt width b = set b (width - 1) (0xF0 + at b (width - 1) % 16)
 abbrev pub signedSix : ℕ → ℤ → List ℕ
 signedSix width z = cond (belowZero z) (markedAt width (packed 6 (natAbs z))) (packed 6 (natAbs z))
 
--- a value in six bytes, of which so many count, and what it takes to write it so
-abbrev pub sixBytes : ℕ → Value → List ℕ
-sixBytes width (Number d) = signedSix width (d .count)
-sixBytes width (Time m) = momentBytes m
+-- a value in eight bytes, of which so many count, and what it takes to write it so
+abbrev pub eightBytes : ℕ → Value → List ℕ
+eightBytes width (Number d) = signedSix width (d .count) ++ (0 ∷ 0 ∷ [])
+eightBytes width (Time m) = momentBytes m ++ (0 ∷ 0 ∷ [])
+eightBytes width (Binary w) = binaryBytes 8 (w .count)
 
 abbrev pub exists : ℕ → Value → Bool
-exists width (Number d) = fitsSigned width (d .count)
+exists width (Number d) = leb width 6 && fitsSigned width (d .count)
 exists width (Time m) = dateExists m && timeExists m && weekdayExists m
+exists width (Binary w) = true
 
 -- what laying one entry asks, and what it gives
 pub record EntryFits (e : Entry) (before : List ℕ) (at : ℕ) : Type 0 where
   pub right : wrongEntry e ≡ false
-  pub room : at + length (bytesOfEntry e) ≤ 75
-  pub size : length before ≡ 77
+  pub room : at + length (bytesOfEntry e) + 2 ≤ longest
+  pub size : length before ≡ longest
 
 pub record EntryLaid (e : Entry) (before after : List ℕ) (at next : ℕ) : Type 0 where
   pub bytes : after ≡ laid before at (bytesOfEntry e)
@@ -47,7 +51,8 @@ pub record EntryLaid (e : Entry) (before after : List ℕ) (at next : ℕ) : Typ
 pub record EntriesFit (entries : List Entry) (count : ℕ) (before : List ℕ) : Type 0 where
   pub few : count ≤ 7
   pub right : any wrongEntry (take count entries) ≡ false
-  pub room : length before ≡ 77
+  pub most : 19 + length (bytesOfEntries (take count entries)) + 2 ≤ longest
+  pub room : length before ≡ longest
 
 pub record EntriesLaid (es : List Entry) (before after : List ℕ) (end : ℕ) : Type 0 where
   pub bytes : after ≡ laid before 19 (bytesOfEntries es)
@@ -68,4 +73,4 @@ pub record BytesLaid (s after : List ℕ) (count : ℕ) : Type 0 where
 -- what a data telegram's bytes ask
 pub record DataFits (t : Telegram) (before : List ℕ) : Type 0 where
   pub right : wrongData t ≡ false
-  pub room : length before ≡ 77
+  pub room : length before ≡ longest

@@ -7,13 +7,15 @@ ghost use lib.ListN.{length, take, drop};
 ghost use Rattle.mbus_rules.specs.Characters.{carrier};
 ghost use Rattle.mbus_rules.specs.Digits.{packed};
 ghost use Rattle.mbus_rules.specs.Signs.{fitsSigned};
+ghost use Rattle.mbus_rules.specs.Binary.{binaryBytes};
 ghost use Rattle.mbus_rules.specs.Quantities.{widthOf};
 ghost use Rattle.mbus_rules.specs.Moments.{dateExists, timeExists, weekdayExists};
-ghost use Rattle.mbus_rules.specs.Writing.{momentBytes, bytesOfHeader, shortFrame, longFrame, bytesOfKind, unwritable};
+ghost use Rattle.mbus_rules.specs.Writing.{momentBytes, bytesOfHeader, shortFrame, longFrame, bytesOfKind, longest, unwritable};
 ghost use Rattle.bytes_lent.specs.Copying.{laid};
-ghost use Rattle.mbus_writing.specs.Laying.{signedSix, sixBytes, exists, EntryFits, EntryLaid, EntriesFit, EntriesLaid};
+ghost use Rattle.mbus_writing.specs.Laying.{signedSix, eightBytes, exists, EntryFits, EntryLaid, EntriesFit, EntriesLaid};
 ghost use Rattle.mbus_writing.specs.Laying.{FrameClosed, BytesLaid, DataFits};
 use bytes_lent::lay;
+use bytes_numbers::bytes_of;
 use mbus_characters::sum_of;
 use mbus_fields::digits::is_below_zero;
 use mbus_fields::digits::size_of;
@@ -68,25 +70,56 @@ fn signed_six(width: usize, count: i64) -> [u8; 6]
     b
 }
 
-// The value in six bytes, of which the width says how many count.
-fn value_bytes(width: usize, value: Value) -> [u8; 6]
-    requires { ⌜ (exists width value ≡ true) × (width ≤ 6) ⌝ }
-    ensures { λ r. ⌜ r ≡ sixBytes width value ⌝ }
+// Six bytes, and two more that do not count.
+fn widened(b: [u8; 6]) -> [u8; 8]
+    ensures { λ r. ⌜ r ≡ b ++ (0 ∷ 0 ∷ []) ⌝ }
+{
+    [b[0], b[1], b[2], b[3], b[4], b[5], 0, 0]
+}
+
+// The number in eight bytes of binary: the lowest of them are the number in so many.
+fn binary_eight(count: i64) -> [u8; 8]
+    ensures { λ r. ⌜ r ≡ binaryBytes 8 count ⌝ }
+{
+    let below = is_below_zero(count);
+    let size = size_of(count);
+    if below {
+        return bytes_of(0xFFFF_FFFF_FFFF_FFFF - (size - 1));
+    }
+    bytes_of(size)
+}
+
+// The value in eight bytes, of which the width says how many count.
+fn value_bytes(width: usize, value: Value) -> [u8; 8]
+    requires { ⌜ exists width value ≡ true ⌝ }
+    ensures { λ r. ⌜ r ≡ eightBytes width value ⌝ }
 {
     match value {
-        Value::Number(d) => signed_six(width, d.count),
-        Value::Time(m) => moment_bytes(m),
+        Value::Number(d) => widened(signed_six(width, d.count)),
+        Value::Time(m) => widened(moment_bytes(m)),
+        Value::Binary(w) => binary_eight(w.count),
     }
 }
 
-fn entry_bytes(e: Entry) -> [u8; 8]
-    requires { ⌜ (exists (widthOf (e .structure)) (e .value) ≡ true) × (widthOf (e .structure) ≤ 6) ⌝ }
-    ensures { λ r. ⌜ r ≡ e .structure ∷ e .unit ∷ sixBytes (widthOf (e .structure)) (e .value) ⌝ }
+fn entry_bytes(e: Entry) -> [u8; 10]
+    requires { ⌜ exists (widthOf (e .structure)) (e .value) ≡ true ⌝ }
+    ensures { λ r. ⌜ r ≡ e .structure ∷ e .unit ∷ eightBytes (widthOf (e .structure)) (e .value) ⌝ }
 {
     let value = e.value;
     let width = width_of(e.structure);
     let b = value_bytes(width, value);
-    [e.structure, e.unit, b[0], b[1], b[2], b[3], b[4], b[5]]
+    [
+        e.structure,
+        e.unit,
+        b[0],
+        b[1],
+        b[2],
+        b[3],
+        b[4],
+        b[5],
+        b[6],
+        b[7],
+    ]
 }
 
 // The start of a data line, up to its entries.
@@ -151,7 +184,7 @@ fn put_entries(entries: [Entry; 7], count: usize, bytes: &mut [u8]) -> usize
 
 // Closes a frame: the sum of the bytes from a place up to the end, then 16. Answers the place after them.
 fn close(bytes: &mut [u8], from: usize, end: usize) -> usize
-    requires { ⌜ (from ≤ end) × (end ≤ 75) × (length (now bytes) ≡ 77) ⌝ }
+    requires { ⌜ (from ≤ end) × (end + 2 ≤ longest) × (length (now bytes) ≡ longest) ⌝ }
     ensures { λ r. ⌜ FrameClosed (now (bytes .entry)) (now (bytes .exit)) from end r ⌝ }
 {
     let sum = sum_of(&bytes[from..end]);
@@ -160,7 +193,7 @@ fn close(bytes: &mut [u8], from: usize, end: usize) -> usize
 }
 
 fn put_read(address: u8, bytes: &mut [u8]) -> usize
-    requires { ⌜ length (now bytes) ≡ 77 ⌝ }
+    requires { ⌜ length (now bytes) ≡ longest ⌝ }
     ensures { λ r. ⌜ BytesLaid (shortFrame (0x5B ∷ address ∷ [])) (now (bytes .exit)) r ⌝ }
 {
     lay(bytes, 0, &[0x10, 0x5B, address]);
@@ -168,7 +201,7 @@ fn put_read(address: u8, bytes: &mut [u8]) -> usize
 }
 
 fn put_command(address: u8, method: u8, bytes: &mut [u8]) -> usize
-    requires { ⌜ length (now bytes) ≡ 77 ⌝ }
+    requires { ⌜ length (now bytes) ≡ longest ⌝ }
     ensures { λ r. ⌜ BytesLaid (longFrame (0x53 ∷ address ∷ 0x50 ∷ method ∷ [])) (now (bytes .exit)) r ⌝ }
 {
     lay(bytes, 0, &[0x68, 4, 4, 0x68, 0x53, address, 0x50, method]);
@@ -189,7 +222,7 @@ fn put_data(t: Telegram, bytes: &mut [u8]) -> usize
 
 // Puts the bytes of a telegram in the first places, and answers how many they are.
 pub(crate) fn put_bytes(t: Telegram, bytes: &mut [u8]) -> usize
-    requires { ⌜ (unwritable t ≡ false) × (length (now bytes) ≡ 77) ⌝ }
+    requires { ⌜ (unwritable t ≡ false) × (length (now bytes) ≡ longest) ⌝ }
     ensures { λ r. ⌜ BytesLaid (bytesOfKind (t .kind) t) (now (bytes .exit)) r ⌝ }
 {
     let kind = t.kind;

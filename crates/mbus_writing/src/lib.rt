@@ -7,6 +7,9 @@ use bytes::put_bytes;
 use mbus_rules::Telegram;
 use mbus_writable::is_unwritable;
 
+// The characters of the longest line.
+pub const LONGEST: usize = 89;
+
 // The characters written, or the number of a refusal.
 pub enum Written {
     Length(usize),
@@ -22,7 +25,7 @@ pub fn write_line(telegram: Telegram, out: &mut [u16]) -> Written
     if unwritable {
         return Written::Refused(20);
     }
-    let mut bytes = [0u8; 77];
+    let mut bytes = [0u8; LONGEST];
     let count = put_bytes(telegram, &mut bytes);
     if out.len() < count {
         return Written::Refused(21);

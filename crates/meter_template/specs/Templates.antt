@@ -7,7 +7,7 @@ use lib.IntN.{pos, natAbs}
 use Rattle.mbus_rules.specs.declared.Kind.{Kind}
 use Rattle.mbus_rules.specs.declared.Kind.the-variants as kinds
 use Rattle.mbus_rules.specs.declared.Value.{Value}
-use Rattle.mbus_rules.specs.declared.Value.the-variants.{Number, Time}
+use Rattle.mbus_rules.specs.declared.Value.the-variants.{Number, Time, Binary}
 use Rattle.mbus_rules.specs.declared.Entry.{Entry}
 use Rattle.mbus_rules.specs.declared.Header.{Header}
 use Rattle.mbus_rules.specs.declared.Telegram.{Telegram}
@@ -42,10 +42,11 @@ unfitTemplate t = not (isDataKind (t .kind)) || unwritable t || lacks energy (t 
 
 -- ---- its totals
 
--- energy and volume are never below zero
+-- energy and volume are never below zero; structure 0C holds digits, and nothing else is a total
 abbrev pub valueCount : Value → ℕ
 valueCount (Number d) = natAbs (d .count)
 valueCount (Time m) = 0
+valueCount (Binary w) = 0
 
 -- the total of a quantity: a count of its entry's last digit
 unfoldable pub totalIn : ℕ → List Entry → ℕ

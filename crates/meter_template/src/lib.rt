@@ -89,6 +89,7 @@ fn count_of(value: Value) -> u64
     match value {
         Value::Number(d) => size_of(d.count),
         Value::Time(_) => 0,
+        Value::Binary(_) => 0,
     }
 }
 

@@ -8,16 +8,17 @@ use Rattle.mbus_rules.specs.declared.Entry.{Entry}
 use Rattle.mbus_rules.specs.declared.Moment.{Moment}
 use Rattle.mbus_rules.specs.declared.Telegram.{Telegram}
 use Rattle.mbus_rules.specs.declared.Value.{Value}
-use Rattle.mbus_rules.specs.declared.Value.the-variants.{Number, Time}
+use Rattle.mbus_rules.specs.declared.Value.the-variants.{Number, Time, Binary}
 use Rattle.mbus_rules.specs.Lines.{readLine}
 use Rattle.mbus_rules.specs.Moments.{momentOf}
 use Rattle.mbus_rules.specs.Quantities.{quantityOf, volume, time}
 use Rattle.mbus_rules.specs.Telegrams.{blankEntry, shown}
 
--- A volume's value is a count of its last digit, and never below zero; a point in time is none.
+-- A volume's value is a count of its last digit, or a number in binary (2026-06), and never below zero; a point in time is none.
 abbrev pub volumeCount : Value → ℕ
 volumeCount (Number d) = natAbs (d .count)
 volumeCount (Time m) = 0
+volumeCount (Binary w) = natAbs (w .count)
 
 -- The volume in millilitres of an entry: the unit bytes 10 to 17 are 10^(n−6) m³, which are 10^n ml, n being the low three bits.
 unfoldable pub millilitres : Entry → ℕ
@@ -30,6 +31,7 @@ noMoment = momentOf []
 abbrev pub momentIn : Value → Moment
 momentIn (Number d) = noMoment
 momentIn (Time m) = m
+momentIn (Binary w) = noMoment
 
 -- the entry that has the quantity; each comes at most once
 unfoldable pub entryWith : ℕ → List Entry → Entry

@@ -35,6 +35,7 @@ fn volume_count(value: Value) -> u64
     match value {
         Value::Number(d) => size_of(d.count),
         Value::Time(_) => 0,
+        Value::Binary(w) => size_of(w.count),
     }
 }
 
@@ -75,6 +76,7 @@ fn moment_in(value: Value) -> Moment
     match value {
         Value::Number(_) => moment_of(b""),
         Value::Time(m) => m,
+        Value::Binary(_) => moment_of(b""),
     }
 }
 

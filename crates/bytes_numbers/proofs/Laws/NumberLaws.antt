@@ -9,6 +9,8 @@ use lib.ListN.{length, getD, take, drop, length-drop, drop-of-length-le}
 use lib.Seq.{take-nil, take-all}
 use Rattle.bytes_numbers.specs.Numbers.{number, bytesOf, Numbered}
 use Rattle.bytes_numbers.proofs.Laws.Numbers.{length-bytes, number-at}
+use Rattle.mbus_rules.proofs.Laws.ByteLaws.{bytes-each}
+use Rattle.mbus_rules.proofs.Laws.NumberLaws.{bytes-number}
 
 -- bytes are below 256
 abbrev pub Bytes : List ℕ → Type 0
@@ -129,9 +131,4 @@ number-written (suc k) n = rw (number-written k (n / 256), pow-succ') (rest-by-b
 
 -- bytes are those that are written for their number
 pub bytes-read : (s : List ℕ) → Bytes s → bytesOf (length s) (number s) ≡ s
-unfolding number bytesOf
-bytes-read [] h = refl
-bytes-read (b ∷ s) h =
-    let low : (b + 256 * number s) % 256 ≡ b = omega (arith, h 0) in
-    let high : (b + 256 * number s) / 256 ≡ number s = omega (arith, h 0) in
-    rw (low, high) (ap (λ (r : List ℕ). b ∷ r) (bytes-read s (λ i. h (suc i))))
+bytes-read s h = bytes-number s (bytes-each s h)

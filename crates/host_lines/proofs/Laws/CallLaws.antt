@@ -15,7 +15,7 @@ use Rattle.mbus_rules.specs.Answers.{Answer, reads, refusal, refuse, within}
 use Rattle.mbus_rules.specs.Lines.{readLine}
 use Rattle.mbus_rules.proofs.Laws.RoundTrip.{longest-line}
 use Rattle.mbus_rules.specs.Telegrams.{bare, shown}
-use Rattle.mbus_rules.specs.Writing.{lineOf, unwritable, writeLine}
+use Rattle.mbus_rules.specs.Writing.{lineOf, unwritable, writeLine, longest}
 use Rattle.mbus_writing.specs.declared.Written.{Written}
 use Rattle.mbus_writing.specs.declared.Written.the-variants as writtens
 use Rattle.mbus_writing.specs.Answering as answering
@@ -85,14 +85,14 @@ module _ (t : Telegram) {out after : List ℕ} {w : Written} (l : answering.Writ
   pub line-written : {n : ℕ} → w ≡ writtens.Length n → Line (writeLine t (length out)) out after n
   line-written f = record { answer = write-length (writeLine t (length out)) (l .answer) f; left = l .places }
 
--- no line is longer than 77
+-- no line is longer than the longest
 few : (t : Telegram) (u v : Bool) → unwritable t ≡ u → {w : Written} {n : ℕ} → w ≡ answering.shownWritten
-    (within length (refuse 20 u (refuse 21 v (reads (lineOf t))))) → w ≡ writtens.Length n → n ≤ 77
+    (within length (refuse 20 u (refuse 21 v (reads (lineOf t))))) → w ≡ writtens.Length n → n ≤ longest
 few t true v g e f = let z : _≡_ {A = ℕ} 0 1 = cc in absurd (omega arith)
 few t false true g e f = let z : _≡_ {A = ℕ} 0 1 = cc in absurd (omega arith)
 few t false false g {w} {n} e f = let same : length (lineOf t) ≡ n = cc in rw (← same) (longest-line t g)
 
-pub written-few : (t : Telegram) {out after : List ℕ} {w : Written} {n : ℕ} → answering.WritesLine t out after w → w ≡ writtens.Length n → n ≤ 77
+pub written-few : (t : Telegram) {out after : List ℕ} {w : Written} {n : ℕ} → answering.WritesLine t out after w → w ≡ writtens.Length n → n ≤ longest
 written-few t {out} l f = few t (unwritable t) (ltb (length out) (length (lineOf t))) refl (l .answer) f
 
 module _ (b out : List ℕ) {s : Reading} (e : s ≡ shown (telegramFrom b)) where

@@ -10,7 +10,7 @@ use mir.Syntax.{w64}
 use mir.Val.{SFits, ofZ}
 use mir.ValLaws.{ofZ-fits, toZ-ofZ}
 use Rattle.mbus_rules.specs.declared.Value.{Value}
-use Rattle.mbus_rules.specs.declared.Value.the-variants.{Number, Time}
+use Rattle.mbus_rules.specs.declared.Value.the-variants.{Number, Time, Binary}
 use Rattle.mbus_rules.specs.declared.Moment.{Moment}
 use Rattle.mbus_rules.specs.declared.Entry.{Entry}
 use Rattle.mbus_rules.specs.declared.Telegram.{Telegram}
@@ -32,6 +32,7 @@ value-length : (v : Value) → length (valueRecord v) ≡ 8
 unfolding bytesOf
 value-length (Number d) = refl
 value-length (Time m) = refl
+value-length (Binary w) = refl
 
 pub entry-length : (e : Entry) → length (entryBytes e) ≡ 16
 entry-length e = omega (arith, value-length (e .value))
@@ -59,6 +60,7 @@ moment-word m {w} y mo d h mi s wd e =
 abbrev pub ValueFits : Value → Type 0
 ValueFits (Number d) = SFits w64 (d .count)
 ValueFits (Time m) = Unit {0}
+ValueFits (Binary w) = SFits w64 (w .count)
 
 unfoldable pub EntriesFit : List Entry → Type 0
 EntriesFit [] = Unit {0}
@@ -81,6 +83,7 @@ value-read : (a b : ℕ) (v : Value) → ValueFits v → entryIn (entryBytes (re
 unfolding bytesOf entryIn
 value-read a b (Number d) h = rw (number-bytes 8 (ofZ w64 (d .count)) (word-small (d .count) h), toZ-ofZ w64 (d .count) h)
 value-read a b (Time m) h = refl
+value-read a b (Binary w) h = rw (number-bytes 8 (ofZ w64 (w .count)) (word-small (w .count) h), toZ-ofZ w64 (w .count) h)
 
 entries-read : (es : List Entry) → EntriesFit es → entriesIn (length es) (entriesBytes es) ≡ es
 unfolding entriesIn EntriesFit
@@ -121,6 +124,7 @@ pub value-listed : (v : Value)
 unfolding bytesOf
 value-listed (Number d) = refl
 value-listed (Time m) = refl
+value-listed (Binary w) = refl
 
 pub entries-listed : (b : List ℕ)
     → entryAt b 0 ∷ entryAt b 16 ∷ entryAt b 32 ∷ entryAt b 48 ∷ entryAt b 64 ∷ entryAt b 80 ∷ entryAt b 96 ∷ [] ≡ entriesIn 7 b

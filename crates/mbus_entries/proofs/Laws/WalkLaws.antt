@@ -47,7 +47,7 @@ entries-step b s done marks link = entries-next b s done ∙ rw link (sym (simp 
 -- what is known of an entry that is read
 pub record Next (s : List ℕ) (so-far : List Bool) (t : Taken) : Type 0 where
   pub inside : 2 + t .width ≤ length s
-  pub narrow : t .width ≤ 6
+  pub narrow : t .width ≤ 8
   pub marks : t .quantity ≡ quantityOf (t .entry .unit)
   pub known : quantityOf (t .entry .unit) < 7
   pub new : getD so-far (quantityOf (t .entry .unit)) false ≡ false
@@ -172,7 +172,7 @@ rest-cut rest at = take-all (length rest - at) (drop at rest) (omega (arith, len
 pub record Turn (rest : List ℕ) (at count : ℕ) (marks : List Bool) (entries : List Entry) (q v : ℕ) (x : Entry) : Type 0 where
   pub below : count < 7
   pub few : q < 8
-  pub narrow : v ≤ 6
+  pub narrow : v ≤ 8
   pub inside : at + (2 + v) ≤ length rest
   pub next : Walked rest (at + (2 + v)) (count + 1) (set marks q true) (set entries count x)
 

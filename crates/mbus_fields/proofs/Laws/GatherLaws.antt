@@ -10,14 +10,10 @@ use lib.ListN.{length, take, length-take}
 use lib.Seq.{take-all}
 use Rattle.mbus_rules.specs.Lists.{at, any}
 use Rattle.mbus_rules.specs.Bytes.{Bytes}
-use Rattle.mbus_rules.proofs.Laws.ByteLaws.{bytes-take}
+use Rattle.mbus_rules.proofs.Laws.ByteLaws.{bytes-each, bytes-take}
 use Rattle.mbus_rules.specs.Digits.{overNine, digitsOf}
 use Rattle.bytes_numbers.specs.Numbers.{number, bytesOf}
 use Rattle.mbus_fields.specs.Fields.{packedOf}
-
-pub bytes-known : (s : List ℕ) → ((i : ℕ) → at s i < 256) → Bytes s
-bytes-known [] h = tt
-bytes-known (b ∷ s) h = (h 0, bytes-known s (λ i. h (suc i)))
 
 -- ---- the word
 
@@ -59,7 +55,7 @@ pub word-whole : (s : List ℕ) → Bytes s → length s ≤ 8 → packedOf (byt
 word-whole s b l = λ i. record { wrong = word-tested 8 s b l i; count = word-counted 8 s b l i }
 
 pub word-packed : (k : ℕ) (s : List ℕ) → ((i : ℕ) → at s i < 256) → k ≤ 8 → packedOf (bytesOf 8 (number (take k s))) ≡ packedOf (take k s)
-word-packed k s h m = word-whole (take k s) (bytes-take k s (bytes-known s h)) (omega (arith, length-take k s))
+word-packed k s h m = word-whole (take k s) (bytes-take k s (bytes-each s h)) (omega (arith, length-take k s))
 
 -- ---- the meter number, four bytes
 
@@ -74,5 +70,5 @@ digits-most (b ∷ s) h = rw (pow-suc 100 (length s)) (digit-step (digitsOf s) b
 
 pub number-fits : (part : List ℕ) → ((i : ℕ) → at part i < 256) → 3 * digitsOf (take 4 part) + 5 ≤ 5 * 100 ^ 4
 number-fits part h =
-    le-trans (digits-most (take 4 part) (bytes-take 4 part (bytes-known part h)))
+    le-trans (digits-most (take 4 part) (bytes-take 4 part (bytes-each part h)))
     (mul-le-mul-left 5 (pow-le-pow-right (lit< tt) {j = 4} (omega (arith, length-take 4 part))))

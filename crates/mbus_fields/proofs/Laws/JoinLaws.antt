@@ -1,6 +1,6 @@
 -- Digits joined in a word, all lanes at once: where a lane holds a low and a high half of k bits, taking c times the high half off the
 -- whole leaves m times the high half upon the low one, m + c being 2 ^ k.
-use Prim.Native.Nat.{ℕ, zero, suc, _+_, _*_, _-_, _/_, _%_, _^_, _≤_, _<_}
+use Prim.Native.Nat.{ℕ, _+_, _*_, _-_, _/_, _%_, _^_, _≤_, _<_}
 use mathlib.Core.List.{List, [], _∷_, map}
 use mathlib.Core.Path.{_≡_, refl, sym, ap, ap₂, subst, subst⁻¹, _∙_}
 use native.Mathlib.Nat.{add-zero, zero-mul, one-mul, mul-add, add-mul, mul-comm}
@@ -11,6 +11,7 @@ use lib.Pow.{pow-add, pow-pos}
 use Rattle.mbus_rules.specs.Lists.{at}
 use Rattle.mbus_rules.specs.Bytes.{Bytes}
 use Rattle.mbus_rules.proofs.Laws.ByteLaws.{spelled, spell-whole}
+use Rattle.mbus_rules.proofs.Laws.NumberLaws.{bytes-bytes}
 use Rattle.mbus_rules.specs.Digits.{digitsOf}
 use Rattle.bytes_numbers.specs.Numbers.{number, bytesOf}
 use Rattle.bytes_numbers.proofs.Laws.Numbers.{number-bytes, length-bytes}
@@ -190,11 +191,6 @@ joins b0 b1 b2 b3 b4 b5 b6 b7 h w t f e q et ef ee =
       so = last (pair b0) (pair b1) (pair b2) (pair b3) (pair b4) (pair b5) (pair b6) (pair b7) m t f e t1 ef ee;
     }
 
-pub bytes-word : (k n : ℕ) → Bytes (bytesOf k n)
-unfolding bytesOf
-bytes-word zero n = tt
-bytes-word (suc k) n = (omega arith, bytes-word k (n / 256))
-
 pub word-joins : (w t f e : ℕ) → w < 256 ^ 8
     → t ≡ w - 6 * (bitAnd w 0xF0F0F0F0F0F0F0F0 / 16)
     → f ≡ t - 156 * (bitAnd t 0xFF00FF00FF00FF00 / 256)
@@ -204,5 +200,5 @@ word-joins w t f e h et ef ee =
     let s : List ℕ = bytesOf 8 w in
     let spelt : s ≡ spelled 8 0 s = spell-whole 8 s (length-bytes 8 w) in
     subst⁻¹ (λ (l : List ℕ). Joins l w t f e) spelt
-    (joins (at s 0) (at s 1) (at s 2) (at s 3) (at s 4) (at s 5) (at s 6) (at s 7) (subst Bytes spelt (bytes-word 8 w)) w t f e
+    (joins (at s 0) (at s 1) (at s 2) (at s 3) (at s 4) (at s 5) (at s 6) (at s 7) (subst Bytes spelt (bytes-bytes 8 w)) w t f e
     (sym (number-bytes 8 w h) ∙ ap number spelt) et ef ee)

@@ -12,12 +12,12 @@ use Rattle.mbus_rules.specs.Digits.{digitsOf}
 use Rattle.mbus_rules.specs.Signs.{minus, sizeBytes}
 use Rattle.mbus_rules.proofs.Laws.Tests.{by-test}
 use Rattle.mbus_rules.proofs.Laws.SignLaws.{size-length, plain}
+use Rattle.mbus_rules.proofs.Laws.NumberLaws.{bytes-bytes}
 use Rattle.bytes_numbers.specs.Numbers.{number, bytesOf}
 use Rattle.bytes_numbers.proofs.Laws.Numbers.{length-bytes}
 use Rattle.mbus_fields.specs.declared.digits.Packed.{Packed}
 use Rattle.mbus_fields.specs.Fields.{packedOf, markOf, signOn, markedIn, signedIn}
 use Rattle.mbus_fields.proofs.Laws.GatherLaws.{word-whole, digits-most}
-use Rattle.mbus_fields.proofs.Laws.JoinLaws.{bytes-word}
 
 one-byte : (b : ℕ) → b < 256 → eqb (b / 16) 0xF ≡ leb 0xF0 (b + 256 * 0)
 one-byte b h =
@@ -64,7 +64,7 @@ bytes-size (b ∷ c ∷ s) h = (h .0, bytes-size (c ∷ s) (h .1))
 pub word-small : (n : ℕ) → digitsOf (bytesOf 8 n) < 2 ^ 63
 word-small n =
     let l : length (bytesOf 8 n) ≡ 8 = length-bytes 8 n in
-    let m : 3 * digitsOf (bytesOf 8 n) + 5 ≤ 5 * 100 ^ 8 = rw l at (digits-most (bytesOf 8 n) (bytes-word 8 n)) in
+    let m : 3 * digitsOf (bytesOf 8 n) + 5 ≤ 5 * 100 ^ 8 = rw l at (digits-most (bytesOf 8 n) (bytes-bytes 8 n)) in
     omega arith
 
 -- the sign, and the digits of the word without its mark, are what the bytes hold

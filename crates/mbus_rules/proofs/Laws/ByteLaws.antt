@@ -15,6 +15,10 @@ byte-at [] h i = lit< tt
 byte-at (b ∷ s) h zero = h .0
 byte-at (b ∷ s) h (suc i) = byte-at s (h .1) i
 
+pub bytes-each : (s : List ℕ) → ((i : ℕ) → at s i < 256) → Bytes s
+bytes-each [] h = tt
+bytes-each (b ∷ s) h = (h 0, bytes-each s (λ i. h (suc i)))
+
 pub bytes-append : (s r : List ℕ) → Bytes s → Bytes r → Bytes (s ++ r)
 bytes-append [] r h k = k
 bytes-append (b ∷ s) r h k = (h .0, bytes-append s r (h .1) k)

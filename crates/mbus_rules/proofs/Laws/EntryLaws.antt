@@ -5,16 +5,16 @@ use mathlib.Core.List.{List, [], _∷_, _++_, append-assoc, append-nil}
 use mathlib.Core.Path.{_≡_, refl, sym, ap, ap₂, _∙_}
 use native.Mathlib.Omega.{arith}
 use borrow.Author.Tests.{ltb-false, le-ltb, lt-leb, eqb-true, ne-eqb, not-false}
-use lib.Dec.{ltb, leb}
+use lib.Dec.{ltb, leb, eqb, lit<}
 use lib.ListN.{length, take, drop, length-drop, length-append, take-append-drop, drop-of-length-le}
 use lib.Seq.{length-take-le, take-add, take-at, drop-at, drop-drop}
 use Rattle.mbus_rules.specs.declared.Value.{Value}
-use Rattle.mbus_rules.specs.declared.Value.the-variants.{Number, Time}
+use Rattle.mbus_rules.specs.declared.Value.the-variants.{Number, Time, Binary}
 use Rattle.mbus_rules.specs.declared.Entry.{Entry}
 use Rattle.mbus_rules.specs.Lists.{at, any}
 use Rattle.mbus_rules.specs.Answers.{reads, refuse}
 use Rattle.mbus_rules.specs.Moments.{dateExists, timeExists, weekdayExists, wrongMoment}
-use Rattle.mbus_rules.specs.Quantities.{quantityOf, widthOf, paired, isTime, isPacked, unknown, between}
+use Rattle.mbus_rules.specs.Quantities.{quantityOf, widthOf, paired, isTime, isPacked, isBinary, unknown, between}
 use Rattle.mbus_rules.specs.Entries.{mayFall, valueBytes, entryWidth, valueOf, entryOf, unfit, wrongNumber, wrongDigit, wrongTime}
 use Rattle.mbus_rules.specs.Entries.{seen, missing, readEntries}
 use Rattle.mbus_rules.specs.Writing.{bytesOfValue, bytesOfEntry, bytesOfEntries, wrongValue, wrongEntry, repeats}
@@ -25,20 +25,22 @@ use Rattle.mbus_rules.specs.Bytes.{Bytes}
 use Rattle.mbus_rules.proofs.Laws.ByteLaws.{bytes-append, bytes-take, bytes-drop, spell}
 use Rattle.mbus_rules.specs.Signs.{minus, wrongSigned, fitsSigned, belowZero}
 use Rattle.mbus_rules.proofs.Laws.SignLaws.{SignedRead, signed-read, SignedWritten, signed-written}
+use Rattle.mbus_rules.specs.Binary.{fitsBinary}
+use Rattle.mbus_rules.proofs.Laws.BinaryLaws.{BinaryRead, binary-read, BinaryWritten, binary-written}
 use Rattle.mbus_rules.proofs.Laws.MomentLaws.{MomentRead, moment-read, MomentWritten, moment-written}
 use Rattle.mbus_rules.proofs.Laws.Seven.{Different, different-last, different-few, fit-known}
 
 -- ---- the value
 
-record ValueRead (w u : ℕ) (b : List ℕ) : Type 0 where
-  pub back : bytesOfValue w (valueOf u b) ≡ b
-  pub right : wrongValue w u (valueOf u b) ≡ false
+record ValueRead (st u : ℕ) (b : List ℕ) : Type 0 where
+  pub back : bytesOfValue (widthOf st) (valueOf st u b) ≡ b
+  pub right : wrongValue st u (valueOf st u b) ≡ false
 
-value-read : (w u : ℕ) (b : List ℕ) → length b ≡ w → (isTime u ≡ true → w ≡ 6) → Bytes b → wrongNumber u b ≡ false
-    → (isTime u && wrongMoment b) ≡ false → ValueRead w u b
-value-read w u b e six bytes digits moment = by-test (isTime u) timed counted
+value-read : (st u : ℕ) (b : List ℕ) → length b ≡ widthOf st → (isTime u ≡ true → widthOf st ≡ 6) → Bytes b → wrongNumber st u b ≡ false
+    → (isTime u && wrongMoment b) ≡ false → ValueRead st u b
+value-read st u b e six bytes digits moment = by-test (isTime u) timed (λ q. by-test (isBinary st) (coded q) (counted q))
   where
-    timed : isTime u ≡ true → ValueRead w u b
+    timed : isTime u ≡ true → ValueRead st u b
     timed q =
         let m : MomentRead b = moment-read b (e ∙ six q) bytes (rw q at moment) in
         record {
@@ -46,34 +48,55 @@ value-read w u b e six bytes digits moment = by-test (isTime u) timed counted
           right = rw (q, q, m .date, m .hour, m .weekday);
         }
 
-    counted : isTime u ≡ false → ValueRead w u b
-    counted q =
-        let d = neither (wrongSigned b) (minus b && not (mayFall u)) (rw q at digits) in
-        let r : SignedRead b = signed-read b bytes (d .0) in
+    coded : isTime u ≡ false → isBinary st ≡ true → ValueRead st u b
+    coded q n =
+        let r : BinaryRead b = binary-read b bytes in
         record {
-          back = rw (q, ← e) (r .back);
-          right = rw (q, q, ← e, r .fits, r .sign) (d .1);
+          back = rw (q, n, ← e) (r .back);
+          right = rw (q, n, q, n, ← e, r .fits, r .sign) (rw (q, n) at digits);
         }
 
-record ValueWritten (w u : ℕ) (v : Value) : Type 0 where
-  pub width : length (bytesOfValue w v) ≡ w
-  pub back : valueOf u (bytesOfValue w v) ≡ v
-  pub digits : wrongNumber u (bytesOfValue w v) ≡ false
-  pub moment : (isTime u && wrongMoment (bytesOfValue w v)) ≡ false
-  pub bytes : Bytes (bytesOfValue w v)
+    counted : isTime u ≡ false → isBinary st ≡ false → ValueRead st u b
+    counted q n =
+        let d = neither (wrongSigned b) (minus b && not (mayFall u)) (rw (q, n) at digits) in
+        let r : SignedRead b = signed-read b bytes (d .0) in
+        record {
+          back = rw (q, n, ← e) (r .back);
+          right = rw (q, n, q, n, ← e, r .fits, r .sign) (d .1);
+        }
 
-value-written : (w u : ℕ) (v : Value) → (isTime u ≡ true → w ≡ 6) → wrongValue w u v ≡ false → ValueWritten w u v
-value-written w u (Number d) six e =
-    let k = none (isTime u) (not (fitsSigned w (d .count)) ∷ (belowZero (d .count) && not (mayFall u)) ∷ []) e in
-    let s : SignedWritten w (d .count) = signed-written w (d .count) (not-false (fitsSigned w (d .count)) (k .1 .0)) in
+record ValueWritten (st u : ℕ) (v : Value) : Type 0 where
+  pub width : length (bytesOfValue (widthOf st) v) ≡ widthOf st
+  pub back : valueOf st u (bytesOfValue (widthOf st) v) ≡ v
+  pub digits : wrongNumber st u (bytesOfValue (widthOf st) v) ≡ false
+  pub moment : (isTime u && wrongMoment (bytesOfValue (widthOf st) v)) ≡ false
+  pub bytes : Bytes (bytesOfValue (widthOf st) v)
+
+value-written : (st u : ℕ) (v : Value) → (isTime u ≡ true → widthOf st ≡ 6) → wrongValue st u v ≡ false → ValueWritten st u v
+value-written st u (Number d) six e =
+    let w : ℕ = widthOf st in
+    let k = none (isTime u) (isBinary st ∷ not (fitsSigned w (d .count)) ∷ (belowZero (d .count) && not (mayFall u)) ∷ []) e in
+    let s : SignedWritten w (d .count) = signed-written w (d .count) (not-false (fitsSigned w (d .count)) (k .1 .1 .0)) in
     record {
       width = s .width;
-      back = rw (k .0, s .back);
-      digits = rw (k .0, s .right, s .sign) (k .1 .1 .0);
+      back = rw (k .0, k .1 .0, s .back);
+      digits = rw (k .0, k .1 .0, s .right, s .sign) (k .1 .1 .1 .0);
       moment = rw (k .0);
       bytes = s .bytes;
     }
-value-written w u (Time m) six e =
+value-written st u (Binary d) six e =
+    let w : ℕ = widthOf st in
+    let k = none (isTime u) (not (isBinary st) ∷ not (fitsBinary w (d .count)) ∷ (belowZero (d .count) && not (mayFall u)) ∷ []) e in
+    let s : BinaryWritten w (d .count) = binary-written w (d .count) (not-false (fitsBinary w (d .count)) (k .1 .1 .0)) in
+    let n : isBinary st ≡ true = not-false (isBinary st) (k .1 .0) in
+    record {
+      width = s .width;
+      back = rw (k .0, n, s .back);
+      digits = rw (k .0, n, s .sign) (k .1 .1 .1 .0);
+      moment = rw (k .0);
+      bytes = s .bytes;
+    }
+value-written st u (Time m) six e =
     let k = none (not (isTime u)) (not (dateExists m) ∷ not (timeExists m) ∷ not (weekdayExists m) ∷ []) e in
     let q : isTime u ≡ true = not-false (isTime u) (k .0) in
     let s : MomentWritten m =
@@ -101,7 +124,7 @@ unit-unknown : (u : ℕ) → 256 ≤ u → quantityOf u ≡ unknown
 unfolding quantityOf
 unit-unknown u h =
     rw (
-      between-past 0x00 0x07 u (omega arith),
+      between-past 0x00 0x0F u (omega arith),
       between-past 0x10 0x17 u (omega arith),
       between-past 0x28 0x2F u (omega arith),
       between-past 0x38 0x3F u (omega arith),
@@ -110,13 +133,29 @@ unit-unknown u h =
       ne-eqb u 0x6D (omega arith),
     )
 
+no-structure : (st : ℕ) → 256 ≤ st → (isPacked st || isBinary st) ≡ false
+no-structure st h =
+    let past : (n : ℕ) → n < 256 → eqb st n ≡ false = λ n k. ne-eqb st n (omega arith) in
+    rw (
+      past 0x0A (lit< tt),
+      past 0x0B (lit< tt),
+      past 0x0C (lit< tt),
+      past 0x0E (lit< tt),
+      past 0x01 (lit< tt),
+      past 0x02 (lit< tt),
+      past 0x03 (lit< tt),
+      past 0x04 (lit< tt),
+      past 0x06 (lit< tt),
+      past 0x07 (lit< tt),
+    )
+
 paired-bytes : (st u : ℕ) → paired st u ≡ true → (st < 256) × (u < 256)
 unfolding paired
 paired-bytes st u e =
     let nost : 256 ≤ st → ⊥ = λ h.
     by-test (isTime u) (λ q. false≢true (rw (q, ne-eqb st 0x06 (omega arith)) at e))
-    (λ q. false≢true (rw (q, ne-eqb st 0x0A (omega arith), ne-eqb st 0x0B (omega arith), ne-eqb st 0x0C (omega arith), ne-eqb st 0x0E (omega arith)) at e)) in
-    let nou : 256 ≤ u → ⊥ = λ h. false≢true (rw (ne-eqb u 0x6D (omega arith), unit-unknown u h, and-false (isPacked st)) at e) in
+    (λ q. false≢true (rw (q, no-structure st h) at e)) in
+    let nou : 256 ≤ u → ⊥ = λ h. false≢true (rw (ne-eqb u 0x6D (omega arith), unit-unknown u h, and-false (isPacked st || isBinary st)) at e) in
     omega arith
 
 pub record EntryRead (s : List ℕ) : Type 0 where
@@ -130,7 +169,7 @@ entry-read s bytes e digits moment =
     let pair : paired (at s 0) (at s 1) ≡ true = not-false (paired (at s 0) (at s 1)) (k .1 .0) in
     let w : length (valueBytes s) ≡ widthOf (at s 0) =
     length-take-le (widthOf (at s 0)) (drop 2 s) (rw (length-drop 2 s) (omega (arith, ltb-false))) in
-    let v = value-read (widthOf (at s 0)) (at s 1) (valueBytes s) w (six-wide (at s 0) (at s 1) pair)
+    let v = value-read (at s 0) (at s 1) (valueBytes s) w (six-wide (at s 0) (at s 1) pair)
     (bytes-take (widthOf (at s 0)) (drop 2 s) (bytes-drop 2 s bytes)) digits moment in
     record {
       back = rw (take-add 2 (widthOf (at s 0)) s, spell 2 0 s (omega (arith, ltb-false))) (ap (λ (l : List ℕ). at s 0 ∷ at s 1 ∷ l) (v .back));
@@ -153,10 +192,10 @@ entry-written e rest h =
     let u : ℕ = e .unit in
     let w : ℕ = widthOf (e .structure) in
     let b : List ℕ = bytesOfValue (widthOf (e .structure)) (e .value) in
-    let k = none (not (paired st u)) (wrongValue w u (e .value) ∷ []) h in
+    let k = none (not (paired st u)) (wrongValue st u (e .value) ∷ []) h in
     let pair : paired st u ≡ true = not-false (paired st u) (k .0) in
     let known : (st < 256) × (u < 256) = paired-bytes st u pair in
-    let v : ValueWritten w u (e .value) = value-written w u (e .value) (six-wide st u pair) (k .1 .0) in
+    let v : ValueWritten st u (e .value) = value-written st u (e .value) (six-wide st u pair) (k .1 .0) in
     let cut : take w (b ++ rest) ≡ b = take-at b rest w (v .width) in
     let size : length (b ++ rest) ≡ w + length rest = length-append b rest ∙ ap (λ (n : ℕ). n + length rest) (v .width) in
     record {
@@ -164,7 +203,7 @@ entry-written e rest h =
           rw (le-ltb (suc (suc (length (b ++ rest)))) 2 (omega arith), pair, le-ltb (suc (suc (length (b ++ rest)))) (2 + w) (omega arith));
       digits = rw cut (v .digits);
       moment = rw cut (v .moment);
-      back = λ i. record { structure = st; unit = u; value = (ap (valueOf u) cut ∙ v .back) i };
+      back = λ i. record { structure = st; unit = u; value = (ap (valueOf st u) cut ∙ v .back) i };
       after = sym (drop-drop w 2 (st ∷ u ∷ (b ++ rest))) ∙ drop-at b rest w (v .width);
       width = omega (arith, v .width);
       bytes = (known .0, (known .1, v .bytes));

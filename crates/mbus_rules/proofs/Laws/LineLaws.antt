@@ -22,7 +22,7 @@ use Rattle.mbus_rules.specs.Entries.{missing, readEntries}
 use Rattle.mbus_rules.specs.Telegrams.{blankEntry, blankHeader, readOf, enterOf, leaveOf, dataOf, bare}
 use Rattle.mbus_rules.specs.Lines.{isAck, isShort, wrongStart, wrongCount, wrongLengths, wrongEnd, wrongSum, field, isMethod, isCommand, isData}
 use Rattle.mbus_rules.specs.Lines.{readShort, commandOf, readData, readLong, readBody, readFrame}
-use Rattle.mbus_rules.specs.Writing.{bytesOfHeader, bytesOfEntries, closed, shortFrame, longFrame, entriesOf, bytesOfKind, usedBody, usedEntry}
+use Rattle.mbus_rules.specs.Writing.{bytesOfHeader, bytesOfEntries, closed, shortFrame, longFrame, entriesOf, bytesOfKind, usedBody, usedEntry, longest}
 use Rattle.mbus_rules.specs.Writing.{unwrittenHeader, wrongEntry, repeats, wrongData, wrongFor, unwritable}
 use Rattle.mbus_rules.proofs.Laws.TestLaws.{none, every, all-passed, within-reads}
 use Rattle.mbus_rules.proofs.Laws.Tests.{not-different, by-test, passed}
@@ -215,13 +215,13 @@ pub record Good (h : Header) (es : List Entry) : Type 0 where
 abbrev pub dataBytes : ℕ → Header → List Entry → List ℕ
 dataBytes a h es = 0x08 ∷ a ∷ 0x72 ∷ (bytesOfHeader h ++ bytesOfEntries es)
 
-pub data-length : (a : ℕ) (h : Header) (es : List Entry) → Good h es → (39 ≤ length (dataBytes a h es)) × (length (dataBytes a h es) ≤ 71)
+pub data-length : (a : ℕ) (h : Header) (es : List Entry) → Good h es → (35 ≤ length (dataBytes a h es)) × (length (dataBytes a h es) ≤ 83)
 data-length a h es g =
     let l : length (bytesOfHeader h ++ bytesOfEntries es) ≡ length (bytesOfHeader h) + length (bytesOfEntries es) = length-append (bytesOfHeader h)
     (bytesOfEntries es) in
     let n : length (bytesOfHeader h) ≡ 12 = header-length h in
-    let least : 24 ≤ length (bytesOfEntries es) = entries-least es (g .right) (g .whole) in
-    let most : length (bytesOfEntries es) ≤ 56 = entries-most es (g .right) (g .few) in
+    let least : 20 ≤ length (bytesOfEntries es) = entries-least es (g .right) (g .whole) in
+    let most : length (bytesOfEntries es) ≤ 68 = entries-most es (g .right) (g .whole) (g .few) in
     omega arith
 
 -- the header and the entries of what is written
@@ -299,7 +299,7 @@ kind-reads t Data e z w =
 
 -- ---- the length of a line
 
-pub kind-length : (t : Telegram) (k : Kind) → wrongFor k t ≡ false → length (bytesOfKind k t) ≤ 77
+pub kind-length : (t : Telegram) (k : Kind) → wrongFor k t ≡ false → length (bytesOfKind k t) ≤ longest
 kind-length t Ack w = lit≤ tt
 kind-length t Read w = lit≤ tt
 kind-length t Enter w = lit≤ tt

@@ -4,7 +4,7 @@ use mathlib.Core.Bool.{true, false, not, true≢false, false≢true}
 use mathlib.Core.Path.{_≡_, refl, sym, _∙_, ap}
 use native.Mathlib.Omega.{arith}
 use borrow.Author.Tests.{lt-ltb, le-ltb, ne-eqb}
-use lib.IntN.{ℤ, pos, negsuc, negℤ, natAbs, _+ℤ_, _-ℤ_, +ℤ-idl, +ℤ-one, negℤ-negℤ}
+use lib.IntN.{ℤ, pos, negsuc, negℤ, natAbs, predℤ, _+ℤ_, _-ℤ_, +ℤ-idl, +ℤ-one, -ℤ-one, negℤ-negℤ}
 use lib.Dec.{T, ltb}
 use lib.Signed.{ltZ, nonNeg}
 use mir.Syntax.{w64}
@@ -18,6 +18,16 @@ negation-fits (suc n) h = omega arith
 
 pub negated : (n : ℕ) → n < 2 ^ 63 → pos 0 -ℤ toZ w64 n ≡ negℤ (pos n)
 negated n h = ap (λ z. pos 0 -ℤ z) (toZ-ofZ w64 (pos n) (record { sfits = h })) ∙ +ℤ-idl (negℤ (pos n))
+
+-- one less than the negation of a size that the type holds
+pub lowered : (n : ℕ) → n < 2 ^ 63 → toZ w64 (ofZ w64 (pos 0 -ℤ toZ w64 n)) -ℤ pos 1 ≡ negsuc n
+lowered n h =
+    ap (λ (z : ℤ). toZ w64 (ofZ w64 z) -ℤ pos 1) (negated n h) ∙ ap (λ (z : ℤ). z -ℤ pos 1) (toZ-ofZ w64 (negℤ (pos n)) (negation-fits n h))
+    ∙ -ℤ-one (negℤ (pos n)) ∙ go n
+  where
+    go : (k : ℕ) → predℤ (negℤ (pos k)) ≡ negsuc k
+    go zero = refl
+    go (suc k) = refl
 
 -- ---- a number below zero, by its size: one more than it, negated, is one less than its size, which the type holds
 

@@ -14,7 +14,7 @@ use Rattle.mbus_rules.specs.Lists.{at, any}
 use Rattle.mbus_rules.specs.Characters.{over, odd, byteOf, carrier}
 use Rattle.mbus_rules.specs.Answers.{reads, refusal}
 use Rattle.mbus_rules.specs.Lines.{readBody, readFrame, readLine, Accepted}
-use Rattle.mbus_rules.specs.Writing.{entriesOf, bytesOfKind, lineOf, wrongData, wrongFor, unwritable, writeLine}
+use Rattle.mbus_rules.specs.Writing.{entriesOf, bytesOfKind, lineOf, longest, wrongData, wrongFor, unwritable, writeLine}
 use Rattle.mbus_rules.proofs.Laws.TestLaws.{none, all-passed, all-passing}
 use Rattle.mbus_rules.proofs.Laws.Tests.{by-test}
 use Rattle.mbus_rules.proofs.Laws.ByteLaws.{bytes-of}
@@ -78,13 +78,13 @@ written-again s t places r h =
 pub lower-first : (t : Telegram) (places : ℕ) → unwritable t ≡ true → writeLine t places ≡ refusal 20
 lower-first t places w = rw w
 
--- L runs from 39 to 71.
-pub data-lengths : (t : Telegram) → wrongFor Data t ≡ false → (39 ≤ at (bytesOfKind Data t) 1) × (at (bytesOfKind Data t) 1 ≤ 71)
+-- L runs from 35 to 83.
+pub data-lengths : (t : Telegram) → wrongFor Data t ≡ false → (35 ≤ at (bytesOfKind Data t) 1) × (at (bytesOfKind Data t) 1 ≤ 83)
 data-lengths t w =
     let k = none (ltb 0 (t .method)) (wrongData t ∷ []) w in
     data-length (t .address) (t .header) (entriesOf t) (good-data t (k .1 .0) .good)
 
--- The longest line has 77 characters.
-pub longest-line : (t : Telegram) → unwritable t ≡ false → length (lineOf t) ≤ 77
+-- No line is longer than the longest.
+pub longest-line : (t : Telegram) → unwritable t ≡ false → length (lineOf t) ≤ longest
 unfolding unwritable lineOf
 longest-line t w = rw (length-map (bytesOfKind (t .kind) t) carrier) (kind-length t (t .kind) w)

@@ -11,7 +11,7 @@ use lib.ListN.{length, length-append}
 use borrow.Author.Tests.{ltb-true, eqb-true, eqb-false, ne-eqb, not-false}
 use Rattle.mbus_rules.specs.declared.Entry.{Entry}
 use Rattle.mbus_rules.specs.Lists.{at, any}
-use Rattle.mbus_rules.specs.Quantities.{quantityOf, paired, isTime, isPacked}
+use Rattle.mbus_rules.specs.Quantities.{quantityOf, paired, isTime, isPacked, isBinary}
 use Rattle.mbus_rules.specs.Entries.{entryWidth, unfit, seen}
 use Rattle.mbus_rules.proofs.Laws.Tests.{by-test, neither}
 
@@ -102,4 +102,4 @@ fit-known s e =
   where
     go : (b : Bool) → isTime (at s 1) ≡ b → paired (at s 0) (at s 1) ≡ true → quantityOf (at s 1) < 7
     go true t p = subst (λ (u : ℕ). quantityOf u < 7) (sym (eqb-true (at s 1) 0x6D t)) time-known
-    go false t p = ltb-true (quantityOf (at s 1)) 7 (and-eq-true-iff (isPacked (at s 0)) (ltb (quantityOf (at s 1)) 7) .0 (rw t at p) .1)
+    go false t p = ltb-true (quantityOf (at s 1)) 7 (and-eq-true-iff (isPacked (at s 0) || isBinary (at s 0)) (ltb (quantityOf (at s 1)) 7) .0 (rw t at p) .1)

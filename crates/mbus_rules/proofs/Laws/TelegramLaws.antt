@@ -10,7 +10,7 @@ use lib.IntN.{ℤ, pos, negsuc}
 use lib.ListN.{length, drop, replicate, length-drop, take-append-drop}
 use lib.Seq.{take-append-seam, drop-append-seam, length-take-le}
 use Rattle.mbus_rules.specs.declared.Value.{Value}
-use Rattle.mbus_rules.specs.declared.Value.the-variants.{Number, Time}
+use Rattle.mbus_rules.specs.declared.Value.the-variants.{Number, Time, Binary}
 use Rattle.mbus_rules.specs.declared.Kind.{Kind}
 use Rattle.mbus_rules.specs.declared.Kind.the-variants.{Data}
 use Rattle.mbus_rules.specs.declared.Entry.{Entry}
@@ -35,6 +35,7 @@ value-blank (Number d) e = ap (λ (n : ℤ). Number (record { count = n })) (is-
     is-zero (pos n) h = ap pos (eqb-true n 0 h)
     is-zero (negsuc n) h = absurd (false≢true h)
 value-blank (Time m) e = absurd (true≢false e)
+value-blank (Binary w) e = absurd (true≢false e)
 
 entry-blank : (e : Entry) → usedEntry e ≡ false → e ≡ blankEntry
 entry-blank e h =

@@ -1,6 +1,6 @@
 -- A number's size against what its structure holds.
 use Prim.Native.Nat.{ℕ, zero, suc, _-_, _*_, _/_, _^_, _≤_, _<_}
-use mathlib.Core.Bool.{Bool, true, false, not, true≢false, false≢true}
+use mathlib.Core.Bool.{Bool, true, false, not, _||_, true≢false, false≢true}
 use mathlib.Core.Path.{_≡_, refl, sym, ap, _∙_}
 use native.Mathlib.Nat.{pow-succ'}
 use native.Mathlib.Omega.{arith}
@@ -36,3 +36,8 @@ long-below w (negsuc n) e = tenth (100 ^ w) (suc n) (limit-some w)
 pub long-above : (w : ℕ) (z : ℤ) → belowZero z ≡ false → not (ltb (natAbs z) (100 ^ w)) ≡ not (fitsSigned w z)
 long-above w (pos n) e = refl
 long-above w (negsuc n) e = absurd (true≢false e)
+
+-- digits in a structure of binary are wrong
+pub digits-coded : (t x y : Bool) → true ≡ (t || true || x || y)
+digits-coded true x y = refl
+digits-coded false x y = refl

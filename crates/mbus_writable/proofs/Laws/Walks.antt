@@ -47,7 +47,7 @@ pub quantity-below : (u : ℕ) → quantityOf u < 8
 unfolding quantityOf
 quantity-below u =
     let P : ℕ → Type 0 = λ q. q < 8 in
-    picked P (between 0x00 0x07 u) energy _ (lit< tt)
+    picked P (between 0x00 0x0F u) energy _ (lit< tt)
     (picked P (between 0x10 0x17 u) volume _ (lit< tt)
     (picked P (between 0x28 0x2F u) power _ (lit< tt)
     (picked P (between 0x38 0x3F u) flow _ (lit< tt)

@@ -1,6 +1,11 @@
 -- `mbus_writable::limit_of` meets its contract, test by test. Assumes nothing.
+use Prim.Native.Nat.{ℕ, _^_}
+use mathlib.Core.Bool.{cond, _||_}
+use mathlib.Core.Path.{_≡_, sym, ap, _∙_}
 use borrow.Author.Tests.{eq-eqb, ne-eqb}
-use Rattle.mbus_rules.specs.Quantities.{widthOf}
+use Rattle.mbus_rules.specs.Quantities.{widthOf, isPacked, isBinary}
+use Rattle.mbus_fields.specs.Fields.{lowWidth}
+use Rattle.mbus_fields.proofs.Laws.TableLaws.{known-width}
 use Rattle.mbus_writable.proofs.limit_of.Statement.{statement}
 use Rattle.mbus_writable.proofs.limit_of.Tie as tie
 
@@ -22,31 +27,21 @@ returns-4 c = rw (
   ne-eqb _ _ (c .before .before .before .if1 .left),
   ne-eqb _ _ (c .before .before .if2 .left),
   ne-eqb _ _ (c .before .if3 .left),
-  eq-eqb _
-      _ (c .if4 .taken),
+  eq-eqb _ _ (c .if4 .taken),
 )
 
+-- a structure of neither has no width
 returns-5 : tie.Need-returns-5
-unfolding widthOf
-returns-5 c = rw (
-  ne-eqb _ _ (c .before .before .before .before .if1 .left),
-  ne-eqb _ _ (c .before .before .before .if2 .left),
-  ne-eqb _ _
-      (c .before .before .if3 .left),
-  ne-eqb _ _ (c .before .if4 .left),
-  eq-eqb _ _ (c .if5 .taken),
-)
-
-returns-6 : tie.Need-returns-6
-unfolding widthOf
-returns-6 c = rw (
-  ne-eqb _ _ (c .before .before .before .before .if1 .left),
-  ne-eqb _ _ (c .before .before .before .if2 .left),
-  ne-eqb _ _
-      (c .before .before .if3 .left),
-  ne-eqb _ _ (c .before .if4 .left),
-  ne-eqb _ _ (c .if5 .left),
-)
+returns-5 c =
+    let st = c .before .before .before .before .args .structure in
+    let none : cond (isPacked st || isBinary st) (lowWidth st) 0 ≡ 0 = rw (
+      ne-eqb _ _ (c .before .before .before .if1 .left),
+      ne-eqb _ _ (c .before .before .if2 .left),
+      ne-eqb _ _ (c .before .if3 .left),
+      ne-eqb _ _ (c .if4 .left),
+      c .before .before .before .before .pre,
+    ) in
+    sym (ap (λ (w : ℕ). 100 ^ w) (known-width st ∙ none))
 
 pub limit-of-spec : {M : Type 1} → statement M
-limit-of-spec = tie.close (tie.spec returns returns-2 returns-3 returns-4 returns-5 returns-6)
+limit-of-spec = tie.close (tie.spec returns returns-2 returns-3 returns-4 returns-5)

@@ -18,6 +18,9 @@ size-of-requires c κs = search needs
 enum-told : tie.Need-enum-told
 enum-told c = search needs
 
+enum-told-2 : tie.Need-enum-told-2
+enum-told-2 c = search needs
+
 returns : tie.Need-returns
 returns c =
     let v = c .before .before .before .value .given in
@@ -27,5 +30,10 @@ returns c =
 returns-2 : tie.Need-returns-2
 returns-2 c = search needs
 
+returns-3 : tie.Need-returns-3
+returns-3 c = search needs
+
 pub used-value-spec : {M : Type 1} → statement M
-used-value-spec = tie.close (tie.spec enum-known-value size-of-requires enum-told returns returns-2)
+used-value-spec =
+    tie.close
+    (tie.spec enum-known-value size-of-requires enum-told enum-told-2 returns returns-2 returns-3)

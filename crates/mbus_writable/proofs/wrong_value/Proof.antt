@@ -1,20 +1,36 @@
 -- `mbus_writable::wrong_value` meets its contract, case by case. Assumes nothing.
 use borrow.Author.Needs.{needs}
-use mathlib.Core.Bool.{not}
-use mathlib.Core.Path.{ap, _∙_}
+use Prim.Native.Nat.{ℕ, min}
+use mathlib.Core.Bool.{not, _&&_, or-false}
+use mathlib.Core.Path.{_≡_, sym, ap, _∙_}
 use native.Mathlib.Omega.{arith}
 use mir.Syntax.{w64}
 use mir.ValLaws.{toZ-ofZ}
-use Rattle.mbus_rules.specs.Quantities.{widthOf}
+use Rattle.mbus_rules.specs.Quantities.{widthOf, isTime}
+use Rattle.mbus_rules.specs.Entries.{mayFall}
 use Rattle.mbus_rules.specs.Signs.{fitsSigned, belowZero}
+use Rattle.mbus_rules.specs.Binary.{fitsBinary}
+use Rattle.mbus_rules.proofs.Laws.LengthLaws.{width-most}
+use Rattle.mbus_writable.proofs.Laws.Sizes.{digits-coded}
 use Rattle.mbus_writable.proofs.wrong_value.Statement.{statement}
 use Rattle.mbus_writable.proofs.wrong_value.Tie as tie
+
+is-binary-requires : tie.Need-is-binary-requires
+is-binary-requires c κs = search needs
 
 enum-known-value : tie.Need-enum-known-value
 enum-known-value c = search needs
 
+returns : tie.Need-returns
+returns c =
+    let a = c .before .before .before .before .before .args in
+    let v = c .before .before .value .given in
+    let z = v .0 .0 .count in
+    rw (v .1, sym (c .before .before .before .before .is-binary .ensures) ∙ c .if1 .taken)
+    (digits-coded (isTime (a .unit)) (not (fitsSigned (widthOf (a .structure)) z)) (belowZero z && not (mayFall (a .unit))))
+
 is-long-requires : tie.Need-is-long-requires
-is-long-requires c κs = search needs
+is-long-requires c κs = sym (c .before .before .before .before .before .is-binary .ensures) ∙ c .before .if1 .left
 
 is-below-zero-requires : tie.Need-is-below-zero-requires
 is-below-zero-requires c κs = search needs
@@ -25,6 +41,21 @@ may-fall-requires c κs = search needs
 enum-known-value-2 : tie.Need-enum-known-value-2
 enum-known-value-2 c = search needs
 
+width-of-requires : tie.Need-width-of-requires
+width-of-requires c κs = search needs
+
+fits-binary-requires : tie.Need-fits-binary-requires
+fits-binary-requires c κs = search needs
+
+is-below-zero-requires-2 : tie.Need-is-below-zero-requires-2
+is-below-zero-requires-2 c κs = search needs
+
+may-fall-requires-2 : tie.Need-may-fall-requires-2
+may-fall-requires-2 c κs = search needs
+
+enum-known-value-3 : tie.Need-enum-known-value-3
+enum-known-value-3 c = search needs
+
 date-exists-requires : tie.Need-date-exists-requires
 date-exists-requires c κs = search needs
 
@@ -34,22 +65,42 @@ time-exists-requires c κs = search needs
 weekday-exists-requires : tie.Need-weekday-exists-requires
 weekday-exists-requires c κs = search needs
 
-returns : tie.Need-returns
-returns c =
-    let v = c .before .before .before .before .before .before .value .given in
+returns-2 : tie.Need-returns-2
+returns-2 c =
+    let v = c .before .before .before .before .before .before .before .value .given in
     let g = c .before .before .before .before .struct-told .given in
-    let w = widthOf (c .before .before .before .before .before .before .before .before .args .structure) in
+    let w = widthOf (c .before .before .before .before .before .before .before .before .before .before .args .structure) in
     let t = toZ-ofZ w64 (v .0 .0 .count) (record { sfits = omega arith }) in
+    let b = sym (c .before .before .before .before .before .before .before .before .before .is-binary .ensures)
+    ∙ c .before .before .before .before .before .if1 .left in
     rw (
       v .1,
+      b,
+      or-false,
       c .before .before .before .is-long .ensures ∙ ap (λ y. not (fitsSigned w y)) t,
       c .before .is-below-zero .ensures ∙ ap belowZero t,
       c .may-fall .ensures,
     )
 
-returns-2 : tie.Need-returns-2
-returns-2 c = rw (
-  c .before .before .before .before .value2 .given .1,
+returns-3 : tie.Need-returns-3
+returns-3 c =
+    let st = c .before .before .before .before .before .before .before .before .before .before .args .structure in
+    let v = c .before .before .before .before .before .before .before .value2 .given in
+    let g = c .before .before .before .before .struct-told3 .given in
+    let t = toZ-ofZ w64 (v .0 .0 .count) (record { sfits = omega arith }) in
+    let w : min (c .before .before .before .before .before .width-of .result) 8 ≡ widthOf st =
+    omega (arith, c .before .before .before .before .before .width-of .ensures, width-most st) in
+    rw (
+      v .1,
+      c .before .before .before .before .before .before .before .before .before .is-binary .ensures,
+      c .before .before .before .fits-binary .ensures ∙ (λ i. fitsBinary (w i) (t i)),
+      c .before .is-below-zero2 .ensures ∙ ap belowZero t,
+      c .may-fall2 .ensures,
+    )
+
+returns-4 : tie.Need-returns-4
+returns-4 c = rw (
+  c .before .before .before .before .value3 .given .1,
   c .before .before .date-exists .ensures,
   c .before .time-exists .ensures,
   c .weekday-exists .ensures,
@@ -59,13 +110,21 @@ pub wrong-value-spec : {M : Type 1} → statement M
 wrong-value-spec =
     tie.close
     (tie.spec
+    is-binary-requires
     enum-known-value
+    returns
     is-long-requires
     is-below-zero-requires
     may-fall-requires
     enum-known-value-2
+    width-of-requires
+    fits-binary-requires
+    is-below-zero-requires-2
+    may-fall-requires-2
+    enum-known-value-3
     date-exists-requires
     time-exists-requires
     weekday-exists-requires
-    returns
-    returns-2)
+    returns-2
+    returns-3
+    returns-4)

@@ -9,7 +9,7 @@ use lib.ListN.{length, take, length-map}
 use Rattle.mbus_rules.specs.declared.Telegram.{Telegram}
 use Rattle.mbus_rules.specs.Answers.{Answer, reads, refusal}
 use Rattle.mbus_rules.specs.Characters.{carrier}
-use Rattle.mbus_rules.specs.Writing.{bytesOfKind, lineOf, unwritable}
+use Rattle.mbus_rules.specs.Writing.{bytesOfKind, lineOf, longest, unwritable}
 use Rattle.mbus_rules.proofs.Laws.RoundTrip.{longest-line}
 use Rattle.bytes_lent.specs.Copying.{laid}
 use Rattle.mbus_writing.specs.Laying.{BytesLaid}
@@ -32,7 +32,7 @@ module _ (t : Telegram) {bytes : List ℕ} {count : ℕ} (w : unwritable t ≡ f
   unfolding lineOf
   length-line = b .so ∙ sym (length-map (bytesOfKind (t .kind) t) carrier)
 
-  pub at-most : count ≤ 77
+  pub at-most : count ≤ longest
   at-most = rw length-line (longest-line t w)
 
   pub refused-21 : {before : List ℕ} → length before < count → WritesLine t before before (Refused 21)

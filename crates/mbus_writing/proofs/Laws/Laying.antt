@@ -1,22 +1,22 @@
 -- Laws of `specs/Laying`.
 use Prim.Native.Nat.{ℕ, zero, suc, _+_, _*_, _-_, _/_, _%_, _^_, _≤_, _<_, zero-le}
-use mathlib.Core.Bool.{Bool, true, false, not, _&&_, false≢true}
+use mathlib.Core.Bool.{Bool, true, false, not, _&&_, true≢false, false≢true}
 use mathlib.Core.List.{List, [], _∷_, _++_, map, append-assoc, append-nil}
 use mathlib.Core.Path.{_≡_, refl, sym, ap, ap₂, subst, _∙_}
-use native.Mathlib.Nat.{zero-add, not-suc-le-zero, pow-succ'}
+use native.Mathlib.Nat.{zero-add, not-suc-le-zero, pow-succ', pow-le-pow-right}
 use native.Mathlib.Numerals.{add-one}
 use native.Mathlib.Omega.{arith}
-use borrow.Author.Tests.{eqb-true, ltb-true, not-false}
+use borrow.Author.Tests.{eqb-true, ltb-true, leb-true, le-leb, not-false}
 use lib.Count.{onesIn}
-use lib.Dec.{eqb, ltb, lit<}
-use lib.IntN.{ℤ, pos, negsuc}
-use lib.ListN.{length, getD, take, drop, set, length-append, length-take, drop-of-length-le, length-map, List·getD-map}
+use lib.Dec.{eqb, ltb, lit<, lit≤}
+use lib.IntN.{ℤ, pos, negsuc, natAbs}
+use lib.ListN.{length, getD, take, drop, set, length-append, length-set, take-append-drop, drop-of-length-le, length-map, List·getD-map}
 use lib.Seq.{drop-cons, take-add, take-suc, take-take, getD-take, take-at, drop-at, take-append-seam, length-take-le}
 use Rattle.bytes_lent.specs.Copying.{laid, copied}
 use Rattle.bytes_lent.proofs.Laws.Copying.{laid-none, laid-front, laid-on, laid-length}
 use Rattle.bytes_lent.proofs.Laws.Copying.{copied-fits, Copied, copied-none, copied-next, copied-length, copied-all}
 use Rattle.mbus_rules.specs.declared.Value.{Value}
-use Rattle.mbus_rules.specs.declared.Value.the-variants.{Number, Time}
+use Rattle.mbus_rules.specs.declared.Value.the-variants.{Number, Time, Binary}
 use Rattle.mbus_rules.specs.declared.Kind.{Kind}
 use Rattle.mbus_rules.specs.declared.Kind.the-variants.{Data}
 use Rattle.mbus_rules.specs.declared.Entry.{Entry}
@@ -30,16 +30,20 @@ use Rattle.mbus_rules.specs.Entries.{mayFall}
 use Rattle.mbus_rules.specs.Signs.{marked, signedBytes, fitsSigned, belowZero}
 use Rattle.mbus_rules.proofs.Laws.SignLaws.{marked-cons}
 use Rattle.mbus_rules.proofs.Laws.DigitLaws.{length-packed}
+use Rattle.mbus_rules.specs.Numbers.{bytesOf}
+use Rattle.mbus_rules.specs.Binary.{binaryBytes, fitsBinary}
+use Rattle.bytes_numbers.proofs.Laws.NumberLaws.{bytes-first}
 use Rattle.mbus_rules.specs.Moments.{dateExists, timeExists, weekdayExists}
-use Rattle.mbus_rules.specs.Quantities.{widthOf, paired, isTime}
-use Rattle.mbus_rules.proofs.Laws.TestLaws.{none}
+use Rattle.mbus_rules.specs.Quantities.{widthOf, paired, isTime, isBinary}
+use Rattle.mbus_rules.proofs.Laws.TestLaws.{none, picked}
 use Rattle.mbus_rules.proofs.Laws.HeaderLaws.{header-length}
 use Rattle.mbus_rules.proofs.Laws.EntryLaws.{six-wide, entry-written}
 use Rattle.mbus_rules.proofs.Laws.LengthLaws.{width-most, entries-least, entries-most}
 use Rattle.mbus_rules.proofs.Laws.LineLaws.{GoodData, good-data}
 use Rattle.mbus_rules.specs.Writing.{bytesOfValue, bytesOfEntry, bytesOfEntries, bytesOfKind, wrongValue, wrongEntry, wrongData, entriesOf, bytesOfHeader}
-use Rattle.mbus_rules.specs.Writing.{closed, unwritable}
-use Rattle.mbus_writing.specs.Laying.{signedSix, sixBytes, exists, EntryFits, EntryLaid, EntriesFit, EntriesLaid, FrameClosed, BytesLaid, DataFits}
+use Rattle.mbus_rules.specs.Writing.{closed, longest, unwritable}
+use Rattle.mbus_writing.specs.Laying.{markedAt, signedSix, eightBytes, exists, EntryFits, EntryLaid, EntriesFit, EntriesLaid}
+use Rattle.mbus_writing.specs.Laying.{FrameClosed, BytesLaid, DataFits}
 
 -- ---- a loop that copies with parity, and one that sums
 
@@ -141,59 +145,123 @@ number-cut (suc w) (negsuc n) h f =
     rw last (mark-cut 6 w (suc n) h (ltb-true (10 * suc n) (100 ^ suc w) f))
 number-cut zero (negsuc n) h f = absurd (not-suc-le-zero (sign-wide zero (negsuc n) f refl))
 
-value-cut : (w u : ℕ) (v : Value) → w ≤ 6 → (isTime u ≡ true → w ≡ 6) → wrongValue w u v ≡ false
-    → (take w (sixBytes w v) ≡ bytesOfValue w v) × (exists w v ≡ true)
-value-cut w u (Number d) h six e =
-    let k = none (isTime u) (not (fitsSigned w (d .count)) ∷ (belowZero (d .count) && not (mayFall u)) ∷ []) e in
-    let f : fitsSigned w (d .count) ≡ true = not-false (fitsSigned w (d .count)) (k .1 .0) in
-    (number-cut w (d .count) h f, f)
-value-cut w u (Time m) h six e =
+-- six bytes, widened to eight, are cut as they were
+widened-cut : (w : ℕ) (b more : List ℕ) → w ≤ length b → take w (b ++ more) ≡ take w b
+widened-cut zero b more h = refl
+widened-cut (suc w) [] more h = absurd (not-suc-le-zero h)
+widened-cut (suc w) (x ∷ b) more h = ap (λ (l : List ℕ). x ∷ l) (widened-cut w b more (omega arith))
+
+signed-length : (w : ℕ) (z : ℤ) → length (signedSix w z) ≡ 6
+signed-length w z =
+    picked (λ (l : List ℕ). length l ≡ 6) (belowZero z) (markedAt w (packed 6 (natAbs z))) (packed 6 (natAbs z))
+    (length-set (packed 6 (natAbs z)) (w - 1) (0xF0 + at (packed 6 (natAbs z)) (w - 1) % 16) ∙ length-packed 6 (natAbs z)) (length-packed 6 (natAbs z))
+
+-- the lowest bytes of a number below zero are the same in any width that it fits
+below-cut : (k w n : ℕ) → w ≤ k → suc n ≤ 256 ^ w → bytesOf w (256 ^ k - suc n) ≡ bytesOf w (256 ^ w - suc n)
+unfolding bytesOf
+below-cut k zero n h f = refl
+below-cut zero (suc w) n h f = absurd (not-suc-le-zero h)
+below-cut (suc k) (suc w) n h f =
+    let p : 256 ^ suc k ≡ 256 * 256 ^ k = pow-succ' 256 k in
+    let q : 256 ^ suc w ≡ 256 * 256 ^ w = pow-succ' 256 w in
+    let less : 256 ^ w ≤ 256 ^ k = pow-le-pow-right (omega arith) {j = k} (omega arith) in
+    let low : (256 ^ suc k - suc n) % 256 ≡ (256 ^ suc w - suc n) % 256 = omega arith in
+    let high-k : (256 ^ suc k - suc n) / 256 ≡ 256 ^ k - suc (n / 256) = omega arith in
+    let high-w : (256 ^ suc w - suc n) / 256 ≡ 256 ^ w - suc (n / 256) = omega arith in
+    ap₂ (λ (x : ℕ) (l : List ℕ). x ∷ l) low
+    (ap (bytesOf w) high-k ∙ below-cut k w (n / 256) (omega arith) (omega arith) ∙ sym (ap (bytesOf w) high-w))
+
+binary-cut : (w : ℕ) (z : ℤ) → w ≤ 8 → fitsBinary w z ≡ true → take w (binaryBytes 8 z) ≡ binaryBytes w z
+binary-cut w (pos n) h f = bytes-first w 8 n h
+binary-cut w (negsuc n) h f =
+    bytes-first w 8 (256 ^ 8 - suc n) h ∙ below-cut 8 w n h (omega (arith, leb-true (2 * suc n) (256 ^ w) f))
+
+-- eight bytes of binary, by the sign and the size
+pub below-some : (z : ℤ) → belowZero z ≡ true → 1 ≤ natAbs z
+below-some (pos n) e = absurd (false≢true e)
+below-some (negsuc n) e = omega arith
+
+pub binary-below : (z : ℤ) → belowZero z ≡ true → bytesOf 8 (18446744073709551615 - (natAbs z - 1)) ≡ binaryBytes 8 z
+binary-below (pos n) e = absurd (false≢true e)
+binary-below (negsuc n) e =
+    let same : 18446744073709551615 - (suc n - 1) ≡ 256 ^ 8 - suc n = omega arith in
+    ap (bytesOf 8) same
+
+pub binary-above : (z : ℤ) → belowZero z ≡ false → bytesOf 8 (natAbs z) ≡ binaryBytes 8 z
+binary-above (pos n) e = refl
+binary-above (negsuc n) e = absurd (true≢false e)
+
+-- digits have at most six bytes
+packed-most : (st : ℕ) → isBinary st ≡ false → widthOf st ≤ 6
+unfolding widthOf
+packed-most st e =
+    let P : ℕ → Type 0 = λ n. n ≤ 6 in
+    let k = none (eqb st 0x01) (eqb st 0x02 ∷ eqb st 0x03 ∷ eqb st 0x04 ∷ eqb st 0x06 ∷ eqb st 0x07 ∷ []) e in
+    rw (k .0, k .1 .0, k .1 .1 .0, k .1 .1 .1 .0, k .1 .1 .1 .1 .0, k .1 .1 .1 .1 .1 .0)
+    (picked P (eqb st 0x0A) 2 _ (lit≤ tt)
+    (picked P (eqb st 0x0B) 3 _ (lit≤ tt) (picked P (eqb st 0x0C) 4 _ (lit≤ tt) (picked P (eqb st 0x0E) 6 0 (lit≤ tt) (lit≤ tt)))))
+
+value-cut : (st u : ℕ) (v : Value) → (isTime u ≡ true → widthOf st ≡ 6) → wrongValue st u v ≡ false
+    → (take (widthOf st) (eightBytes (widthOf st) v) ≡ bytesOfValue (widthOf st) v) × (exists (widthOf st) v ≡ true)
+value-cut st u (Number d) six e =
+    let w : ℕ = widthOf st in
+    let k = none (isTime u) (isBinary st ∷ not (fitsSigned w (d .count)) ∷ (belowZero (d .count) && not (mayFall u)) ∷ []) e in
+    let f : fitsSigned w (d .count) ≡ true = not-false (fitsSigned w (d .count)) (k .1 .1 .0) in
+    let h : widthOf st ≤ 6 = packed-most st (k .1 .0) in (
+      widened-cut w (signedSix w (d .count)) (0 ∷ 0 ∷ []) (omega (arith, signed-length w (d .count))) ∙ number-cut w (d .count) h f,
+      rw (le-leb w 6 h, f),
+    )
+value-cut st u (Binary d) six e =
+    let w : ℕ = widthOf st in
+    let k = none (isTime u) (not (isBinary st) ∷ not (fitsBinary w (d .count)) ∷ (belowZero (d .count) && not (mayFall u)) ∷ []) e in
+    (binary-cut w (d .count) (width-most st) (not-false (fitsBinary w (d .count)) (k .1 .1 .0)), refl)
+value-cut st u (Time m) six e =
     let k = none (not (isTime u)) (not (dateExists m) ∷ not (timeExists m) ∷ not (weekdayExists m) ∷ []) e in
-    let n : w ≡ 6 = six (not-false (isTime u) (k .0)) in
+    let n : widthOf st ≡ 6 = six (not-false (isTime u) (k .0)) in
     (rw n, rw (not-false (dateExists m) (k .1 .0), not-false (timeExists m) (k .1 .1 .0), not-false (weekdayExists m) (k .1 .1 .1 .0)))
 
 pub record EntryCut (e : Entry) : Type 0 where
-  pub cut : take (2 + widthOf (e .structure)) (e .structure ∷ e .unit ∷ sixBytes (widthOf (e .structure)) (e .value)) ≡ bytesOfEntry e
+  pub cut : take (2 + widthOf (e .structure)) (e .structure ∷ e .unit ∷ eightBytes (widthOf (e .structure)) (e .value)) ≡ bytesOfEntry e
   pub there : exists (widthOf (e .structure)) (e .value) ≡ true
   pub width : length (bytesOfEntry e) ≡ 2 + widthOf (e .structure)
-  pub most : widthOf (e .structure) ≤ 6
+  pub most : widthOf (e .structure) ≤ 8
 
 pub entry-cut : (e : Entry) → wrongEntry e ≡ false → EntryCut e
 entry-cut e h =
     let st : ℕ = e .structure in
     let w : ℕ = widthOf (e .structure) in
-    let k = none (not (paired st (e .unit))) (wrongValue w (e .unit) (e .value) ∷ []) h in
-    let most : widthOf (e .structure) ≤ 6 = width-most st in
-    let v = value-cut w (e .unit) (e .value) most (six-wide st (e .unit) (not-false (paired st (e .unit)) (k .0))) (k .1 .0) in
+    let k = none (not (paired st (e .unit))) (wrongValue st (e .unit) (e .value) ∷ []) h in
+    let v = value-cut st (e .unit) (e .value) (six-wide st (e .unit) (not-false (paired st (e .unit)) (k .0))) (k .1 .0) in
     record {
-      cut = take-add 2 w (st ∷ e .unit ∷ sixBytes (widthOf (e .structure)) (e .value)) ∙ ap (λ (l : List ℕ). st ∷ e .unit ∷ l) (v .0);
+      cut = take-add 2 w (st ∷ e .unit ∷ eightBytes (widthOf (e .structure)) (e .value)) ∙ ap (λ (l : List ℕ). st ∷ e .unit ∷ l) (v .0);
       there = v .1;
       width = entry-written e [] h .width;
-      most = most;
+      most = width-most st;
     }
 
 pub entry-laid : {e : Entry} {before after : List ℕ} {at width : ℕ} → EntryFits e before at → width ≡ 2 + widthOf (e .structure)
-    → after ≡ copied before at (take width (e .structure ∷ e .unit ∷ sixBytes (widthOf (e .structure)) (e .value))) → EntryLaid e before after at (at + width)
+    → after ≡ copied before at (take width (e .structure ∷ e .unit ∷ eightBytes (widthOf (e .structure)) (e .value))) → EntryLaid e before after at (at + width)
 entry-laid {e} {before} {after} {at} {width} f w l =
     let c : EntryCut e = entry-cut e (f .right) in
-    let same : take width (e .structure ∷ e .unit ∷ sixBytes (widthOf (e .structure)) (e .value)) ≡ bytesOfEntry e =
-    ap (λ (k : ℕ). take k (e .structure ∷ e .unit ∷ sixBytes (widthOf (e .structure)) (e .value))) w ∙ c .cut in
+    let same : take width (e .structure ∷ e .unit ∷ eightBytes (widthOf (e .structure)) (e .value)) ≡ bytesOfEntry e =
+    ap (λ (k : ℕ). take k (e .structure ∷ e .unit ∷ eightBytes (widthOf (e .structure)) (e .value))) w ∙ c .cut in
     let room : at + length (bytesOfEntry e) ≤ length before = omega (arith, f .room, f .size) in
     record { bytes = l ∙ ap (copied before at) same ∙ copied-fits before at (bytesOfEntry e) room; so = ap (λ (k : ℕ). at + k) (w ∙ sym (c .width)) }
-
-any-front : {A : Type 0} (test : A → Bool) (j : ℕ) (s : List A) → any test s ≡ false → any test (take j s) ≡ false
-unfolding any
-any-front test zero s h = refl
-any-front test (suc j) [] h = refl
-any-front test (suc j) (x ∷ s) h =
-    let k = none (test x) (any test s ∷ []) h in
-    rw (k .0) (any-front test j s (k .1 .0))
 
 entries-append : (a b : List Entry) → bytesOfEntries (a ++ b) ≡ bytesOfEntries a ++ bytesOfEntries b
 unfolding bytesOfEntries
 entries-append [] b = refl
 entries-append (e ∷ a) b = ap (λ (l : List ℕ). bytesOfEntry e ++ l) (entries-append a b) ∙ sym (append-assoc (bytesOfEntry e) (bytesOfEntries a)
     (bytesOfEntries b))
+
+-- the first of them take no more than all
+entries-front : (j : ℕ) (s : List Entry) → length (bytesOfEntries (take j s)) ≤ length (bytesOfEntries s)
+entries-front j s =
+    let both : bytesOfEntries s ≡ bytesOfEntries (take j s) ++ bytesOfEntries (drop j s) =
+    ap bytesOfEntries (sym (take-append-drop j s)) ∙ entries-append (take j s) (drop j s) in
+    let sum : length (bytesOfEntries s) ≡ length (bytesOfEntries (take j s)) + length (bytesOfEntries (drop j s)) =
+    ap length both ∙ length-append (bytesOfEntries (take j s)) (bytesOfEntries (drop j s)) in
+    omega arith
 
 entries-more : (entries : List Entry) (i : ℕ) (d : Entry) → i < length entries → bytesOfEntries (take (suc i) entries)
     ≡ bytesOfEntries (take i entries) ++ bytesOfEntry (getD entries i d)
@@ -209,7 +277,7 @@ pub record Laying (entries : List Entry) (count : ℕ) (before : List ℕ) (i at
   pub inside : i ≤ count
   pub bytes : now ≡ laid before 19 (bytesOfEntries (take i entries))
   pub so : at ≡ 19 + length (bytesOfEntries (take i entries))
-  pub same : length now ≡ 77
+  pub same : length now ≡ longest
 
 pub laying-none : {entries : List Entry} {count : ℕ} {before : List ℕ} → length entries ≡ 7 → EntriesFit entries count before
     → Laying entries count before 0 19 before
@@ -232,10 +300,9 @@ module _ {entries : List Entry} {count : ℕ} {before : List ℕ} {i at : ℕ} {
       let seven : length entries ≡ 7 = g .places in
       let size : length (take count entries) ≡ count = length-take-le count entries (omega arith) in
       let right : wrongEntry e ≡ false = rw (getD-take count entries i d h) at (none-at wrongEntry (take count entries) d i (f .right) (omega arith)) in
-      let all : any wrongEntry (take (suc i) entries) ≡ false = rw (take-take (suc i) count entries h) at
-      (any-front wrongEntry (suc i) (take count entries) (f .right)) in
-      let few : length (take (suc i) entries) ≤ 7 = rw (length-take (suc i) entries) (omega arith) in
-      let most : length (bytesOfEntries (take (suc i) entries)) ≤ 56 = entries-most (take (suc i) entries) all few in
+      let most : length (bytesOfEntries (take (suc i) entries)) ≤ length (bytesOfEntries (take count entries)) =
+      rw (take-take (suc i) count entries h) at (entries-front (suc i) (take count entries)) in
+      let end : 19 + length (bytesOfEntries (take count entries)) + 2 ≤ longest = f .most in
       let more : length (bytesOfEntries (take (suc i) entries)) ≡ length (bytesOfEntries (take i entries)) + length (bytesOfEntry e) =
       ap length (entries-more entries i d (omega arith)) ∙ length-append (bytesOfEntries (take i entries)) (bytesOfEntry e) in
       let place : at ≡ 19 + length (bytesOfEntries (take i entries)) = g .so in
@@ -247,8 +314,8 @@ module _ {entries : List Entry} {count : ℕ} {before : List ℕ} {i at : ℕ} {
       let done : List ℕ = bytesOfEntries (take i entries) in
       let seven : length entries ≡ 7 = g .places in
       let few : count ≤ 7 = g .fit .few in
-      let size : length before ≡ 77 = g .fit .room in
-      let same : length now ≡ 77 = g .same in
+      let size : length before ≡ longest = g .fit .room in
+      let same : length now ≡ longest = g .same in
       let f : EntryFits (getD entries i d) now at = laying-fits in
       let more : bytesOfEntries (take (suc i) entries) ≡ done ++ bytesOfEntry x = entries-more entries i d (omega arith) in
       let long : length (bytesOfEntries (take (suc i) entries)) ≡ length done + length (bytesOfEntry x) = ap length more
@@ -281,7 +348,7 @@ part-cut b from end h k =
     sym (ap (λ (j : ℕ). drop from (take j b)) e ∙ ap (drop from) (take-add from (end - from) b)
     ∙ drop-at (take from b) (take (end - from) (drop from b)) from n)
 
-pub frame-closed : {before after : List ℕ} {from end sum : ℕ} → (from ≤ end) × (end ≤ 75) × (length before ≡ 77) → sum
+pub frame-closed : {before after : List ℕ} {from end sum : ℕ} → (from ≤ end) × (end + 2 ≤ longest) × (length before ≡ longest) → sum
     ≡ total (take (end - from) (drop from before)) % 256
     → after ≡ copied before end (sum ∷ 0x16 ∷ []) → FrameClosed before after from end (end + 2)
 frame-closed {before} {after} {from} {end} {sum} h e l =
@@ -311,14 +378,15 @@ module _ {t : Telegram} {before : List ℕ} (f : DataFits t before) where
   pub entries-fit : EntriesFit (t .entries) (t .count) before
   entries-fit =
       let g : GoodData t = good-data t (f .right) in
-      record { few = g .count; right = g .good .right; room = f .room }
+      let most : length (bytesOfEntries (entriesOf t)) ≤ 68 = entries-most (entriesOf t) (g .good .right) (g .good .whole) (g .good .few) in
+      record { few = g .count; right = g .good .right; most = omega arith; room = f .room }
 
   -- the place after the entries
-  pub entries-end : {after : List ℕ} {end : ℕ} → EntriesLaid (entriesOf t) before after end → (43 ≤ end) × (end ≤ 75)
+  pub entries-end : {after : List ℕ} {end : ℕ} → EntriesLaid (entriesOf t) before after end → (39 ≤ end) × (end + 2 ≤ longest)
   entries-end {after} {end} l =
       let g : GoodData t = good-data t (f .right) in
-      let least : 24 ≤ length (bytesOfEntries (entriesOf t)) = entries-least (entriesOf t) (g .good .right) (g .good .whole) in
-      let most : length (bytesOfEntries (entriesOf t)) ≤ 56 = entries-most (entriesOf t) (g .good .right) (g .good .few) in
+      let least : 20 ≤ length (bytesOfEntries (entriesOf t)) = entries-least (entriesOf t) (g .good .right) (g .good .whole) in
+      let most : length (bytesOfEntries (entriesOf t)) ≤ 68 = entries-most (entriesOf t) (g .good .right) (g .good .whole) (g .good .few) in
       let so : end ≡ 19 + length (bytesOfEntries (entriesOf t)) = l .so in
       omega arith
 
@@ -335,7 +403,7 @@ module _ {t : Telegram} {before : List ℕ} (f : DataFits t before) where
       let twelve : length h ≡ 12 = header-length (t .header) in
       let size : length (h ++ es) ≡ length h + length es = length-append h es in
       let so : end ≡ 19 + length es = l .so in
-      let room : length before ≡ 77 = f .room in
+      let room : length before ≡ longest = f .room in
       let begins : length start ≡ 19 = omega arith in
       let past : drop 19 first ≡ es ++ rest =
       ap (drop 19) (l .bytes) ∙ drop-at (take 19 before) (es ++ rest) 19 (length-take-le 19 before (omega arith)) in
@@ -355,9 +423,9 @@ pub kind-laid : (t : Telegram) {k : Kind} {after : List ℕ} {n : ℕ} → t .ki
     → BytesLaid (bytesOfKind (t .kind) t) after n
 kind-laid t {k} {after} {n} e b = subst (λ (x : Kind). BytesLaid (bytesOfKind x t) after n) (sym e) b
 
-pub ack-laid : (d : List ℕ) {after : List ℕ} → length d ≡ 77 → after ≡ copied d 0 (0xE5 ∷ []) → BytesLaid (0xE5 ∷ []) after 1
+pub ack-laid : (d : List ℕ) {after : List ℕ} → length d ≡ longest → after ≡ copied d 0 (0xE5 ∷ []) → BytesLaid (0xE5 ∷ []) after 1
 ack-laid d n e = record { bytes = front-laid d (0xE5 ∷ []) (omega arith) e; so = refl }
 
-pub data-fits : (t : Telegram) {before : List ℕ} → t .kind ≡ Data → unwritable t ≡ false → length before ≡ 77 → DataFits t before
+pub data-fits : (t : Telegram) {before : List ℕ} → t .kind ≡ Data → unwritable t ≡ false → length before ≡ longest → DataFits t before
 unfolding unwritable
 data-fits t e w n = record { right = none (ltb 0 (t .method)) (wrongData t ∷ []) (rw e at w) .1 .0; room = n }

@@ -6,7 +6,7 @@ use mathlib.Core.Path.{_≡_, refl, sym, _∙_}
 use native.Mathlib.Omega.{arith}
 use lib.ListN.{length}
 use lib.Seq.{length-take-le}
-use Rattle.mbus_rules.specs.Writing.{unwritable}
+use Rattle.mbus_rules.specs.Writing.{longest, unwritable}
 use Rattle.mbus_writing.proofs.Laws.Answering.{refused-20, at-most, refused-21, written}
 use Rattle.mbus_writing.proofs.write_line.Statement.{statement}
 use Rattle.mbus_writing.proofs.write_line.Tie as tie
@@ -36,7 +36,7 @@ returns-2 c =
 fitting : (c : tie.Else2) → c .before .before .put-bytes .result ≤ length (c .before .before .put-bytes .last .1 .0)
 fitting c =
     let i = c .before .before .before .before in
-    let n : length (c .before .before .put-bytes .last .1 .0) ≡ 77 = search needs in
+    let n : length (c .before .before .put-bytes .last .1 .0) ≡ longest = search needs in
     omega (arith, at-most (i .before .before .before .args .telegram) (can i) (c .before .before .put-bytes .ensures))
 
 array-share-prefix-bytes : tie.Need-array-share-prefix-bytes

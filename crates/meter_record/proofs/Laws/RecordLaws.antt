@@ -1,11 +1,11 @@
 -- Laws about the record of a meter: what is written for a meter is read as that meter, if some history leads to it.
-use Prim.Native.Nat.{ℕ, zero, suc, _/_, _%_, _^_, _≤_, _<_}
-use mathlib.Core.Bool.{false, cond, not, _||_, true≢false}
+use Prim.Native.Nat.{ℕ, zero, suc, _*_, _/_, _%_, _^_, _≤_, _<_}
+use mathlib.Core.Bool.{true, false, cond, not, _&&_, _||_, true≢false}
 use mathlib.Core.List.{List, [], _∷_}
 use mathlib.Core.Path.{_≡_, refl, sym, ap, subst, _∙_}
 use native.Mathlib.Nat.{lt-of-lt-of-le, lt-of-le-of-lt, pow-le-pow-right}
 use native.Mathlib.Omega.{arith}
-use borrow.Author.Tests.{eqb-true, ltb-true, ltb-false, not-false}
+use borrow.Author.Tests.{eqb-true, ltb-true, ltb-false, leb-true, not-false}
 use lib.Dec.{ltb, eqb, lit<, lit≤}
 use lib.IntN.{ℤ, pos, negsuc, natAbs}
 use lib.ListN.{length, take, drop}
@@ -15,17 +15,19 @@ use Rattle.bench_clock.specs.Times.{due, earlier}
 use Rattle.mbus_rules.specs.declared.Entry.{Entry}
 use Rattle.mbus_rules.specs.declared.Telegram.{Telegram}
 use Rattle.mbus_rules.specs.declared.Value.{Value}
-use Rattle.mbus_rules.specs.declared.Value.the-variants.{Number, Time}
+use Rattle.mbus_rules.specs.declared.Value.the-variants.{Number, Time, Binary}
 use Rattle.mbus_rules.specs.Answers.{Answer, reads, refusal, refuse, follow}
 use Rattle.mbus_rules.proofs.Laws.AnswerLaws.{reads-same}
 use Rattle.mbus_rules.specs.Headers.{letter, makerNamed, heatMeter}
 use Rattle.mbus_rules.proofs.Laws.LengthLaws.{width-most}
 use Rattle.mbus_rules.specs.Lines.{isMethod}
 use Rattle.mbus_rules.specs.Lists.{any}
-use Rattle.mbus_rules.specs.Quantities.{widthOf, paired}
+use Rattle.mbus_rules.specs.Quantities.{widthOf, paired, isTime, isBinary}
 use Rattle.mbus_rules.proofs.Laws.TestLaws.{none, every}
 use Rattle.mbus_rules.proofs.Laws.Tests.{neither, passed}
-use Rattle.mbus_rules.specs.Signs.{isZero}
+use Rattle.mbus_rules.specs.Signs.{isZero, belowZero}
+use Rattle.mbus_rules.specs.Binary.{fitsBinary}
+use Rattle.mbus_rules.specs.Entries.{mayFall}
 use Rattle.mbus_rules.specs.Writing.{usedValue, usedEntry, wrongValue, wrongEntry}
 use Rattle.bytes_numbers.specs.Numbers.{bytesOf}
 use Rattle.bytes_numbers.proofs.Laws.Numbers.{number-bytes}
@@ -48,19 +50,32 @@ use Rattle.meter_record.specs.MeterRecords.{recalled, meterFrom}
 
 -- ---- the fields of a template fit their types
 
-size-fits : (z : ℤ) → natAbs z < 100 ^ 6 → SFits w64 z
+size-fits : (z : ℤ) → natAbs z < 100 ^ 8 → SFits w64 z
 size-fits (pos n) h = record { sfits = omega arith }
 size-fits (negsuc n) h = record { sfits = omega arith }
 
+binary-fits : (w : ℕ) (z : ℤ) → w ≤ 8 → fitsBinary w z ≡ true → SFits w64 z
+binary-fits w (pos n) h f =
+    let most : 256 ^ w ≤ 256 ^ 8 = pow-le-pow-right (lit< tt) h in
+    record { sfits = omega (arith, ltb-true (2 * n) (256 ^ w) f) }
+binary-fits w (negsuc n) h f =
+    let most : 256 ^ w ≤ 256 ^ 8 = pow-le-pow-right (lit< tt) h in
+    record { sfits = omega (arith, leb-true (2 * suc n) (256 ^ w) f) }
+
 value-small : (e : Entry) → wrongEntry e ≡ false → ValueFits (e .value)
-value-small e right = go (e .value) (neither (not (paired (e .structure) (e .unit))) (wrongValue (widthOf (e .structure)) (e .unit) (e .value)) right .1)
+value-small e right = go (e .value) (neither (not (paired (e .structure) (e .unit))) (wrongValue (e .structure) (e .unit) (e .value)) right .1)
   where
-    go : (x : Value) → wrongValue (widthOf (e .structure)) (e .unit) x ≡ false → ValueFits x
+    go : (x : Value) → wrongValue (e .structure) (e .unit) x ≡ false → ValueFits x
     go (Time m) w = tt
     go (Number d) w =
         let short : natAbs (d .count) < 100 ^ widthOf (e .structure) = size-within (widthOf (e .structure)) (d .count) (right-fits e d w) in
-        let most : 100 ^ widthOf (e .structure) ≤ 100 ^ 6 = pow-le-pow-right (lit< tt) (width-most (e .structure)) in
+        let most : 100 ^ widthOf (e .structure) ≤ 100 ^ 8 = pow-le-pow-right (lit< tt) (width-most (e .structure)) in
         size-fits (d .count) (lt-of-lt-of-le short most)
+    go (Binary b) w =
+        let st : ℕ = e .structure in
+        let fits = fitsBinary (widthOf st) (b .count) in
+        let k = none (isTime (e .unit)) (not (isBinary st) ∷ not fits ∷ (belowZero (b .count) && not (mayFall (e .unit))) ∷ []) w in
+        binary-fits (widthOf st) (b .count) (width-most st) (not-false fits (k .1 .1 .0))
 
 blank-small : (e : Entry) → usedEntry e ≡ false → ValueFits (e .value)
 blank-small e blank = go (e .value) (neither (ltb 0 (e .structure) || ltb 0 (e .unit)) (usedValue (e .value)) blank .1)
@@ -72,6 +87,7 @@ blank-small e blank = go (e .value) (neither (ltb 0 (e .structure) || ltb 0 (e .
     go : (x : Value) → usedValue x ≡ false → ValueFits x
     go (Time m) u = tt
     go (Number d) u = zero-fits (d .count) u
+    go (Binary b) u = absurd (true≢false u)
 
 entries-small : (n : ℕ) (es : List Entry) → any wrongEntry (take n es) ≡ false → any usedEntry (drop n es) ≡ false → EntriesFit es
 unfolding any EntriesFit

@@ -14,11 +14,11 @@ use Rattle.mbus_rules.specs.declared.Telegram.{Telegram}
 use Rattle.mbus_rules.specs.declared.Decimal.{Decimal}
 use Rattle.mbus_rules.specs.declared.Entry.{Entry}
 use Rattle.mbus_rules.specs.declared.Value.{Value}
-use Rattle.mbus_rules.specs.declared.Value.the-variants.{Number, Time}
+use Rattle.mbus_rules.specs.declared.Value.the-variants.{Number, Time, Binary}
 use Rattle.mbus_rules.specs.Answers.{Answer, reads, refusal}
 use Rattle.mbus_rules.specs.Lists.{any}
 use Rattle.mbus_rules.proofs.Laws.ListLaws.{any-map, map-take, map-drop}
-use Rattle.mbus_rules.specs.Quantities.{quantityOf, widthOf, paired, isTime, volume, energy}
+use Rattle.mbus_rules.specs.Quantities.{quantityOf, widthOf, paired, isTime, isBinary, volume, energy}
 use Rattle.mbus_rules.specs.Signs.{fitsSigned, belowZero}
 use Rattle.mbus_rules.specs.Entries.{mayFall, seen, missing}
 use Rattle.mbus_rules.proofs.Laws.Tests.{by-test, neither}
@@ -98,9 +98,9 @@ held-number q e small h =
 wrong-counted : (q n : ℕ) (e : Entry) → q < 2 → n ≤ totalMost → holds q e ≡ true → wrongEntry e ≡ false → wrongEntry (counted n e) ≡ false
 unfolding widthOf
 wrong-counted q n e small fits h right =
-    let both = neither (not (paired (e .structure) (e .unit))) (wrongValue (widthOf (e .structure)) (e .unit) (e .value)) right in
+    let both = neither (not (paired (e .structure) (e .unit))) (wrongValue (e .structure) (e .unit) (e .value)) right in
     ap₂ _||_ (both .0)
-    (ap₂ _||_ (ap₂ _||_ (held-number q e small h)
+    (ap₂ _||_ (ap₂ _||_ (ap₂ _||_ (held-number q e small h) (ap isBinary (held-structure q e h)))
     (ap (λ (st : ℕ). not (ltb (n % 2 ^ 63) (100 ^ widthOf st))) (held-structure q e h) ∙ ap not (lt-ltb (n % 2 ^ 63) 100000000 (omega arith)))) refl)
 
 wrong-filled : (p : Pair) → Within p → (e : Entry) → wrongEntry e ≡ false → wrongEntry (filledEntry p e) ≡ false
@@ -126,19 +126,20 @@ size-within w (pos n) e = ltb-true n (100 ^ w) e
 size-within w (negsuc n) e = omega (arith, ltb-true (10 * suc n) (100 ^ w) e)
 
 -- an entry's number that is right fits
-pub right-fits : (e : Entry) (d : Decimal) → wrongValue (widthOf (e .structure)) (e .unit) (Number d) ≡ false
+pub right-fits : (e : Entry) (d : Decimal) → wrongValue (e .structure) (e .unit) (Number d) ≡ false
     → fitsSigned (widthOf (e .structure)) (d .count) ≡ true
 right-fits e d w =
     let fits = fitsSigned (widthOf (e .structure)) (d .count) in
-    let long = neither (isTime (e .unit) || not fits) (belowZero (d .count) && not (mayFall (e .unit))) w .0 in
-    not-false fits (neither (isTime (e .unit)) (not fits) long .1)
+    let long = neither (isTime (e .unit) || isBinary (e .structure) || not fits) (belowZero (d .count) && not (mayFall (e .unit))) w .0 in
+    not-false fits (neither (isTime (e .unit) || isBinary (e .structure)) (not fits) long .1)
 
 counted-within : (q : ℕ) (e : Entry) → holds q e ≡ true → wrongEntry e ≡ false → valueCount (e .value) ≤ totalMost
 unfolding widthOf
-counted-within q e h right = go (e .value) (neither (not (paired (e .structure) (e .unit))) (wrongValue (widthOf (e .structure)) (e .unit) (e .value)) right .1)
+counted-within q e h right = go (e .value) (neither (not (paired (e .structure) (e .unit))) (wrongValue (e .structure) (e .unit) (e .value)) right .1)
   where
-    go : (x : Value) → wrongValue (widthOf (e .structure)) (e .unit) x ≡ false → valueCount x ≤ totalMost
+    go : (x : Value) → wrongValue (e .structure) (e .unit) x ≡ false → valueCount x ≤ totalMost
     go (Time m) w = zero-le
+    go (Binary b) w = zero-le
     go (Number d) w =
         let small : natAbs (d .count) < 100 ^ widthOf (e .structure) = size-within (widthOf (e .structure)) (d .count) (right-fits e d w) in
         let eight : natAbs (d .count) < 100000000 = rw (held-structure q e h) at small in

@@ -17,6 +17,9 @@ size-of-requires c κs = search needs
 enum-told : tie.Need-enum-told
 enum-told c = search needs
 
+enum-told-2 : tie.Need-enum-told-2
+enum-told-2 c = search needs
+
 returns : tie.Need-returns
 returns c =
     let v = c .before .before .before .value .given in
@@ -26,5 +29,8 @@ returns c =
 returns-2 : tie.Need-returns-2
 returns-2 c = search needs
 
+returns-3 : tie.Need-returns-3
+returns-3 c = search needs
+
 pub count-of-spec : {M : Type 1} → statement M
-count-of-spec = tie.close (tie.spec enum-known-value size-of-requires enum-told returns returns-2)
+count-of-spec = tie.close (tie.spec enum-known-value size-of-requires enum-told enum-told-2 returns returns-2 returns-3)

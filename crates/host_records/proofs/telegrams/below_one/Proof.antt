@@ -3,8 +3,7 @@ use borrow.Author.Needs.{needs}
 use lib.IntN.{negsuc}
 use mir.Syntax.{w64}
 use mir.ValLaws.{toZ-ofZ}
-use Rattle.mbus_rules.proofs.Laws.Negation.{negation-fits, negated}
-use Rattle.host_records.proofs.Laws.TwosComplement.{lowered}
+use Rattle.mbus_rules.proofs.Laws.Negation.{negation-fits, negated, lowered}
 use Rattle.host_records.proofs.telegrams.below_one.Statement.{statement}
 use Rattle.host_records.proofs.telegrams.below_one.Tie as tie
 

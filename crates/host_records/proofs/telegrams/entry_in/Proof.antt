@@ -1,8 +1,8 @@
 -- `host_records::telegrams::entry_in` meets its contract. Assumes nothing.
-use Rattle.host_records.specs.Telegrams.{entryIn}
 use borrow.Author.Needs.{needs}
 use mir.Syntax.{w64}
 use mir.ValLaws.{toZ-ofZ}
+use Rattle.host_records.specs.Telegrams.{entryIn}
 use Rattle.host_records.proofs.telegrams.entry_in.Statement.{statement}
 use Rattle.host_records.proofs.telegrams.entry_in.Tie as tie
 
@@ -12,11 +12,8 @@ shared-slice-read-structure c = search needs
 shared-slice-read-unit : tie.Need-shared-slice-read-unit
 shared-slice-read-unit c = search needs
 
-shared-slice-read-time : tie.Need-shared-slice-read-time
-shared-slice-read-time c = search needs
-
-shared-slice-read-t13 : tie.Need-shared-slice-read-t13
-shared-slice-read-t13 c = search needs
+shared-slice-read-sort : tie.Need-shared-slice-read-sort
+shared-slice-read-sort c = search needs
 
 shared-slice-read-t15 : tie.Need-shared-slice-read-t15
 shared-slice-read-t15 c = search needs
@@ -36,6 +33,9 @@ shared-slice-read-t23 c = search needs
 shared-slice-read-t25 : tie.Need-shared-slice-read-t25
 shared-slice-read-t25 c = search needs
 
+shared-slice-read-t27 : tie.Need-shared-slice-read-t27
+shared-slice-read-t27 c = search needs
+
 returns : tie.Need-returns
 unfolding entryIn
 returns c = rw (c .before .before .before .before .before .before .before .if1 .taken)
@@ -50,10 +50,22 @@ returns-2 : tie.Need-returns-2
 unfolding entryIn
 returns-2 c =
     rw (
-      c .before .before .if1 .left,
-      toZ-ofZ w64 (c .count-of .result) (record { sfits = c .count-of .ok }),
-      c .count-of .ensures,
-      c .before .number-at .ensures .so,
+      c .before .before .before .if1 .left,
+      c .if2 .taken,
+      toZ-ofZ w64 (c .before .count-of .result) (record { sfits = c .before .count-of .ok }),
+      c .before .count-of .ensures,
+      c .before .before .number-at .ensures .so,
+    )
+
+returns-3 : tie.Need-returns-3
+unfolding entryIn
+returns-3 c =
+    rw (
+      c .before .before .before .if1 .left,
+      c .if2 .left,
+      toZ-ofZ w64 (c .before .count-of .result) (record { sfits = c .before .count-of .ok }),
+      c .before .count-of .ensures,
+      c .before .before .number-at .ensures .so,
     )
 
 pub entry-in-spec : {M : Type 1} → statement M
@@ -62,15 +74,16 @@ entry-in-spec =
     (tie.spec
     shared-slice-read-structure
     shared-slice-read-unit
-    shared-slice-read-time
-    shared-slice-read-t13
+    shared-slice-read-sort
     shared-slice-read-t15
     shared-slice-read-t17
     shared-slice-read-t19
     shared-slice-read-t21
     shared-slice-read-t23
     shared-slice-read-t25
+    shared-slice-read-t27
     returns
     number-at-requires
     count-of-requires
-    returns-2)
+    returns-2
+    returns-3)

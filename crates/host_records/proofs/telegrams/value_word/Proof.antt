@@ -21,6 +21,12 @@ enum-known-value-2 c = search needs
 moment-word-requires : tie.Need-moment-word-requires
 moment-word-requires c κs = search needs
 
+enum-known-value-3 : tie.Need-enum-known-value-3
+enum-known-value-3 c = search needs
+
+word-of-requires-2 : tie.Need-word-of-requires-2
+word-of-requires-2 c κs = search needs
+
 returns : tie.Need-returns
 returns c =
     let v = c .before .before .before .value .given in
@@ -31,7 +37,23 @@ returns c =
 returns-2 : tie.Need-returns-2
 returns-2 c = cc
 
+returns-3 : tie.Need-returns-3
+returns-3 c =
+    let v = c .before .before .before .value3 .given in
+    let g = c .before .struct-told2 .given in
+    let t = toZ-ofZ w64 (v .0 .0 .count) (record { sfits = omega arith }) in
+    rw (v .1) (ap (bytesOf 8) (c .word-of2 .ensures ∙ ap (ofZ w64) t))
+
 pub value-word-spec : {M : Type 1} → statement M
 value-word-spec =
     tie.close
-    (tie.spec enum-known-value word-of-requires enum-known-value-2 moment-word-requires returns returns-2)
+    (tie.spec
+    enum-known-value
+    word-of-requires
+    enum-known-value-2
+    moment-word-requires
+    enum-known-value-3
+    word-of-requires-2
+    returns
+    returns-2
+    returns-3)

@@ -1,18 +1,21 @@
 -- `mbus_entries::entry::try_entry` meets its contract: the pair and the width, then the value. Assumes nothing.
 use borrow.Author.Needs.{needs}
-use Prim.Native.Nat.{_%_}
-use mathlib.Core.Path.{refl}
+use native.Mathlib.Omega.{arith}
 use denote.Ref.{now}
-use Rattle.mbus_rules.specs.Lists.{at}
-use Rattle.mbus_entries.proofs.Laws.TryLaws.{one-left, Told, told-unfit, told-inside, told-long, told-refused, told-passed}
+use Rattle.mbus_entries.proofs.Laws.TryLaws.{one-left, Told, told-narrow, told-unfit, told-inside, told-long, told-refused, told-passed}
 use Rattle.mbus_entries.proofs.entry.try_entry.Statement.{statement}
 use Rattle.mbus_entries.proofs.entry.try_entry.Tie as tie
 
 -- what was read of the entry
-told : (c : tie.After-goes-with)
-    → Told (now (c .before .before .before .before .before .before .args .rest)) (c .before .quantity-of .result)
-    (at (now (c .before .before .before .before .before .before .args .rest)) 0 % 8) (c .goes-with .result)
-told c = record { two = c .before .before .before .before .if1 .left; quantity = c .before .quantity-of .ensures; width = refl; pair = c .goes-with .ensures }
+told : (c : tie.After-low-width)
+    → Told (now (c .before .before .before .before .before .before .before .args .rest)) (c .before .before .quantity-of .result)
+    (c .low-width .result) (c .before .goes-with .result)
+told c = record {
+  two = c .before .before .before .before .before .if1 .left;
+  quantity = c .before .before .quantity-of .ensures;
+  width = c .low-width .ensures;
+  pair = c .before .goes-with .ensures;
+}
 
 returns : tie.Need-returns
 returns c = one-left (now (c .before .before .args .rest)) (c .if1 .taken)
@@ -29,17 +32,17 @@ quantity-of-requires c κs = search needs
 goes-with-requires : tie.Need-goes-with-requires
 goes-with-requires c κs = search needs
 
-cast-width : tie.Need-cast-width
-cast-width c = search needs
+low-width-requires : tie.Need-low-width-requires
+low-width-requires c κs = search needs
 
 add-if2 : tie.Need-add-if2
-add-if2 c = search needs
+add-if2 c = omega (arith, told-narrow (told c))
 
 returns-2 : tie.Need-returns-2
 returns-2 c = told-unfit (told (c .before)) (c .if2 .taken)
 
 add-value-of : tie.Need-add-value-of
-add-value-of c = search needs
+add-value-of c = omega (arith, told-narrow (told (c .before)))
 
 sub-value-of : tie.Need-sub-value-of
 sub-value-of c = search needs
@@ -63,11 +66,13 @@ cast-t22 : tie.Need-cast-t22
 cast-t22 c = search needs
 
 returns-3 : tie.Need-returns-3
-returns-3 c = told-refused (told (c .before .before .before .before .before .before)) (c .before .before .before .before .before .if2 .left)
+returns-3 c =
+    told-refused (told (c .before .before .before .before .before .before)) (c .before .before .before .before .before .if2 .left)
     (c .before .before .before .value-of .ensures) (c .before .value .given .1)
 
 returns-4 : tie.Need-returns-4
-returns-4 c = told-passed (told (c .before .before .before .before .before .before)) (c .before .before .before .before .before .if2 .left)
+returns-4 c =
+    told-passed (told (c .before .before .before .before .before .before)) (c .before .before .before .before .before .if2 .left)
     (c .before .before .before .value-of .ensures) (c .before .value2 .given .1)
 
 pub try-entry-spec : {M : Type 1} → statement M
@@ -79,7 +84,7 @@ try-entry-spec =
     shared-slice-read-unit
     quantity-of-requires
     goes-with-requires
-    cast-width
+    low-width-requires
     add-if2
     returns-2
     add-value-of

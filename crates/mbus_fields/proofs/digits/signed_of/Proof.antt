@@ -7,10 +7,9 @@ use native.Mathlib.Omega.{arith}
 use denote.Ref.{now}
 use lib.ListN.{length, take, length-take}
 use Rattle.mbus_rules.specs.Bytes.{Bytes}
-use Rattle.mbus_rules.proofs.Laws.ByteLaws.{bytes-take}
+use Rattle.mbus_rules.proofs.Laws.ByteLaws.{bytes-each, bytes-take}
 use Rattle.bytes_numbers.specs.Numbers.{bytesOf}
 use Rattle.mbus_fields.specs.Fields.{packedOf}
-use Rattle.mbus_fields.proofs.Laws.GatherLaws.{bytes-known}
 use Rattle.mbus_fields.proofs.Laws.MarkLaws.{word-small, signed-word, plain-word}
 use Rattle.mbus_fields.proofs.digits.signed_of.Statement.{statement}
 use Rattle.mbus_fields.proofs.digits.signed_of.Tie as tie
@@ -32,7 +31,7 @@ returns c =
     let value : List ℕ = now (c .before .before .before .before .before .before .args .value) in
     let b : List ℕ = take 8 value in
     let cut : length b ≡ min (length value) 8 = omega (arith, length-take 8 value) in
-    let known : Bytes b = bytes-take 8 value (bytes-known value (λ i. omega (arith, c .before .before .before .before .before .shared-slice-known .given i))) in
+    let known : Bytes b = bytes-take 8 value (bytes-each value (λ i. omega (arith, c .before .before .before .before .before .shared-slice-known .given i))) in
     rw (c .marked-of .ensures, c .before .mark-of .ensures, c .before .before .before .before .word-of .ensures, ← cut) (signed-word b known (omega arith))
 
 sign-on-requires : tie.Need-sign-on-requires
@@ -43,7 +42,7 @@ returns-2 c =
     let value : List ℕ = now (c .before .before .before .before .before .args .value) in
     let b : List ℕ = take 8 value in
     let few : length b ≤ 8 = omega (arith, length-take 8 value) in
-    let known : Bytes b = bytes-take 8 value (bytes-known value (λ i. omega (arith, c .before .before .before .before .shared-slice-known .given i))) in
+    let known : Bytes b = bytes-take 8 value (bytes-each value (λ i. omega (arith, c .before .before .before .before .shared-slice-known .given i))) in
     let told = c .before .before .packed-in .ensures ∙ ap (λ (w : ℕ). packedOf (bytesOf 8 w)) (c .before .before .before .word-of .ensures) in
     c .sign-on .ensures ∙ plain-word b known few told (c .before .if1 .left)
 

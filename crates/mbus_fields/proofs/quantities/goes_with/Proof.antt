@@ -1,6 +1,7 @@
 -- `mbus_fields::quantities::goes_with` meets its contract. Assumes nothing.
 use borrow.Author.Needs.{needs}
 use borrow.Author.Tests.{eq-eqb, ne-eqb}
+use mathlib.Core.Path.{sym, _∙_}
 use Rattle.mbus_fields.proofs.quantities.goes_with.Statement.{statement}
 use Rattle.mbus_fields.proofs.quantities.goes_with.Tie as tie
 
@@ -11,7 +12,13 @@ is-packed-requires : tie.Need-is-packed-requires
 is-packed-requires c κs = search needs
 
 returns-2 : tie.Need-returns-2
-returns-2 c = rw (ne-eqb _ _ (c .before .if1 .left), c .is-packed .ensures)
+returns-2 c = rw (ne-eqb _ _ (c .before .before .if1 .left), sym (c .before .is-packed .ensures) ∙ c .if2 .taken)
+
+is-binary-requires : tie.Need-is-binary-requires
+is-binary-requires c κs = search needs
+
+returns-3 : tie.Need-returns-3
+returns-3 c = rw (ne-eqb _ _ (c .before .before .before .if1 .left), sym (c .before .before .is-packed .ensures) ∙ c .before .if2 .left, c .is-binary .ensures)
 
 pub goes-with-spec : {M : Type 1} → statement M
-goes-with-spec = tie.close (tie.spec returns is-packed-requires returns-2)
+goes-with-spec = tie.close (tie.spec returns is-packed-requires returns-2 is-binary-requires returns-3)

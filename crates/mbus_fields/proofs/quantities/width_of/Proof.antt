@@ -1,51 +1,34 @@
--- `mbus_fields::quantities::width_of` meets its contract, test by test. Assumes nothing.
-use borrow.Author.Tests.{eq-eqb, ne-eqb}
+-- `mbus_fields::quantities::width_of` meets its contract. Assumes nothing.
+use borrow.Author.Needs.{needs}
+use mathlib.Core.Bool.{Bool, cond, _||_}
+use mathlib.Core.Path.{_≡_, sym, ap, _∙_}
 use Rattle.mbus_rules.specs.Quantities.{widthOf}
+use Rattle.mbus_fields.specs.Fields.{lowWidth}
+use Rattle.mbus_fields.proofs.Laws.TableLaws.{known-width}
 use Rattle.mbus_fields.proofs.quantities.width_of.Statement.{statement}
 use Rattle.mbus_fields.proofs.quantities.width_of.Tie as tie
 
+is-packed-requires : tie.Need-is-packed-requires
+is-packed-requires c κs = search needs
+
+is-binary-requires : tie.Need-is-binary-requires
+is-binary-requires c κs = search needs
+
+-- the width by the tests that were made
+by-tests : (c : tie.After-is-binary)
+    → widthOf (c .before .before .args .structure)
+    ≡ cond (c .before .is-packed .result || c .is-binary .result) (lowWidth (c .before .before .args .structure)) 0
+by-tests c = rw (c .before .is-packed .ensures, c .is-binary .ensures) (known-width (c .before .before .args .structure))
+
+low-width-requires : tie.Need-low-width-requires
+low-width-requires c κs = search needs
+
 returns : tie.Need-returns
-unfolding widthOf
-returns c = rw (eq-eqb _ _ (c .if1 .taken))
+returns c = c .low-width .ensures ∙ sym (by-tests (c .before .before) ∙ rw (c .before .if1 .taken))
 
 returns-2 : tie.Need-returns-2
-unfolding widthOf
-returns-2 c = rw (ne-eqb _ _ (c .before .if1 .left), eq-eqb _ _ (c .if2 .taken))
-
-returns-3 : tie.Need-returns-3
-unfolding widthOf
-returns-3 c = rw (ne-eqb _ _ (c .before .before .if1 .left), ne-eqb _ _ (c .before .if2 .left), eq-eqb _ _ (c .if3 .taken))
-
-returns-4 : tie.Need-returns-4
-unfolding widthOf
-returns-4 c = rw (
-  ne-eqb _ _ (c .before .before .before .if1 .left),
-  ne-eqb _ _ (c .before .before .if2 .left),
-  ne-eqb _ _ (c .before .if3 .left),
-  eq-eqb _ _ (c .if4 .taken),
-)
-
-returns-5 : tie.Need-returns-5
-unfolding widthOf
-returns-5 c = rw (
-  ne-eqb _ _ (c .before .before .before .before .if1 .left),
-  ne-eqb _ _ (c .before .before .before .if2 .left),
-  ne-eqb _ _
-      (c .before .before .if3 .left),
-  ne-eqb _ _ (c .before .if4 .left),
-  eq-eqb _ _ (c .if5 .taken),
-)
-
-returns-6 : tie.Need-returns-6
-unfolding widthOf
-returns-6 c = rw (
-  ne-eqb _ _ (c .before .before .before .before .if1 .left),
-  ne-eqb _ _ (c .before .before .before .if2 .left),
-  ne-eqb _ _
-      (c .before .before .if3 .left),
-  ne-eqb _ _ (c .before .if4 .left),
-  ne-eqb _ _ (c .if5 .left),
-)
+returns-2 c = sym (by-tests (c .before) ∙ rw (c .if1 .left))
 
 pub width-of-spec : {M : Type 1} → statement M
-width-of-spec = tie.close (tie.spec returns returns-2 returns-3 returns-4 returns-5 returns-6)
+width-of-spec =
+    tie.close (tie.spec is-packed-requires is-binary-requires low-width-requires returns returns-2)

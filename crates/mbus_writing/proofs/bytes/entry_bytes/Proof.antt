@@ -5,7 +5,7 @@ use mathlib.Core.List.{List, _∷_}
 use mathlib.Core.Path.{_≡_, sym, ap, _∙_}
 use lib.ListN.{length}
 use Rattle.mbus_rules.proofs.Laws.ByteLaws.{spell-whole}
-use Rattle.mbus_writing.specs.Laying.{sixBytes}
+use Rattle.mbus_writing.specs.Laying.{eightBytes}
 use Rattle.mbus_writing.proofs.bytes.entry_bytes.Statement.{statement}
 use Rattle.mbus_writing.proofs.bytes.entry_bytes.Tie as tie
 
@@ -33,12 +33,18 @@ array-read-t20 c = search needs
 array-read-t23 : tie.Need-array-read-t23
 array-read-t23 c = search needs
 
+array-read-t26 : tie.Need-array-read-t26
+array-read-t26 c = search needs
+
+array-read-t29 : tie.Need-array-read-t29
+array-read-t29 c = search needs
+
 returns : tie.Need-returns
 returns c =
-    let n : length (c .value-bytes .result) ≡ 6 = search needs in
+    let n : length (c .value-bytes .result) ≡ 8 = search needs in
     let e = c .before .before .args .e in
     ap (λ (l : List ℕ). e .structure ∷ e .unit ∷ l)
-    (sym (spell-whole 6 (c .value-bytes .result) n) ∙ c .value-bytes .ensures ∙ ap (λ (w : ℕ). sixBytes w (e .value)) (c .before .width-of .ensures))
+    (sym (spell-whole 8 (c .value-bytes .result) n) ∙ c .value-bytes .ensures ∙ ap (λ (w : ℕ). eightBytes w (e .value)) (c .before .width-of .ensures))
 
 pub entry-bytes-spec : {M : Type 1} → statement M
 entry-bytes-spec =
@@ -52,4 +58,6 @@ entry-bytes-spec =
     array-read-t17
     array-read-t20
     array-read-t23
+    array-read-t26
+    array-read-t29
     returns)

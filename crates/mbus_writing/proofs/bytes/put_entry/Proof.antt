@@ -7,26 +7,27 @@ use borrow.Author.Needs.{needs}
 use lib.ListN.{length, take}
 use lib.Seq.{length-take-le}
 use Rattle.mbus_rules.specs.Quantities.{widthOf}
+use Rattle.mbus_rules.specs.Writing.{longest}
 use Rattle.bytes_lent.specs.Copying.{copied}
 use Rattle.mbus_writing.proofs.Laws.Laying.{EntryCut, entry-cut, entry-laid}
 use Rattle.mbus_writing.proofs.bytes.put_entry.Statement.{statement}
 use Rattle.mbus_writing.proofs.bytes.put_entry.Tie as tie
 
 entry-bytes-requires : tie.Need-entry-bytes-requires
-entry-bytes-requires c κs = let x = entry-cut (c .before .args .e) (c .before .pre .right) in (x .there, x .most)
+entry-bytes-requires c κs = entry-cut (c .before .args .e) (c .before .pre .right) .there
 
 width-of-requires : tie.Need-width-of-requires
 width-of-requires c κs = search needs
 
--- the width is the entry's: it is cut from eight bytes, and there is room for it
+-- the width is the entry's: it is cut from ten bytes, and there is room for it
 record Sized (c : tie.After-width-of) : Type 0 where
   pub so : 2 + c .width-of .result ≡ 2 + widthOf (c .before .before .before .args .e .structure)
   pub within : 2 + c .width-of .result ≤ length (c .before .entry-bytes .result)
-  pub room : c .before .before .before .args .at + (2 + c .width-of .result) ≤ 75
+  pub room : c .before .before .before .args .at + (2 + c .width-of .result) + 2 ≤ longest
 
 sized : (c : tie.After-width-of) → Sized c
 sized c =
-    let n : length (c .before .entry-bytes .result) ≡ 8 = search needs in
+    let n : length (c .before .entry-bytes .result) ≡ 10 = search needs in
     let x : EntryCut (c .before .before .before .args .e) = entry-cut (c .before .before .before .args .e) (c .before .before .before .pre .right) in
     let w : 2 + c .width-of .result ≡ 2 + widthOf (c .before .before .before .args .e .structure) = ap (λ (k : ℕ). 2 + k) (c .width-of .ensures) in
     record { so = w; within = omega (arith, x .most); room = omega (arith, x .width, c .before .before .before .pre .room) }

@@ -1,12 +1,16 @@
 -- `mbus_writing::bytes::value_bytes` meets its contract, case by case. Assumes nothing.
 use borrow.Author.Needs.{needs}
+use Prim.Native.Nat.{ℕ}
 use mathlib.Core.Bool.{true}
-use mathlib.Core.List.{[], _∷_}
+use mathlib.Core.List.{List, [], _∷_, _++_}
 use mathlib.Core.Path.{_≡_, ap, _∙_}
 use native.Mathlib.Omega.{arith}
+use borrow.Author.Tests.{leb-true}
+use lib.Dec.{leb}
 use mir.Syntax.{w64}
 use mir.ValLaws.{toZ-ofZ}
 use Rattle.mbus_rules.specs.Signs.{fitsSigned}
+use Rattle.mbus_rules.specs.Binary.{binaryBytes}
 use Rattle.mbus_rules.specs.Moments.{dateExists, timeExists, weekdayExists}
 use Rattle.mbus_rules.proofs.Laws.TestLaws.{every}
 use Rattle.mbus_writing.specs.Laying.{signedSix}
@@ -20,8 +24,12 @@ signed-six-requires : tie.Need-signed-six-requires
 signed-six-requires c κs =
     let v = c .before .before .value .given in
     let g = c .struct-told .given in
-    let fits : fitsSigned (c .before .before .before .before .args .width) (v .0 .0 .count) ≡ true = rw (v .1) at (c .before .before .before .before .pre .0) in
-    rw (toZ-ofZ w64 (v .0 .0 .count) (record { sfits = omega arith })) (fits, c .before .before .before .before .pre .1)
+    let w = c .before .before .before .before .args .width in
+    let k = every (leb w 6) (fitsSigned w (v .0 .0 .count) ∷ []) (rw (v .1) at (c .before .before .before .before .pre)) in
+    rw (toZ-ofZ w64 (v .0 .0 .count) (record { sfits = omega arith })) (k .1 .0, leb-true w 6 (k .0))
+
+widened-requires : tie.Need-widened-requires
+widened-requires c κs = search needs
 
 enum-known-value-2 : tie.Need-enum-known-value-2
 enum-known-value-2 c = search needs
@@ -29,18 +37,35 @@ enum-known-value-2 c = search needs
 moment-bytes-requires : tie.Need-moment-bytes-requires
 moment-bytes-requires c κs =
     let m = c .before .value2 .given .0 .0 in
-    let k = every (dateExists m) (timeExists m ∷ weekdayExists m ∷ []) (rw (c .before .value2 .given .1) at (c .before .before .before .pre .0)) in
+    let k = every (dateExists m) (timeExists m ∷ weekdayExists m ∷ []) (rw (c .before .value2 .given .1) at (c .before .before .before .pre)) in
     (k .0, k .1 .0, k .1 .1 .0)
+
+widened-requires-2 : tie.Need-widened-requires-2
+widened-requires-2 c κs = search needs
+
+enum-known-value-3 : tie.Need-enum-known-value-3
+enum-known-value-3 c = search needs
+
+binary-eight-requires : tie.Need-binary-eight-requires
+binary-eight-requires c κs = search needs
 
 returns : tie.Need-returns
 returns c =
-    let v = c .before .before .before .value .given in
-    let g = c .before .struct-told .given in
+    let v = c .before .before .before .before .value .given in
+    let g = c .before .before .struct-told .given in
+    let w = c .before .before .before .before .before .before .args .width in
     let t = toZ-ofZ w64 (v .0 .0 .count) (record { sfits = omega arith }) in
-    rw (v .1) (c .signed-six .ensures ∙ ap (signedSix (c .before .before .before .before .before .args .width)) t)
+    rw (v .1) (c .widened .ensures ∙ ap (λ (l : List ℕ). l ++ (0 ∷ 0 ∷ [])) (c .before .signed-six .ensures ∙ ap (signedSix w) t))
 
 returns-2 : tie.Need-returns-2
-returns-2 c = rw (c .before .before .value2 .given .1) (c .moment-bytes .ensures)
+returns-2 c =
+    rw (c .before .before .before .value2 .given .1) (c .widened2 .ensures ∙ ap (λ (l : List ℕ). l ++ (0 ∷ 0 ∷ [])) (c .before .moment-bytes .ensures))
+
+returns-3 : tie.Need-returns-3
+returns-3 c =
+    let v = c .before .before .before .value3 .given in
+    let g = c .before .struct-told2 .given in
+    rw (v .1) (c .binary-eight .ensures ∙ ap (binaryBytes 8) (toZ-ofZ w64 (v .0 .0 .count) (record { sfits = omega arith })))
 
 pub value-bytes-spec : {M : Type 1} → statement M
 value-bytes-spec =
@@ -48,7 +73,12 @@ value-bytes-spec =
     (tie.spec
     enum-known-value
     signed-six-requires
+    widened-requires
     enum-known-value-2
     moment-bytes-requires
+    widened-requires-2
+    enum-known-value-3
+    binary-eight-requires
     returns
-    returns-2)
+    returns-2
+    returns-3)

@@ -15,11 +15,23 @@ moment-of-requires c κs = search needs
 enum-known-value : tie.Need-enum-known-value
 enum-known-value c = search needs
 
+enum-told-2 : tie.Need-enum-told-2
+enum-told-2 c = search needs
+
+slice-aggregate-moment-of-2 : tie.Need-slice-aggregate-moment-of-2
+slice-aggregate-moment-of-2 c = search needs
+
+moment-of-requires-2 : tie.Need-moment-of-requires-2
+moment-of-requires-2 c κs = search needs
+
 returns : tie.Need-returns
 returns c = rw (c .before .before .enum-told .given .1) (c .moment-of .ensures)
 
 returns-2 : tie.Need-returns-2
 returns-2 c = search needs
+
+returns-3 : tie.Need-returns-3
+returns-3 c = rw (c .before .before .enum-told2 .given .1) (c .moment-of2 .ensures)
 
 pub moment-in-spec : {M : Type 1} → statement M
 moment-in-spec =
@@ -29,5 +41,9 @@ moment-in-spec =
     slice-aggregate-moment-of
     moment-of-requires
     enum-known-value
+    enum-told-2
+    slice-aggregate-moment-of-2
+    moment-of-requires-2
     returns
-    returns-2)
+    returns-2
+    returns-3)

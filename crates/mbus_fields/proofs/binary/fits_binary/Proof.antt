@@ -1,0 +1,48 @@
+-- `mbus_fields::binary::fits_binary` meets its contract: each sign by its law. Assumes nothing.
+use borrow.Author.Needs.{needs}
+use Prim.Native.Nat.{min}
+use mathlib.Core.Path.{sym, ap, _∙_}
+use lib.IntN.{natAbs}
+use mir.Syntax.{w64}
+use mir.ValLaws.{toZ-ofZ}
+use Rattle.mbus_rules.specs.Signs.{belowZero}
+use Rattle.mbus_fields.proofs.Laws.CodeLaws.{fits-below, fits-above}
+use Rattle.mbus_fields.proofs.binary.fits_binary.Statement.{statement}
+use Rattle.mbus_fields.proofs.binary.fits_binary.Tie as tie
+
+most-of-requires : tie.Need-most-of-requires
+most-of-requires c κs = search needs
+
+size-of-requires : tie.Need-size-of-requires
+size-of-requires c κs = search needs
+
+is-below-zero-requires : tie.Need-is-below-zero-requires
+is-below-zero-requires c κs = search needs
+
+sub-result : tie.Need-sub-result
+sub-result c = search needs
+
+returns : tie.Need-returns
+returns c =
+    let a = c .before .before .before .before .args in
+    let t = toZ-ofZ w64 (a .count) (c .before .before .before .before .fits .count) in
+    rw (c .before .before .before .most-of .ensures, c .before .before .size-of .ensures ∙ ap natAbs t)
+    (fits-below (min (a .width) 8) (a .count) (sym (c .before .is-below-zero .ensures ∙ ap belowZero t) ∙ c .if1 .taken))
+
+returns-2 : tie.Need-returns-2
+returns-2 c =
+    let a = c .before .before .before .before .args in
+    let t = toZ-ofZ w64 (a .count) (c .before .before .before .before .fits .count) in
+    rw (c .before .before .before .most-of .ensures, c .before .before .size-of .ensures ∙ ap natAbs t)
+    (fits-above (min (a .width) 8) (a .count) (sym (c .before .is-below-zero .ensures ∙ ap belowZero t) ∙ c .if1 .left))
+
+pub fits-binary-spec : {M : Type 1} → statement M
+fits-binary-spec =
+    tie.close
+    (tie.spec
+    most-of-requires
+    size-of-requires
+    is-below-zero-requires
+    sub-result
+    returns
+    returns-2)
