@@ -10,25 +10,24 @@
 #include <inttypes.h>
 #include <stdio.h>
 
-enum { PLACES_MOST = 600, MARKER = 0xFFFF };
+enum { MARKER = 0xFFFF };
 
 static uint16_t characters[WORDS_MOST];
 
-static void clear_places(uint64_t places)
+void clear_places(uint16_t *buffer, uint64_t places)
 {
     while (places > 0)
-        characters[--places] = MARKER;
+        buffer[--places] = MARKER;
 }
 
-/* An outcome of writing: the length or the refusal, and what stands in the places. */
-static void say_places(int refusal, uint64_t length, uint64_t places)
+void say_places(int refusal, uint64_t length, const uint16_t *buffer, uint64_t places)
 {
     if (!refused(refusal))
         printf("wrote +%" PRIu64, length);
-    while (places > 0 && characters[places - 1] == MARKER)
+    while (places > 0 && buffer[places - 1] == MARKER)
         places--;
     for (uint64_t i = 0; i < places; i++)
-        printf(" %03" PRIX16, characters[i]);
+        printf(" %03" PRIX16, buffer[i]);
 }
 
 int answer_read(void)
@@ -49,9 +48,9 @@ int answer_write(void)
     size_t length = 0;
     if (!take(&places, PLACES_MOST) || !take_telegram(&t) || !is_whole())
         return 0;
-    clear_places(places);
+    clear_places(characters, places);
     int refusal = second_write(&t, characters, (size_t)places, &length);
-    say_places(refusal, length, places);
+    say_places(refusal, length, characters, places);
     return 1;
 }
 
@@ -84,8 +83,8 @@ int answer_wake(void)
     uint64_t count, places;
     if (!take(&count, UINT64_MAX) || !take(&places, PLACES_MOST) || !is_whole())
         return 0;
-    clear_places(places);
-    say_places(second_wake(count, characters, (size_t)places), count, places);
+    clear_places(characters, places);
+    say_places(second_wake(count, characters, (size_t)places), count, characters, places);
     return 1;
 }
 

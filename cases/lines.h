@@ -2,6 +2,14 @@
 #ifndef CASES_LINES_H
 #define CASES_LINES_H
 
+#include <stdint.h>
+
+enum { PLACES_MOST = 600 };
+
+/* What is lent to a writer before it is called, and an outcome of writing: the length or the refusal, and what stands there. */
+void clear_places(uint16_t *buffer, uint64_t places);
+void say_places(int refusal, uint64_t length, const uint16_t *buffer, uint64_t places);
+
 /* Each answers the case and says yes, or prints nothing and says that it is bad. */
 int answer_read(void);
 int answer_write(void);

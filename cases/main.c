@@ -4,6 +4,7 @@
  */
 #include "bundles.h"
 #include "captures.h"
+#include "cjts.h"
 #include "histories.h"
 #include "lines.h"
 #include "resistances.h"
@@ -27,6 +28,7 @@ static const struct {
     {"length", answer_length}, {"after", answer_after},
     {"replay", answer_replay},
     {"sweep", answer_sweep},
+    {"cjtread", answer_cjtread},       {"cjtwrite", answer_cjtwrite},       {"cjtenergy", answer_cjtenergy},
 };
 
 static int answer_case(char **known)

@@ -48,6 +48,10 @@ static const struct {
     [REPLAY_ERROR] = {"skarrowith_replay_error", "0", "21 30 31 32 33 34 35 36 37 61 62 63 64 65"},
     [BUNDLE_SALVAGE] = {"skarrowith_bundle_salvage", "0", "21 30 31 32 33 38"},
     [BUNDLE_SWEEP] = {"skarrowith_bundle_sweep", "0", "30 31 32 33 34 35 36 37"},
+    [CJT_CHECK_LINE] = {"skarrowith_cjt_check_line", "1 2", "1 2 3 17 80 81 82 83 84 85"},
+    [CJT_READ_LINE] = {"skarrowith_cjt_read_line", "1 2", "1 2 3 21 80 81 82 83 84 85"},
+    [CJT_WRITE_LINE] = {"skarrowith_cjt_write_line", "16 59", "20 21 101"},
+    [CJT_ENERGY_ENTRY] = {"skarrowith_cjt_energy_entry", "0", "21 84 85 86"},
 };
 
 static unsigned long seen[FUNCTIONS][ANSWERS], cases;

@@ -37,6 +37,10 @@ enum function {
     REPLAY_ERROR,
     BUNDLE_SALVAGE,
     BUNDLE_SWEEP,
+    CJT_CHECK_LINE,
+    CJT_READ_LINE,
+    CJT_WRITE_LINE,
+    CJT_ENERGY_ENTRY,
     FUNCTIONS
 };
 

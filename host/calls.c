@@ -9,6 +9,7 @@
 #include "skarrowith.h"
 
 #include "../second/bundle.h"
+#include "../second/cjt.h"
 #include "../second/example.h"
 #include "../second/line.h"
 #include "../second/number.h"
@@ -36,6 +37,8 @@ static struct skarrowith_exchange waiting, exchange;
 static struct skarrowith_meter set_up, meter;
 static struct skarrowith_contents contents;
 static struct skarrowith_salvaged salvaged;
+static struct skarrowith_cjt_telegram cjt;
+static struct skarrowith_entry entry;
 
 /* ---- what is called */
 
@@ -93,6 +96,10 @@ static uint32_t meter_measure(void)
 
 static uint32_t resistance(void) { return skarrowith_resistance(5019, &number); }
 static uint32_t temperature(void) { return skarrowith_temperature(1200000, &number); }
+static uint32_t check_cjt(void) { return skarrowith_cjt_check_line(bytes, 2 * count); }
+static uint32_t read_cjt(void) { return skarrowith_cjt_read_line(characters, count, &cjt, sizeof cjt); }
+static uint32_t write_cjt(void) { return skarrowith_cjt_write_line(&cjt, sizeof cjt, characters, MOST); }
+static uint32_t cjt_entry(void) { return skarrowith_cjt_energy_entry(212234, SKARROWITH_CJT_100_MWH, &entry, sizeof entry); }
 static uint32_t check_bundle(void) { return skarrowith_bundle_check(bytes, count, &told); }
 static uint32_t make_contents(void) { return skarrowith_contents_of(bytes, count, &contents, sizeof contents); }
 
@@ -154,6 +161,13 @@ static uint32_t read_by_second(void)
 
 static uint32_t replay_by_second(void) { return (uint32_t)second_replay(bytes, count, 7, 0, 1000, 1000, &tenths); }
 
+static uint32_t read_cjt_by_second(void)
+{
+    struct second_cjt t;
+    int refusal = second_cjt_read(characters, count, &t);
+    return refusal == 0 ? (uint32_t)t.kind : 256 + (uint32_t)refusal;
+}
+
 /* By the formula, without a table. */
 static uint32_t resistance_by_second(void) { return (uint32_t)second_resistance(5019, &number); }
 
@@ -179,6 +193,14 @@ static void put_ack(void) { put(ack, sizeof ack); }
 static void put_request(void) { put(request, sizeof request); }
 static void put_enter(void) { put(enter, sizeof enter); }
 static void put_data(void) { put(second_example, sizeof second_example); }
+
+static void put_cjt(void) { put(second_cjt_example, sizeof second_cjt_example); }
+
+static void put_cjt_telegram(void)
+{
+    put_cjt();
+    read_cjt();
+}
 
 /* The longest line of a meter that answers in binary, 89 characters: 000's header, six values of eight bytes, and the time. */
 static void put_binary(void)
@@ -409,6 +431,10 @@ static const struct {
     {"find-falling", put_falling, find_too_early, NULL},
     {"resistance", put_ack, resistance, resistance_by_second},
     {"temperature", put_ack, temperature, NULL},
+    {"cjt-answer", put_cjt, check_cjt, read_cjt_by_second},
+    {"cjt-read", put_cjt, read_cjt, read_cjt_by_second},
+    {"cjt-write", put_cjt_telegram, write_cjt, NULL},
+    {"cjt-energy", put_ack, cjt_entry, NULL},
     {"check-bundle", put_bundle, check_bundle, NULL},
     {"list-bundle", put_bundle, list_bundle, NULL},
     {"contents-bundle", put_bundle, make_contents, NULL},

@@ -6,6 +6,7 @@
 
 #include "../second/bundle.h"
 #include "../second/capture.h"
+#include "../second/cjt.h"
 #include "../second/contents.h"
 #include "../second/exchange.h"
 #include "../second/indication.h"
@@ -363,4 +364,62 @@ int second_replay(const uint8_t *bundle, size_t n, unsigned position, uint64_t s
                   int64_t *tenths)
 {
     return refusal_in(skarrowith_replay_error(bundle, n, (uint8_t)position, s1, s2, elapsed, tenths, 1));
+}
+
+/* ---- CJ/T 188 */
+
+static struct skarrowith_cjt_value cjt_value(const struct second_cjt *t, int which)
+{
+    return (struct skarrowith_cjt_value){t->numbers[which], (uint8_t)t->codes[which], {0}};
+}
+
+static struct skarrowith_cjt_telegram cjt_record(const struct second_cjt *t)
+{
+    const unsigned *c = t->clock;
+    return (struct skarrowith_cjt_telegram){
+        .kind = (uint8_t)t->kind, .type = (uint8_t)t->type, .serial = (uint8_t)t->serial, .broadcast = (uint8_t)t->is_broadcast,
+        .state = {(uint8_t)t->state[0], (uint8_t)t->state[1]}, .address = t->address,
+        .cold = cjt_value(t, SECOND_CJT_COLD), .heat = cjt_value(t, SECOND_CJT_HEAT), .power = cjt_value(t, SECOND_CJT_POWER),
+        .flow = cjt_value(t, SECOND_CJT_FLOW), .volume = cjt_value(t, SECOND_CJT_VOLUME),
+        .inlet = t->numbers[SECOND_CJT_INLET], .outlet = t->numbers[SECOND_CJT_OUTLET], .hours = t->numbers[SECOND_CJT_HOURS],
+        .clock = {(uint16_t)c[0], (uint8_t)c[1], (uint8_t)c[2], (uint8_t)c[3], (uint8_t)c[4], (uint8_t)c[5], 0}};
+}
+
+static struct second_cjt cjt_of(const struct skarrowith_cjt_telegram *r)
+{
+    const struct skarrowith_cjt_clock *c = &r->clock;
+    return (struct second_cjt){
+        (enum second_cjt_kind)r->kind, r->type, r->serial, r->broadcast, r->address,
+        {r->cold.count, r->heat.count, r->power.count, r->flow.count, r->volume.count, r->inlet, r->outlet, r->hours},
+        {r->cold.code, r->heat.code, r->power.code, r->flow.code, r->volume.code},
+        {c->year, c->month, c->day, c->hour, c->minute, c->second}, {r->state[0], r->state[1]}};
+}
+
+int second_cjt_read(const uint16_t *line, size_t n, struct second_cjt *t)
+{
+    struct skarrowith_cjt_telegram r;
+    int refusal = refusal_in(skarrowith_cjt_read_line(line, n, &r, sizeof r));
+    if (refusal == 0)
+        *t = cjt_of(&r);
+    return refusal;
+}
+
+int second_cjt_write(const struct second_cjt *t, uint16_t *out, size_t places, size_t *length)
+{
+    struct skarrowith_cjt_telegram r = cjt_record(t);
+    uint32_t answer = skarrowith_cjt_write_line(&r, sizeof r, out, places);
+    *length = answer;
+    return refusal_in(answer);
+}
+
+/* The text of a case says that the structure is 0E and the value digits: another answer is none of its refusals. */
+int second_cjt_energy(uint32_t count, unsigned code, unsigned *unit, uint64_t *number)
+{
+    struct skarrowith_entry r;
+    int refusal = refusal_in(skarrowith_cjt_energy_entry(count, (uint8_t)code, &r, sizeof r));
+    if (refusal != 0)
+        return refusal;
+    *unit = r.unit;
+    *number = (uint64_t)r.value.count;
+    return r.structure == 0x0E && r.sort == SKARROWITH_DECIMAL ? 0 : -1;
 }

@@ -2,6 +2,7 @@
  * The archive against the second program, in one process: every function of the header on seeded calls, histories of
  * exchanges and meters with their records, and records that no step gives; first the resistance box on
  * every hundredth, and the example bundle cut at every length and swept of every position.
+ * every hundredth, the example bundle cut at every length, and a CJ/T 188 answer with every byte at every place.
  *   compare [SEED [COUNT]]
  * Makes COUNT calls, or a few more. Prints the first on which they differ in full, and fails; fails too where an answer
  * that a function can give was not seen, where no line had one, two or three flips, or where one that had is accepted.
@@ -9,6 +10,7 @@
 #include "call.h"
 #include "compare_bundle.h"
 #include "compare_capture.h"
+#include "compare_cjt.h"
 #include "compare_exchange.h"
 #include "compare_line.h"
 #include "compare_meter.h"
@@ -42,6 +44,7 @@ static const struct {
     {compare_either, 5},       {compare_unmark, 20},       {compare_length, 10},    {compare_after, 5},
     {compare_error, 20},       {compare_exchange, 20},  {compare_meter, 12},  {compare_bundle, 15},
     {compare_resistance, 10},  {compare_temperature, 10}, {compare_replay, 20},
+    {compare_cjt_check, 60},   {compare_cjt_read, 40},  {compare_cjt_write, 40}, {compare_cjt_energy, 20},
 };
 
 static void compare_some(void)
@@ -68,6 +71,7 @@ int main(int argc, char **argv)
     compare_all_resistances();
     compare_all_cuts();
     compare_all_positions();
+    compare_all_cjt();
     while (calls_made() < count)
         compare_some();
     all = all_seen();

@@ -20,8 +20,7 @@
 /* How many lines had one, two and three flips. */
 static unsigned long flipped[4];
 
-/* One to three different bits of the nine are turned over: no such line is accepted. */
-static void flip_different(struct line *l)
+void flip_different(struct line *l)
 {
     unsigned places[3], count = between(1, 3), done = 0;
     flipped[count]++;

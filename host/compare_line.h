@@ -2,6 +2,8 @@
 #ifndef COMPARE_LINE_H
 #define COMPARE_LINE_H
 
+#include "../second/make_frame.h"
+
 /* Each makes one call. */
 void compare_check_line(void);
 void compare_words(void);
@@ -13,6 +15,9 @@ void compare_request(void);
 void compare_wake(void);
 void compare_gap(void);
 void compare_error(void);
+
+/* One to three different bits of the nine are turned over: no such line is accepted. */
+void flip_different(struct line *l);
 
 /* Says how many lines with flips were checked; whether there were some with one, two and three. */
 int flips_seen(void);

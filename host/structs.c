@@ -66,3 +66,27 @@ void hold_meter(const struct lent *l, const struct second_meter *s)
         (s->is_verifying && (m.method != s->method || m.since != s->instructed)))
         fail("a field of the meter's struct is another");
 }
+
+static int is_value(const struct skarrowith_cjt_value *v, const struct second_cjt *s, int which)
+{
+    return v->count == s->numbers[which] && v->code == s->codes[which];
+}
+
+static int is_clock(const struct skarrowith_cjt_clock *c, const unsigned *parts)
+{
+    return c->year == parts[0] && c->month == parts[1] && c->day == parts[2] && c->hour == parts[3] && c->minute == parts[4] &&
+           c->second == parts[5];
+}
+
+void hold_cjt(const struct lent *l, const struct second_cjt *s)
+{
+    struct skarrowith_cjt_telegram t;
+    memcpy(&t, l->proved, sizeof t);
+    if (t.kind != (unsigned)s->kind || t.type != s->type || t.serial != s->serial || t.broadcast != (unsigned)s->is_broadcast ||
+        t.address != s->address || t.state[0] != s->state[0] || t.state[1] != s->state[1] ||
+        !is_value(&t.cold, s, SECOND_CJT_COLD) || !is_value(&t.heat, s, SECOND_CJT_HEAT) ||
+        !is_value(&t.power, s, SECOND_CJT_POWER) || !is_value(&t.flow, s, SECOND_CJT_FLOW) ||
+        !is_value(&t.volume, s, SECOND_CJT_VOLUME) || t.inlet != s->numbers[SECOND_CJT_INLET] ||
+        t.outlet != s->numbers[SECOND_CJT_OUTLET] || t.hours != s->numbers[SECOND_CJT_HOURS] || !is_clock(&t.clock, s->clock))
+        fail("a field of the CJ/T 188 telegram's struct is another");
+}

@@ -4,6 +4,7 @@
 
 #include "call.h"
 
+#include "../second/cjt.h"
 #include "../second/exchange.h"
 #include "../second/line.h"
 #include "../second/meter.h"
@@ -12,5 +13,6 @@
 void hold_telegram(const struct lent *l, const struct second_telegram *s);
 void hold_exchange(const struct lent *l, const struct second_exchange *s);
 void hold_meter(const struct lent *l, const struct second_meter *s);
+void hold_cjt(const struct lent *l, const struct second_cjt *s);
 
 #endif

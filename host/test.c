@@ -60,7 +60,7 @@ static void expect_words(uint32_t number, size_t places, uint32_t answer, const 
 static int has_words(uint32_t n)
 {
     return (n >= 1 && n <= 21 && n != 15 && n != 19) || (n >= 30 && n <= 43) || (n >= 50 && n <= 52) || (n >= 60 && n <= 65) ||
-           (n >= 70 && n <= 72) || n == 90 || n == 91 || n == 100 || n == 101;
+           (n >= 70 && n <= 72) || (n >= 80 && n <= 86) || n == 90 || n == 91 || n == 100 || n == 101;
 }
 
 static void expect_all_words(void)
@@ -404,6 +404,10 @@ int main(void)
     expect_words(8, 0, SKARROWITH_REFUSED + 21, "");
     expect_words(72, 260, 83, "meter: set up with data the writer refuses, or energy or volume not in structure 0C");
     expect_words(63, 260, 30, "replay: fewer than two answers");
+    expect_words(80, 260, 45, "CJ/T 188: frame shape, or length not 03 or 2E");
+    expect_words(SKARROWITH_REFUSED + 86, 260, 30, "CJ/T 188: conversion not exact");
+    expect_words(79, 260, SKARROWITH_REFUSED + SKARROWITH_NO_SUCH_NUMBER, "");
+    expect_words(87, 260, SKARROWITH_REFUSED + SKARROWITH_NO_SUCH_NUMBER, "");
     expect_words(90, 260, 34, "temperature over 20,000 hundredths");
     expect_words(91, 260, 44, "resistance below the first or above the last");
     expect_words(21, 260, 32, "output: fewer places than needed");

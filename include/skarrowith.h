@@ -1,5 +1,6 @@
 /*
- * Skarrowith: lines, exchanges, simulated meters, run bundles and the resistance box of a heat-meter verification bench.
+ * Skarrowith: lines, exchanges, simulated meters, run bundles and the resistance box of a heat-meter verification bench,
+ * and the lines of its CJ/T 188 meters.
  *
  * The functions are proved to keep the written rules (docs/RULES.md of the source) for every input, of any length: they
  * read and write only the memory that they are lent, keep no state, call nothing but memcpy and memset, and always return.
@@ -8,8 +9,9 @@
  * Answers. Every function answers one number. Below 256 it is the answer, 0 where there is nothing to say;
  * SKARROWITH_REFUSED plus n is refusal n. On a refusal nothing that was lent has changed, and otherwise only the places
  * that are named have. Where several refusals apply, the library's own (100, 101) go first and then the lowest number,
- * but for five rules:
- *   - 17, an odd number of bytes, goes before 1 to 16;
+ * but for six rules:
+ *   - 17, an odd number of bytes, goes before 1 to 16, and before 80 to 85;
+ *   - reading a CJ/T 188 line gives 80 to 85 before 21;
  *   - 11 to 14 are tried entry by entry from the left, in each entry the lowest first, and 16 after the last entry;
  *   - a wake-up gives 52 before 21;
  *   - adding to a bundle gives all that it has against the old bundle, 30 to 37, before 34, 37 and 38 for the new row;
@@ -25,7 +27,7 @@
  * Stack, as measured. skarrowith_bundle_list takes 28,000 bytes, skarrowith_replay_error 5,800, the simulated meter up to
  * 4,300, every other function fewer than 1,600.
  *
- * Lines. But for skarrowith_check_line and the bodies of a bundle, which are bytes, a line is its characters: each a
+ * Lines. But for the two checks of a line and the bodies of a bundle, which are bytes, a line is its characters: each a
  * uint16_t with the byte received in the low eight bits and the parity bit received as bit 8. Lengths and places count
  * characters. Times are counted in bit times of 1/2400 s.
  *
@@ -35,7 +37,9 @@
  * its size; bytes named zero are 0; a telegram's kind is 1 to 5 and the sort of each of its seven entries 0 to 2. No other
  * field of a telegram is asked about there: one with a count of 9 or a month 13 is a record, and what is done with it says
  * the rest (writing refuses it by 20, set-up by 72). An exchange and a meter are records only if some history of steps leads
- * to them; 24 zeros are the record of no exchange. Columns are records if their count is not over 512.
+ * to them; 24 zeros are the record of no exchange. Columns are records if their count is not over 512. A CJ/T 188 telegram
+ * has a kind 1 or 2 and broadcast 0 or 1; broadcast 1 has address 0 and is no answer's; a request has 0 in all that only an
+ * answer has. No other field of it is asked about there, and writing refuses the rest by 20.
  *
  * Build the archive target/staticlib/libskarrowith.a with `make`, and link it into an x86-64 program.
  */
@@ -267,6 +271,99 @@ uint32_t skarrowith_resistance(uint32_t hundredths, uint32_t *milliohm);
  * 0, or refuses by 91 (under 1,000,000 milliohm, that of 0 degrees, or over 1,758,560, that of 200).
  */
 uint32_t skarrowith_temperature(uint32_t milliohm, uint32_t *hundredths);
+
+/*
+ * CJ/T 188
+ *
+ * The other protocol of a bench, for the meters that speak it: the caller knows which one a position has, and calls these
+ * functions for it. A line is 68, the type, seven bytes of address, control, length, data, the sum from 68 on, 16. Up to five
+ * FE bytes in front of a line that is read are skipped; none are written. Characters are as in Lines, above.
+ *
+ * Refusals of a line after 1 to 3, the lowest that applies: 80 no such frame, more than five FE bytes in front, or a length
+ * that is not 03 or 2E; 81 sum; 82 a type or an address that is none, broadcast in an answer included; 83 data marked other
+ * than 1F 90, or a control byte that is not that length's; 84 a digit over nine, or a date or time of day that does not exist;
+ * 85 a unit code that this value does not have.
+ */
+
+/* The two telegrams: what checking and reading answer for a line that is accepted. */
+#define SKARROWITH_CJT_REQUEST 1u
+#define SKARROWITH_CJT_ANSWER 2u
+
+/* The most characters of a line that is written: those of an answer. A request has 16. */
+#define SKARROWITH_CJT_LINE_MOST 59u
+
+/* The unit codes. Cold and heat have one of the first nine. */
+#define SKARROWITH_CJT_WH 0x02
+#define SKARROWITH_CJT_KWH 0x05
+#define SKARROWITH_CJT_MWH 0x08
+#define SKARROWITH_CJT_100_MWH 0x0A
+#define SKARROWITH_CJT_J 0x01
+#define SKARROWITH_CJT_KJ 0x0B
+#define SKARROWITH_CJT_MJ 0x0E
+#define SKARROWITH_CJT_GJ 0x11
+#define SKARROWITH_CJT_100_GJ 0x13
+/* Power. */
+#define SKARROWITH_CJT_W 0x14
+#define SKARROWITH_CJT_KW 0x17
+#define SKARROWITH_CJT_MW 0x1A
+/* Volume, in litres and in cubic metres. */
+#define SKARROWITH_CJT_L 0x29
+#define SKARROWITH_CJT_M3 0x2C
+/* Flow, these in an hour. */
+#define SKARROWITH_CJT_L_H 0x32
+#define SKARROWITH_CJT_M3_H 0x35
+
+/* A value of eight digits, as a count of its last one, and the code of its unit. */
+struct skarrowith_cjt_value {
+    uint32_t count;
+    uint8_t code, zero[3];
+};
+
+/* The meter's clock: a Gregorian date of the years 0 to 9999, and a time of day. */
+struct skarrowith_cjt_clock {
+    uint16_t year;
+    uint8_t month, day, hour, minute, second, zero;
+};
+
+/*
+ * A telegram, 80 bytes. kind is SKARROWITH_CJT_REQUEST or SKARROWITH_CJT_ANSWER; type is the meter's, 20 to 23 or 25 to 27
+ * hex; serial is any byte. address is the fourteen digits as a number: 78 56 34 12 00 11 11 on the line is 11110012345678. A
+ * request to all meters has broadcast 1 and address 0.
+ *
+ * The rest is an answer's, and 0 in a request. The last digit of cold, heat, power and volume is a hundredth of the unit, that
+ * of flow a ten thousandth; inlet and outlet are in hundredths of a degree Celsius, hours in hours. state is the two state
+ * bytes with all their bits, reserved ones included, as the meter sends them.
+ */
+struct skarrowith_cjt_telegram {
+    uint8_t kind, type, serial, broadcast;
+    uint8_t state[2], zero[2];
+    uint64_t address;
+    struct skarrowith_cjt_value cold, heat, power, flow, volume;
+    uint32_t inlet, outlet, hours, zero_too;
+    struct skarrowith_cjt_clock clock;
+};
+
+/*
+ * Checks a line that was received: bytes, two for each character, as skarrowith_check_line is handed them. Answers
+ * SKARROWITH_CJT_REQUEST or SKARROWITH_CJT_ANSWER, or refuses by 17, 1 to 3 or 80 to 85.
+ */
+uint32_t skarrowith_cjt_check_line(const uint8_t *bytes, size_t len);
+
+/* Reads a line. Answers SKARROWITH_CJT_REQUEST or SKARROWITH_CJT_ANSWER, or refuses by 1 to 3, 80 to 85, and then 21. */
+uint32_t skarrowith_cjt_read_line(const uint16_t *line, size_t count, struct skarrowith_cjt_telegram *telegram, size_t size);
+
+/*
+ * Writes the line of a telegram, without FE bytes, into the first places. Answers the number of its characters, 16 or 59, or
+ * refuses by 101, 20 (no accepted line reads as this telegram) or 21.
+ */
+uint32_t skarrowith_cjt_write_line(const struct skarrowith_cjt_telegram *telegram, size_t size, uint16_t *line, size_t places);
+
+/*
+ * Turns cold or heat, or an energy of the caller's own, into an M-Bus entry of structure 0E: Wh kinds to Wh, J kinds to J, with
+ * the same exact value, and the unit byte whose power of ten is nearest to that of the last digit. Answers 0, or refuses by 21,
+ * 84 (a count over 99,999,999), 85 (no code of energy) or 86 (J whose two decimals are not both 0: no unit byte has them).
+ */
+uint32_t skarrowith_cjt_energy_entry(uint32_t count, uint8_t code, struct skarrowith_entry *entry, size_t size);
 
 /*
  * The exchange

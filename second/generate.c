@@ -5,6 +5,7 @@
 #include "chance.h"
 #include "make_bundle.h"
 #include "make_capture.h"
+#include "make_cjt.h"
 #include "make_line.h"
 #include "make_replay.h"
 #include "make_serial.h"
@@ -350,6 +351,57 @@ static void generate_replay(void)
     print_bytes(bundle.b, bundle.n, bundle.rows);
 }
 
+/* ---- CJ/T 188 */
+
+static void generate_cjtread(void)
+{
+    struct line l = {{0}, 0};
+    some_cjt_line(&l);
+    printf("cjtread");
+    print_characters(&l);
+}
+
+static void print_cjt(const struct second_cjt *t)
+{
+    static const char *const numbers[] = {"cold", "heat", "power", "flow", "volume", "inlet", "outlet", "hours"};
+    printf(" %s %02X", t->kind == SECOND_CJT_ANSWER ? "answer" : "request", t->type);
+    if (t->is_broadcast)
+        printf(" broadcast serial %02X", t->serial);
+    else
+        printf(" meter +%" PRIu64 " serial %02X", t->address, t->serial);
+    if (t->kind == SECOND_CJT_REQUEST)
+        return;
+    for (int which = 0; which < SECOND_CJT_NUMBERS; which++) {
+        printf(" %s +%" PRIu32, numbers[which], t->numbers[which]);
+        if (which < SECOND_CJT_CODES)
+            printf(" %02X", t->codes[which]);
+    }
+    printf(" clock +%u +%u +%u", t->clock[0], t->clock[1], t->clock[2]);
+    printf(" +%u +%u +%u state %02X %02X", t->clock[3], t->clock[4], t->clock[5], t->state[0], t->state[1]);
+}
+
+static void generate_cjtwrite(void)
+{
+    struct second_cjt t = good_cjt();
+    size_t length = t.kind == SECOND_CJT_ANSWER ? SECOND_CJT_LONGEST : 16, places = length;
+    if (once_in(2))
+        break_cjt(&t);
+    if (once_in(3))
+        places = length - 1 + below(3);
+    if (once_in(10))
+        places = below(80);
+    printf("cjtwrite +%zu", places);
+    print_cjt(&t);
+}
+
+static void generate_cjtenergy(void)
+{
+    uint32_t count;
+    unsigned code;
+    some_cjt_energy(&count, &code);
+    printf("cjtenergy +%" PRIu32 " %02X", count, code);
+}
+
 /* What is no case. */
 static void generate_bad(const char *name)
 {
@@ -380,6 +432,7 @@ int main(int argc, char **argv)
         {"length", generate_length}, {"after", generate_after},
         {"replay", generate_replay},
         {"sweep", generate_sweep},
+        {"cjtread", generate_cjtread},       {"cjtwrite", generate_cjtwrite},       {"cjtenergy", generate_cjtenergy},
     };
     if (argc != 4)
         return fprintf(stderr, "usage: generate NAME SEED COUNT\n"), 2;

@@ -29,3 +29,9 @@ pub mod Values
 pub mod Weekdays
 pub mod Signs
 pub mod Binary
+pub mod Cjt
+pub mod CjtValues
+pub mod CjtPromises
+pub mod CjtEmpty
+pub mod CjtEnergy
+pub mod CjtRecords

@@ -97,7 +97,8 @@ fn value_bytes(value: Value) -> [u8; 8]
     bytes_of(word)
 }
 
-fn entry_bytes(e: Entry) -> [u8; 16]
+// The record of an entry.
+pub fn entry_bytes(e: Entry) -> [u8; 16]
     ensures { λ r. ⌜ r ≡ entryBytes e ⌝ }
 {
     let value = e.value;

@@ -16,7 +16,7 @@ abbrev row : ℕ → String → Row
 row n s = record { number = n; words = s }
 
 -- 01's words and 02's in the order of the numbers, and the library's own. Where 01 joins numbers in one row, the words that they share are said again;
--- ≥ and – are written in ASCII; those of the run bundle are told by its name; 21 is said of every output, a record's too.
+-- ≥ and – are written in ASCII; those of the run bundle and of CJ/T 188 are told by its name; 21 is said of every output, a record's too.
 abbrev pub refusalTexts : List Row
 refusalTexts =
     row 1 "the line is empty"
@@ -64,6 +64,13 @@ refusalTexts =
     ∷ row 70 "meter: time goes back"
     ∷ row 71 "meter: a total would pass 99,999,999"
     ∷ row 72 "meter: set up with data the writer refuses, or energy or volume not in structure 0C"
+    ∷ row 80 "CJ/T 188: frame shape, or length not 03 or 2E"
+    ∷ row 81 "CJ/T 188: sum"
+    ∷ row 82 "CJ/T 188: type or address, AA with 2E included"
+    ∷ row 83 "CJ/T 188: data mark, or control not that length's"
+    ∷ row 84 "CJ/T 188: digits or clock"
+    ∷ row 85 "CJ/T 188: unit"
+    ∷ row 86 "CJ/T 188: conversion not exact"
     ∷ row 90 "temperature over 20,000 hundredths"
     ∷ row 91 "resistance below the first or above the last"
     ∷ row 100 "no words for this number"

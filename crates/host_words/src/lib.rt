@@ -150,7 +150,15 @@ fn say_of_steps(out: &mut [u8], number: u32) -> u32
         meter: time goes back\n\
         meter: a total would pass 99,999,999\n\
         meter: set up with data the writer refuses, or energy or volume not in structure 0C\n\
-        \n\n\n\n\n\n\n\n\n\n\n\n\n\n\n\n\n\
+        \n\n\n\n\n\n\n\
+        CJ/T 188: frame shape, or length not 03 or 2E\n\
+        CJ/T 188: sum\n\
+        CJ/T 188: type or address, AA with 2E included\n\
+        CJ/T 188: data mark, or control not that length's\n\
+        CJ/T 188: digits or clock\n\
+        CJ/T 188: unit\n\
+        CJ/T 188: conversion not exact\n\
+        \n\n\n\
         temperature over 20,000 hundredths\n\
         resistance below the first or above the last\n\
         \n\n\n\n\n\n\n\n\

@@ -6,3 +6,4 @@ pub mod SumLaws
 pub mod StoreLaws
 pub mod FlagLaws
 pub mod WalkLaws
+pub mod GatherLaws

@@ -43,17 +43,23 @@ pub fn spare_bits(value: &[u8]) -> bool
     (63 < second) | (63 < minute) | (0 < last)
 }
 
-// The days of a month, by the Gregorian calendar; year 0 is 2000.
-pub fn days_in(year: u8, month: u8) -> u8
-    ensures { λ r. ⌜ r ≡ daysIn (2000 + year) month ⌝ }
+// The days of a month, by the Gregorian calendar.
+pub fn days_of(year: u16, month: u8) -> u8
+    ensures { λ r. ⌜ r ≡ daysIn year month ⌝ }
 {
-    let y = 2000 + year as u16;
-    let leap = (y % 4 == 0) & (!(y % 100 == 0) | (y % 400 == 0));
+    let leap = (year % 4 == 0) & (!(year % 100 == 0) | (year % 400 == 0));
     if month == 2 {
         return if leap { 29 } else { 28 };
     }
     let short = (month == 4) | (month == 6) | (month == 9) | (month == 11);
     if short { 30 } else { 31 }
+}
+
+// The same where year 0 is 2000.
+pub fn days_in(year: u8, month: u8) -> u8
+    ensures { λ r. ⌜ r ≡ daysIn (2000 + year) month ⌝ }
+{
+    days_of(2000 + year as u16, month)
 }
 
 pub fn date_exists(m: Moment) -> bool

@@ -14,6 +14,7 @@ ghost use Rattle.mbus_rules.specs.Writing.{momentBytes, bytesOfHeader, shortFra
 ghost use Rattle.bytes_lent.specs.Copying.{laid};
 ghost use Rattle.mbus_writing.specs.Laying.{signedSix, eightBytes, exists, EntryFits, EntryLaid, EntriesFit, EntriesLaid};
 ghost use Rattle.mbus_writing.specs.Laying.{FrameClosed, BytesLaid, DataFits};
+use crate::digits::two_digits;
 use bytes_lent::lay;
 use bytes_numbers::bytes_of;
 use mbus_characters::sum_of;
@@ -26,13 +27,6 @@ use mbus_rules::Kind;
 use mbus_rules::Moment;
 use mbus_rules::Telegram;
 use mbus_rules::Value;
-
-// Two digits in a byte, the units in its low half.
-fn two_digits(n: u64) -> u8
-    ensures { λ r. ⌜ r ≡ 16 * (n / 10 % 10) + n % 10 ⌝ }
-{
-    (16 * (n / 10 % 10) + n % 10) as u8
-}
 
 // The digits in six bytes, no value has more.
 fn packed_six(n: u64) -> [u8; 6]

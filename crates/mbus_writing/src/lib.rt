@@ -1,7 +1,9 @@
 // Line writing.
 mod bytes;
+pub mod digits;
 
-ghost use Rattle.mbus_writing.specs.Answering.{WritesLine};
+ghost use lib.ListN.{length};
+ghost use Rattle.mbus_writing.specs.Answering.{WritesLine, Writes, carriedIn};
 use bytes::carry;
 use bytes::put_bytes;
 use mbus_rules::Telegram;
@@ -32,4 +34,16 @@ pub fn write_line(telegram: Telegram, out: &mut [u16]) -> Written
     }
     carry(&bytes[..count], out);
     Written::Length(count)
+}
+
+// Writes the characters that carry the bytes into the first places and nothing beyond. Where there are fewer places that is 21, and all
+// places stay as they were.
+pub fn write_bytes(bytes: &[u8], out: &mut [u16]) -> Written
+    ensures { λ r. ⌜ Writes (carriedIn (now (bytes .entry)) (length (now (out .entry)))) (now (out .entry)) (now (out .exit)) r ⌝ }
+{
+    if out.len() < bytes.len() {
+        return Written::Refused(21);
+    }
+    carry(bytes, out);
+    Written::Length(bytes.len())
 }

@@ -18,7 +18,7 @@ use Rattle.bytes_numbers.specs.Numbers.{number, bytesOf}
 use Rattle.bytes_numbers.proofs.Laws.Numbers.{length-bytes, number-bytes}
 use Rattle.bundle_rows.specs.Lists.{All}
 use Rattle.bundle_rows.proofs.Laws.Lists.{all-append}
-use Rattle.mbus_characters.proofs.Laws.FlagLaws.{any-append}
+use Rattle.mbus_rules.proofs.Laws.ListLaws.{any-append}
 use Rattle.bundle_rows.proofs.Laws.RowLaws.{Fitting, rows-back, length-rows-bytes, field-right}
 use Rattle.bundle_rows.specs.Rows.{mostRows, rowsOf, firstOffset, bytesOfRows}
 use Rattle.bundle_rows.specs.declared.Row.{Row}

@@ -14,7 +14,7 @@ use Rattle.mbus_rules.specs.Characters.{over}
 use Rattle.mbus_rules.specs.Host.{chars}
 use Rattle.mbus_rules.specs.Lists.{any}
 use Rattle.mbus_rules.proofs.Laws.Tests.{by-test, neither}
-use Rattle.mbus_characters.proofs.Laws.FlagLaws.{any-append}
+use Rattle.mbus_rules.proofs.Laws.ListLaws.{any-append}
 use Rattle.bundle_rows.proofs.Laws.RowLaws.{length-rows, row-at, row-in, field-right}
 use Rattle.bundle_rows.specs.Fields.{wrongField}
 use Rattle.bundle_rows.specs.Rows.{mostRows, rowOf, rowsOf, firstOffset, blankRow, uncheckedRow, bodyIn}

@@ -19,7 +19,7 @@ use Rattle.bytes_lent.proofs.Laws.Copying.{laid-length}
 use Rattle.bundle_rows.specs.Fields.{wrongField}
 use Rattle.bundle_rows.specs.Lists.{All}
 use Rattle.bundle_rows.specs.Rows.{firstOffset}
-use Rattle.mbus_characters.proofs.Laws.FlagLaws.{any-append}
+use Rattle.mbus_rules.proofs.Laws.ListLaws.{any-append}
 use Rattle.bundle_rows.proofs.Laws.RowLaws.{field-right}
 use Rattle.bundle_check.specs.Bundles.{contentsOf, checkOf}
 use Rattle.bundle_check.specs.Records.{Recorded, recordsOf, rowsFor, bodiesFor, bundleOf}

@@ -15,6 +15,7 @@ use lib.Seq.{take-suc, take-all}
 use Rattle.mbus_rules.specs.Lists.{at, any}
 use Rattle.mbus_rules.specs.Characters.{over, odd}
 use Rattle.mbus_rules.specs.Telegrams.{outcomeShown}
+use Rattle.mbus_rules.proofs.Laws.ListLaws.{any-append}
 use Rattle.mbus_rules.proofs.Laws.Folding.{fold, folded-odd}
 use Rattle.mbus_rules.proofs.Laws.Tests.{by-test, below, neither}
 use Rattle.mbus_characters.specs.Gathering.{Flagged, sound, soundBy}
@@ -112,11 +113,6 @@ or-parity a b = ap (λ (n : ℕ). eqb n 1) (or-mod a b 1) ∙ or-bit (a % 2) (b 
 pub flagged-none : Flagged [] 0
 unfolding any
 flagged-none = record { range = refl; parity = λ e. refl }
-
-pub any-append : {A : Type 0} (test : A → Bool) (s t : List A) → any test (s ++ t) ≡ (any test s || any test t)
-unfolding any
-any-append test [] t = refl
-any-append test (x ∷ s) t = rw (any-append test s t) (sym (or-assoc (test x) (any test s) (any test t)))
 
 pub flagged-append : {s t : List ℕ} {f g : ℕ} → Flagged s f → Flagged t g → Flagged (s ++ t) (bitOr f g)
 flagged-append {s} {t} {f} {g} p q = record {

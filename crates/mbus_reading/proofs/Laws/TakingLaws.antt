@@ -21,7 +21,7 @@ use Rattle.mbus_rules.specs.Telegrams.{outcomeShown}
 use Rattle.bytes_lent.specs.Copying.{copied}
 use Rattle.mbus_characters.specs.declared.Gathering.{Gathering}
 use Rattle.mbus_characters.specs.Gathering.{sound, gathered}
-use Rattle.mbus_characters.proofs.Laws.StoreLaws.{stored-first}
+use Rattle.mbus_characters.proofs.Laws.GatherLaws.{sound-is, low-is, sum-is}
 use Rattle.mbus_shape.specs.Shapes.{frameBy}
 use Rattle.mbus_shape.proofs.Laws.WholeLaws.{frame-whole}
 use Rattle.mbus_reading.specs.Taking.{Taken, farBy}
@@ -82,24 +82,13 @@ taken-chain s low sum false false false x e h = (e ∙ h .0, h .1, h .2)
 -- what the code gathered
 module _ (s places low : List ℕ) {g : Gathering} (room : length s ≤ length places) (e : g ≡ gathered (take (length places) s))
     (stored : low ≡ copied places 0 (map byteOf (take (length places) s))) where
-  whole : take (length places) s ≡ s
-  whole = take-all (length places) s room
-
-  sound-is : g .outcome ≡ outcomeShown (sound s)
-  sound-is = ap (λ (h : Gathering). h .outcome) e ∙ ap (λ (t : List ℕ). outcomeShown (sound t)) whole
-
-  low-is : take (length s) low ≡ map byteOf s
-  low-is =
-      ap (take (length s)) (stored ∙ ap (λ (t : List ℕ). copied places 0 (map byteOf t)) whole)
-      ∙ stored-first places (map byteOf s) (length-map s byteOf) (rw (length-map s byteOf) room)
-
   pub taken-near : {n : ℕ} {o : Outcome} → n ≡ length s → o ≡ cond (eqb n 0) (Refused 1) (g .outcome) → Taken s low o (g .sum)
   unfolding readLine
   taken-near {n} {o} en eo =
-      let same : cond (eqb n 0) (Refused 1) (g .outcome) ≡ cond (eqb (length s) 0) (Refused 1) (outcomeShown (sound s)) = rw (en, sound-is) in
+      let same : cond (eqb n 0) (Refused 1) (g .outcome) ≡ cond (eqb (length s) 0) (Refused 1) (outcomeShown (sound s)) = rw (en, sound-is s places low room e stored) in
       subst (λ (p : Outcome). Taken s low p (g .sum)) (sym (eo ∙ same))
       (taken-chain s low (g .sum) (eqb (length s) 0) (any over s) (any odd s) (readFrame readBody (map byteOf s)) refl
-      (refl, low-is, ap (λ (h : Gathering). h .sum) e ∙ ap (λ (t : List ℕ). total (map byteOf t) % 256) whole))
+      (refl, low-is s places low room e stored, sum-is s places low room e stored))
 
   pub taken-some : 0 < length s → Taken s low (g .outcome) (g .sum)
   taken-some some = taken-near {o = g .outcome} refl (rw (ne-eqb (length s) 0 (omega arith)))

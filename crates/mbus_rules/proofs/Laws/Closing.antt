@@ -1,5 +1,5 @@
 -- What a sum, an end and a count settle: for each frame that has them, wherever its sum begins.
-use Prim.Native.Nat.{ℕ, _+_, _-_, _%_, _≤_, _<_}
+use Prim.Native.Nat.{ℕ, suc, _+_, _-_, _%_, _≤_, _<_}
 use native.Mathlib.Omega.{arith}
 use mathlib.Core.List.{List, [], _∷_, _++_}
 use mathlib.Core.Path.{_≡_, refl, sym, _∙_}
@@ -16,6 +16,17 @@ pub total-append : (s t : List ℕ) → total (s ++ t) ≡ total s + total t
 unfolding total
 total-append [] t = omega arith
 total-append (x ∷ s) t = omega (arith, total-append s t)
+
+-- the last two bytes, apart
+pub last-two : (r : List ℕ) → 2 ≤ length r → total r ≡ total (take (length r - 2) r) + at r (length r - 2) + at r (length r - 1)
+unfolding total
+last-two [] h = absurd (omega arith)
+last-two (x ∷ []) h = absurd (omega arith)
+last-two (x ∷ (y ∷ [])) h = omega arith
+last-two (x ∷ (y ∷ (z ∷ r))) h =
+    let two : length (x ∷ (y ∷ (z ∷ r))) - 2 ≡ suc (length (y ∷ (z ∷ r)) - 2) = omega arith in
+    let one : length (x ∷ (y ∷ (z ∷ r))) - 1 ≡ suc (length (y ∷ (z ∷ r)) - 1) = omega arith in
+    rw (two, one) (omega (arith, last-two (y ∷ (z ∷ r)) (omega arith)))
 
 -- the last byte, with the bytes before it
 end-at : (p : List ℕ) (x : ℕ) → at (p ++ x ∷ []) (length (p ++ x ∷ []) - 1) ≡ x

@@ -22,7 +22,7 @@ pub ack-read : (b : List ℕ) → isAck b ≡ true → length b ≡ 1 → b ≡ 
 ack-read b q n = spell-whole 1 b n ∙ rw (eqb-true (at b 0) 0xE5 q)
 
 -- From the place of its sum on, a list that ends in sum and 16 is what stands there, closed.
-closed-read : (from : ℕ) (b : List ℕ) → from + 2 ≤ length b → Closed from b → drop from b ≡ closed (take (length b - (from + 2)) (drop from b))
+pub closed-read : (from : ℕ) (b : List ℕ) → from + 2 ≤ length b → Closed from b → drop from b ≡ closed (take (length b - (from + 2)) (drop from b))
 closed-read from b h c =
     let n : ℕ = length b in
     let f : List ℕ = take (n - (from + 2)) (drop from b) in

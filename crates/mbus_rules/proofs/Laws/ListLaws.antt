@@ -67,3 +67,8 @@ pub any-snoc : {A : Type 0} (test : A → Bool) (s : List A) (x : A) → any tes
 unfolding any
 any-snoc test [] x = or-false (test x)
 any-snoc test (y ∷ s) x = ap (λ (found : Bool). test y || found) (any-snoc test s x) ∙ sym (or-assoc (test y) (any test s) (test x))
+
+pub any-append : {A : Type 0} (test : A → Bool) (l m : List A) → any test (l ++ m) ≡ (any test l || any test m)
+unfolding any
+any-append test [] m = refl
+any-append test (x ∷ l) m = rw (any-append test l m) (sym (or-assoc (test x) (any test l) (any test m)))

@@ -53,7 +53,7 @@ weekday-unasked d b₁ b₂ hour b₄ b₅ b₆ =
 
 -- ---- from a point in time to bytes and back
 
-days-below : (y month : ℕ) → daysIn y month ≤ 31
+pub days-below : (y month : ℕ) → daysIn y month ≤ 31
 days-below y month =
     picked (λ (n : ℕ). n ≤ 31) (eqb month 2) (february y) (cond (shortMonth month) 30 31)
     (picked (λ (n : ℕ). n ≤ 31) (leap y) 29 28 (lit≤ tt) (lit≤ tt))

@@ -11,22 +11,12 @@ use Rattle.mbus_rules.specs.Lists.{at, total}
 use Rattle.mbus_rules.specs.Characters.{byteOf}
 use Rattle.mbus_rules.specs.Answers.{Answer, refuse}
 use Rattle.mbus_rules.specs.Lines.{field, isLong, wrongStart, wrongCount, wrongLengths, wrongEnd, wrongSum, readFrame}
+use Rattle.mbus_rules.proofs.Laws.Closing.{last-two}
 use Rattle.mbus_rules.proofs.Laws.ListLaws.{at-bytes}
 use Rattle.mbus_rules.proofs.Laws.Tests.{by-test, neither, not-different}
 use Rattle.mbus_shape.specs.Shapes.{wholeWrong, frameBy}
 
--- the last two bytes, apart
-last-two : (r : List ℕ) → 2 ≤ length r → total r ≡ total (take (length r - 2) r) + at r (length r - 2) + at r (length r - 1)
-unfolding total
-last-two [] h = absurd (omega arith)
-last-two (x ∷ []) h = absurd (omega arith)
-last-two (x ∷ (y ∷ [])) h = omega arith
-last-two (x ∷ (y ∷ (z ∷ r))) h =
-    let two : length (x ∷ (y ∷ (z ∷ r))) - 2 ≡ suc (length (y ∷ (z ∷ r)) - 2) = omega arith in
-    let one : length (x ∷ (y ∷ (z ∷ r))) - 1 ≡ suc (length (y ∷ (z ∷ r)) - 1) = omega arith in
-    rw (two, one) (omega (arith, last-two (y ∷ (z ∷ r)) (omega arith)))
-
--- and the first four
+-- the first four bytes and the last two, apart
 parts : (b : List ℕ) → 6 ≤ length b
     → total b ≡ at b 0 + at b 1 + at b 2 + at b 3 + total (take (length b - 6) (drop 4 b)) + at b (length b - 2) + at b (length b - 1)
 unfolding total

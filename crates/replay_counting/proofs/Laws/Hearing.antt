@@ -11,7 +11,7 @@ use Rattle.mbus_rules.specs.declared.View.{View}
 use Rattle.mbus_rules.specs.declared.View.the-variants.{Refused, Ack, Asks, Data}
 use Rattle.bench_clock.specs.Times.{late}
 use Rattle.exchange_replies.specs.Fits.{fits}
-use Rattle.mbus_characters.proofs.Laws.FlagLaws.{any-append}
+use Rattle.mbus_rules.proofs.Laws.ListLaws.{any-append}
 use Rattle.bundle_check.specs.Records.{Recorded}
 use Rattle.replay_counting.specs.declared.ear.Ear.{Ear}
 use Rattle.replay_counting.specs.declared.ear.Ear.the-variants.{Deaf, Open}

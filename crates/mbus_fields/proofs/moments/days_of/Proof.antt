@@ -1,11 +1,8 @@
--- `mbus_fields::moments::days_in` meets its contract, test by test. Assumes nothing.
+-- `mbus_fields::moments::days_of` meets its contract, test by test. Assumes nothing.
 use borrow.Author.Needs.{needs}
 use borrow.Author.Tests.{eq-eqb, ne-eqb}
-use Rattle.mbus_fields.proofs.moments.days_in.Statement.{statement}
-use Rattle.mbus_fields.proofs.moments.days_in.Tie as tie
-
-add-y : tie.Need-add-y
-add-y c = search needs
+use Rattle.mbus_fields.proofs.moments.days_of.Statement.{statement}
+use Rattle.mbus_fields.proofs.moments.days_of.Tie as tie
 
 returns : tie.Need-returns
 returns c = rw (eq-eqb _ _ (c .before .if1 .taken), c .if2 .taken)
@@ -19,5 +16,5 @@ returns-3 c = rw (ne-eqb _ _ (c .before .if1 .left), c .if3 .taken)
 returns-4 : tie.Need-returns-4
 returns-4 c = rw (ne-eqb _ _ (c .before .if1 .left), c .if3 .left)
 
-pub days-in-spec : {M : Type 1} → statement M
-days-in-spec = tie.close (tie.spec add-y returns returns-2 returns-3 returns-4)
+pub days-of-spec : {M : Type 1} → statement M
+days-of-spec = tie.close (tie.spec returns returns-2 returns-3 returns-4)

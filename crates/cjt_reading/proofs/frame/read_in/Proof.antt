@@ -1,0 +1,63 @@
+-- `cjt_reading::frame::read_in` meets its contract: the FE bytes are skipped, and taken off the sum. Assumes nothing.
+use borrow.Author.Needs.{needs}
+use denote.Ref.{now}
+use Prim.Native.Nat.{ℕ, _%_}
+use mathlib.Core.Path.{sym, ap, _∙_}
+use mathlib.Core.List.{List}
+use Rattle.mbus_rules.specs.Lists.{total}
+use Rattle.cjt_rules.specs.CjtViews.{cjtShown}
+use Rattle.cjt_rules.specs.CjtLines.{readCjtFrame}
+use Rattle.cjt_reading.proofs.Laws.PartLaws.{rest-is}
+use Rattle.cjt_reading.proofs.Laws.SkipLaws.{own-sum}
+use Rattle.cjt_reading.proofs.frame.read_in.Statement.{statement}
+use Rattle.cjt_reading.proofs.frame.read_in.Tie as tie
+
+skips-requires : tie.Need-skips-requires
+skips-requires c κs = search needs
+
+mul-more : tie.Need-mul-more
+mul-more c = search needs
+
+cast-more : tie.Need-cast-more
+cast-more c = search needs
+
+wrapping-add-u8-requires : tie.Need-wrapping-add-u8-requires
+wrapping-add-u8-requires c κs = search needs
+
+sub-read-frame : tie.Need-sub-read-frame
+sub-read-frame c = search needs
+
+part-read-frame-start : tie.Need-part-read-frame-start
+part-read-frame-start c = search needs
+
+part-read-frame-end : tie.Need-part-read-frame-end
+part-read-frame-end c = search needs
+
+read-frame-requires : tie.Need-read-frame-requires
+read-frame-requires c κs =
+    let b = now (c .before .before .before .before .args .bytes) in
+    let n = c .before .before .skips .result in
+    let rest = rest-is b n in
+    own-sum (c .before .before .skips .ensures) (c .before .before .before .before .pre) (c .before .wrapping-add-u8 .ensures) ∙ ap (λ
+    (l : List ℕ). total l % 256) (sym rest)
+
+returns : tie.Need-returns
+returns c =
+    let b = now (c .before .before .before .before .before .args .bytes) in
+    let n = c .before .before .before .skips .result in
+    let rest = rest-is b n in
+    c .read-frame .ensures ∙ ap (λ (l : List ℕ). cjtShown (readCjtFrame l)) (rest ∙ c .before .before .before .skips .ensures .same)
+
+pub read-in-spec : {M : Type 1} → statement M
+read-in-spec =
+    tie.close
+    (tie.spec
+    skips-requires
+    mul-more
+    cast-more
+    wrapping-add-u8-requires
+    sub-read-frame
+    part-read-frame-start
+    part-read-frame-end
+    read-frame-requires
+    returns)

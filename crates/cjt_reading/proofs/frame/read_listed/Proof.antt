@@ -1,0 +1,125 @@
+-- `cjt_reading::frame::read_listed` meets its contract: 84, then 85. Assumes nothing.
+use borrow.Author.Needs.{needs}
+use denote.Ref.{now}
+use native.Mathlib.Omega.{arith}
+use Prim.Native.Nat.{ℕ, _<_}
+use mathlib.Core.Path.{_≡_, sym, ap, _∙_}
+use mathlib.Core.Bool.{true, false}
+use lib.ListN.{drop}
+use Rattle.mbus_rules.specs.Lists.{at}
+use Rattle.cjt_rules.specs.declared.CjtAnswer.{CjtAnswer}
+use Rattle.cjt_rules.specs.declared.CjtTelegram.the-variants as telegrams
+use Rattle.cjt_rules.specs.declared.CjtReading.the-variants as readings
+use Rattle.cjt_rules.specs.CjtLines.{wrongListed, tellsWith}
+use Rattle.cjt_rules.specs.CjtUnits.{wrongUnits}
+use Rattle.cjt_reading.proofs.Laws.PartLaws.{read-part, rest-is}
+use Rattle.cjt_reading.proofs.frame.read_listed.Statement.{statement}
+use Rattle.cjt_reading.proofs.frame.read_listed.Tie as tie
+
+sub-wrong-listed : tie.Need-sub-wrong-listed
+sub-wrong-listed c = search needs
+
+part-wrong-listed-start : tie.Need-part-wrong-listed-start
+part-wrong-listed-start c = search needs
+
+part-wrong-listed-end : tie.Need-part-wrong-listed-end
+part-wrong-listed-end c = search needs
+
+wrong-listed-requires : tie.Need-wrong-listed-requires
+wrong-listed-requires c κs = search needs
+
+returns : tie.Need-returns
+returns c =
+    let s = now (c .before .before .before .before .args .b) in
+    let wrong : wrongListed (drop 14 s) ≡ true = ap wrongListed (sym (rest-is s 14)) ∙ sym (c .before .wrong-listed .ensures) ∙ c .if1 .taken in
+    rw wrong
+
+byte-at-requires : tie.Need-byte-at-requires
+byte-at-requires c κs = search needs
+
+number-at-requires : tie.Need-number-at-requires
+number-at-requires c κs = search needs
+
+packed-in-requires : tie.Need-packed-in-requires
+packed-in-requires c κs = search needs
+
+byte-at-requires-2 : tie.Need-byte-at-requires-2
+byte-at-requires-2 c κs = search needs
+
+sub-tells-in : tie.Need-sub-tells-in
+sub-tells-in c = search needs
+
+part-tells-in-start : tie.Need-part-tells-in-start
+part-tells-in-start c = search needs
+
+part-tells-in-end : tie.Need-part-tells-in-end
+part-tells-in-end c = search needs
+
+tells-in-requires : tie.Need-tells-in-requires
+tells-in-requires c κs = search needs
+
+wrong-units-requires : tie.Need-wrong-units-requires
+wrong-units-requires c κs = search needs
+
+returns-2 : tie.Need-returns-2
+returns-2 c =
+    let s = now (c .before .before .before .before .before .before .before .before .before .before .before .before .args .b) in
+    let byte : (i : ℕ) → at s i < 256 = λ i. omega
+    (arith, c .before .before .before .before .before .before .before .before .before .before .before .shared-slice-known .given i) in
+    let digits = read-part s byte 2 7 (omega arith) (c .before .before .before .before .before .packed-in .ensures)
+    (c .before .before .before .before .before .before .number-at .ensures .so) in
+    let answer : c .before .before .tells-in .result ≡ tellsWith s =
+    c .before .before .tells-in .ensures ∙ rw (
+      c .before .before .before .before .before .before .before .byte-at .ensures,
+      digits,
+      c .before .before .before .before .byte-at2 .ensures,
+      rest-is s
+          14,
+    ) in
+    let right : wrongListed (drop 14 s) ≡ false = ap wrongListed (sym (rest-is s 14)) ∙ sym
+    (c .before .before .before .before .before .before .before .before .before .wrong-listed .ensures)
+    ∙ c .before .before .before .before .before .before .before .before .if1 .left in
+    let units : wrongUnits (tellsWith s) ≡ true = ap wrongUnits (sym answer) ∙ sym (c .before .wrong-units .ensures) ∙ c .if2 .taken in
+    rw (right, units)
+
+returns-3 : tie.Need-returns-3
+returns-3 c =
+    let s = now (c .before .before .before .before .before .before .before .before .before .before .before .before .args .b) in
+    let byte : (i : ℕ) → at s i < 256 = λ i. omega
+    (arith, c .before .before .before .before .before .before .before .before .before .before .before .shared-slice-known .given i) in
+    let digits = read-part s byte 2 7 (omega arith) (c .before .before .before .before .before .packed-in .ensures)
+    (c .before .before .before .before .before .before .number-at .ensures .so) in
+    let answer : c .before .before .tells-in .result ≡ tellsWith s =
+    c .before .before .tells-in .ensures ∙ rw (
+      c .before .before .before .before .before .before .before .byte-at .ensures,
+      digits,
+      c .before .before .before .before .byte-at2 .ensures,
+      rest-is s
+          14,
+    ) in
+    let right : wrongListed (drop 14 s) ≡ false = ap wrongListed (sym (rest-is s 14)) ∙ sym
+    (c .before .before .before .before .before .before .before .before .before .wrong-listed .ensures)
+    ∙ c .before .before .before .before .before .before .before .before .if1 .left in
+    let units : wrongUnits (tellsWith s) ≡ false = ap wrongUnits (sym answer) ∙ sym (c .before .wrong-units .ensures) ∙ c .if2 .left in
+    rw (right, units) (ap (λ (a : CjtAnswer). readings.Read (telegrams.Answer a)) answer)
+
+pub read-listed-spec : {M : Type 1} → statement M
+read-listed-spec =
+    tie.close
+    (tie.spec
+    sub-wrong-listed
+    part-wrong-listed-start
+    part-wrong-listed-end
+    wrong-listed-requires
+    returns
+    byte-at-requires
+    number-at-requires
+    packed-in-requires
+    byte-at-requires-2
+    sub-tells-in
+    part-tells-in-start
+    part-tells-in-end
+    tells-in-requires
+    wrong-units-requires
+    returns-2
+    returns-3)

@@ -1,0 +1,45 @@
+-- `cjt_reading::frame::wrong_mark` meets its contract. Assumes nothing.
+use borrow.Author.Needs.{needs}
+use Rattle.cjt_reading.proofs.frame.wrong_mark.Statement.{statement}
+use Rattle.cjt_reading.proofs.frame.wrong_mark.Tie as tie
+
+byte-at-requires : tie.Need-byte-at-requires
+byte-at-requires c κs = search needs
+
+byte-at-requires-2 : tie.Need-byte-at-requires-2
+byte-at-requires-2 c κs = search needs
+
+byte-at-requires-3 : tie.Need-byte-at-requires-3
+byte-at-requires-3 c κs = search needs
+
+byte-at-requires-4 : tie.Need-byte-at-requires-4
+byte-at-requires-4 c κs = search needs
+
+returns : tie.Need-returns
+returns c = rw (
+  ← c .before .byte-at4 .ensures,
+  c .if1 .taken,
+  c .before .before .before .before .byte-at .ensures,
+  c .before .before .before .byte-at2 .ensures,
+  c .before .before .byte-at3 .ensures,
+)
+
+returns-2 : tie.Need-returns-2
+returns-2 c = rw (
+  ← c .before .byte-at4 .ensures,
+  c .if1 .left,
+  c .before .before .before .before .byte-at .ensures,
+  c .before .before .before .byte-at2 .ensures,
+  c .before .before .byte-at3 .ensures,
+)
+
+pub wrong-mark-spec : {M : Type 1} → statement M
+wrong-mark-spec =
+    tie.close
+    (tie.spec
+    byte-at-requires
+    byte-at-requires-2
+    byte-at-requires-3
+    byte-at-requires-4
+    returns
+    returns-2)

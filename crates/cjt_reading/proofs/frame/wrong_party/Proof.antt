@@ -1,0 +1,52 @@
+-- `cjt_reading::frame::wrong_party` meets its contract, test by test. Assumes nothing.
+use borrow.Author.Needs.{needs}
+use denote.Ref.{now}
+use native.Mathlib.Omega.{arith}
+use Prim.Native.Nat.{ℕ, _<_}
+use mathlib.Core.Path.{ap, _∙_}
+use Rattle.mbus_rules.specs.Lists.{at}
+use lib.Dec.{eqb}
+use Rattle.cjt_reading.proofs.Laws.PartLaws.{read-part, all-word}
+use Rattle.cjt_reading.proofs.frame.wrong_party.Statement.{statement}
+use Rattle.cjt_reading.proofs.frame.wrong_party.Tie as tie
+
+byte-at-requires : tie.Need-byte-at-requires
+byte-at-requires c κs = search needs
+
+is-heat-type-requires : tie.Need-is-heat-type-requires
+is-heat-type-requires c κs = search needs
+
+number-at-requires : tie.Need-number-at-requires
+number-at-requires c κs = search needs
+
+packed-in-requires : tie.Need-packed-in-requires
+packed-in-requires c κs = search needs
+
+byte-at-requires-2 : tie.Need-byte-at-requires-2
+byte-at-requires-2 c κs = search needs
+
+returns : tie.Need-returns
+returns c =
+    let s = now (c .before .before .before .before .before .before .before .args .b) in
+    let byte : (i : ℕ) → at s i < 256 = λ i. omega (arith, c .before .before .before .before .before .before .shared-slice-known .given i) in
+    let digits = read-part s byte 2 7 (omega arith) (c .before .before .packed-in .ensures) (c .before .before .before .number-at .ensures .so) in
+    let all = ap (λ (n : ℕ). eqb n 0xAAAAAAAAAAAAAA) (c .before .before .before .number-at .ensures .so) ∙ all-word s byte
+    (c .before .before .before .before .before .before .before .pre) in
+    rw (
+      c .before .before .before .before .is-heat-type .ensures,
+      c .before .before .before .before .before .byte-at .ensures,
+      c .before .byte-at2 .ensures,
+      digits,
+      all,
+    )
+
+pub wrong-party-spec : {M : Type 1} → statement M
+wrong-party-spec =
+    tie.close
+    (tie.spec
+    byte-at-requires
+    is-heat-type-requires
+    number-at-requires
+    packed-in-requires
+    byte-at-requires-2
+    returns)

@@ -1,0 +1,22 @@
+-- `cjt_reading::pairs::outline_of` meets its contract. Assumes nothing.
+use borrow.Author.Needs.{needs}
+use denote.Ref.{now}
+use mathlib.Core.Path.{ap, _∙_}
+use Rattle.mbus_rules.specs.Host.{chars}
+use Rattle.cjt_rules.specs.CjtLines.{readCjtLine}
+use Rattle.cjt_reading.specs.CjtParts.{viewedAs}
+use Rattle.cjt_reading.proofs.Laws.TakingLaws.{view-shown}
+use Rattle.cjt_reading.proofs.pairs.outline_of.Statement.{statement}
+use Rattle.cjt_reading.proofs.pairs.outline_of.Tie as tie
+
+read-pairs-requires : tie.Need-read-pairs-requires
+read-pairs-requires c κs = search needs
+
+view-of-requires : tie.Need-view-of-requires
+view-of-requires c κs = search needs
+
+returns : tie.Need-returns
+returns c = c .view-of .ensures ∙ ap viewedAs (c .before .read-pairs .ensures) ∙ view-shown (readCjtLine (chars (now (c .before .before .before .args .bytes))))
+
+pub outline-of-spec : {M : Type 1} → statement M
+outline-of-spec = tie.close (tie.spec read-pairs-requires view-of-requires returns)

@@ -1,0 +1,96 @@
+-- `cjt_reading::pairs::read_pairs` meets its contract, as reading a line of characters does. Assumes nothing.
+use borrow.Author.Needs.{needs}
+use denote.Ref.{now}
+use native.Mathlib.Omega.{arith}
+use mathlib.Core.Path.{sym, ap, _∙_}
+use Rattle.cjt_rules.specs.CjtViews.{cjtShown}
+use Rattle.mbus_rules.specs.Host.{chars}
+use Rattle.mbus_characters.proofs.Laws.PairLaws.{length-characters}
+use Rattle.cjt_reading.proofs.Laws.TakingLaws.{none-is, taken-far, near-refused, near-count, near-sum, near-passed}
+use Rattle.cjt_reading.proofs.pairs.read_pairs.Statement.{statement}
+use Rattle.cjt_reading.proofs.pairs.read_pairs.Tie as tie
+
+returns : tie.Need-returns
+returns c = ap cjtShown (sym (none-is (chars (now (c .before .before .args .bytes))) (length-characters (now (c .before .before .args .bytes))
+    ∙ c .if1 .taken)))
+
+soundness-of-requires : tie.Need-soundness-of-requires
+soundness-of-requires c κs = search needs
+
+far-of-requires : tie.Need-far-of-requires
+far-of-requires c κs = search needs
+
+returns-2 : tie.Need-returns-2
+returns-2 c =
+    let size = length-characters (now (c .before .before .before .before .before .args .bytes)) in
+    rw (c .far-of .ensures)
+    (ap cjtShown (sym (taken-far (chars (now (c .before .before .before .before .before .args .bytes))) (omega
+    (arith, size, c .before .before .if2 .taken)) (c .before .soundness-of .ensures) (omega (arith, size, c .before .before .if2 .taken)))))
+
+slice-aggregate-gather : tie.Need-slice-aggregate-gather
+slice-aggregate-gather c = search needs
+
+gather-requires : tie.Need-gather-requires
+gather-requires c κs = search needs
+
+enum-known-outcome : tie.Need-enum-known-outcome
+enum-known-outcome c = search needs
+
+returns-3 : tie.Need-returns-3
+returns-3 c =
+    ap cjtShown (sym (near-refused (chars (now (c .before .before .before .before .before .before .before .before .before .args .bytes)))
+    (c .before .before .before .before .gather .last .1 .0) (sym (length-characters (now
+    (c .before .before .before .before .before .before .before .before .before .args .bytes))))
+    (c .before .before .before .before .before .before .before .if1 .left) (c .before .before .before .before .before .before .if2 .left)
+    (c .before .before .before .before .gather .ensures .0) (c .before .before .before .before .gather .ensures .1)
+    (c .before .outcome .given .1)))
+
+enum-told : tie.Need-enum-told
+enum-told c = search needs
+
+array-share-prefix-low : tie.Need-array-share-prefix-low
+array-share-prefix-low c = search needs
+
+slice-aggregate-read-in : tie.Need-slice-aggregate-read-in
+slice-aggregate-read-in c =
+    near-count (chars (now (c .before .before .before .before .before .before .before .before .before .args .bytes)))
+    (c .before .before .before .before .gather .last .1 .0) (sym (length-characters (now
+    (c .before .before .before .before .before .before .before .before .before .args .bytes))))
+    (c .before .before .before .before .before .before .before .if1 .left) (c .before .before .before .before .before .before .if2 .left)
+    (c .before .before .before .before .gather .ensures .0) (c .before .before .before .before .gather .ensures .1)
+
+read-in-requires : tie.Need-read-in-requires
+read-in-requires c κs =
+    near-sum (chars (now (c .before .before .before .before .before .before .before .before .before .args .bytes)))
+    (c .before .before .before .before .gather .last .1 .0) (sym (length-characters (now
+    (c .before .before .before .before .before .before .before .before .before .args .bytes))))
+    (c .before .before .before .before .before .before .before .if1 .left) (c .before .before .before .before .before .before .if2 .left)
+    (c .before .before .before .before .gather .ensures .0) (c .before .before .before .before .gather .ensures .1)
+
+returns-4 : tie.Need-returns-4
+returns-4 c =
+    c .read-in .ensures ∙ ap cjtShown (near-passed (chars (now
+    (c .before .before .before .before .before .before .before .before .before .before .args .bytes)))
+    (c .before .before .before .before .before .gather .last .1 .0) (sym (length-characters (now
+    (c .before .before .before .before .before .before .before .before .before .before .args .bytes))))
+    (c .before .before .before .before .before .before .before .before .if1 .left) (c .before .before .before .before .before .before .before .if2 .left)
+    (c .before .before .before .before .before .gather .ensures .0) (c .before .before .before .before .before .gather .ensures .1)
+    (c .before .before .enum-told .given .1))
+
+pub read-pairs-spec : {M : Type 1} → statement M
+read-pairs-spec =
+    tie.close
+    (tie.spec
+    returns
+    soundness-of-requires
+    far-of-requires
+    returns-2
+    slice-aggregate-gather
+    gather-requires
+    enum-known-outcome
+    returns-3
+    enum-told
+    array-share-prefix-low
+    slice-aggregate-read-in
+    read-in-requires
+    returns-4)

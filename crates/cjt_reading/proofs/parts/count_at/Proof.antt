@@ -1,0 +1,43 @@
+-- `cjt_reading::parts::count_at` meets its contract: a word holds what its bytes hold. Assumes nothing.
+use borrow.Author.Needs.{needs}
+use denote.Ref.{now}
+use native.Mathlib.Omega.{arith}
+use Prim.Native.Nat.{ℕ, _<_}
+use mathlib.Core.Path.{ap}
+use Rattle.mbus_rules.specs.Lists.{at}
+use Rattle.mbus_fields.specs.declared.digits.Packed.{Packed}
+use Rattle.cjt_reading.proofs.Laws.PartLaws.{read-part, count-fits}
+use Rattle.cjt_reading.proofs.parts.count_at.Statement.{statement}
+use Rattle.cjt_reading.proofs.parts.count_at.Tie as tie
+
+number-at-requires : tie.Need-number-at-requires
+number-at-requires c κs = search needs
+
+packed-in-requires : tie.Need-packed-in-requires
+packed-in-requires c κs = search needs
+
+cast-result : tie.Need-cast-result
+cast-result c =
+    let s = now (c .before .before .before .before .args .d) in
+    let byte : (i : ℕ) → at s i < 256 = λ i. omega (arith, c .before .before .before .shared-slice-known .given i) in
+    let digits = read-part s byte (c .before .before .before .before .args .place) (c .before .before .before .before .args .width) (omega
+    (arith, c .before .before .before .before .pre)) (c .before .packed-in .ensures)
+    (c .before .before .number-at .ensures .so) in
+    rw (ap (λ (p : Packed). p .count) digits)
+    (omega (
+      arith,
+      count-fits s byte (c .before .before .before .before .args .place) (c .before .before .before .before .args .width)
+          (c .before .before .before .before .pre),
+    ))
+
+returns : tie.Need-returns
+returns c =
+    let s = now (c .before .before .before .before .args .d) in
+    let byte : (i : ℕ) → at s i < 256 = λ i. omega (arith, c .before .before .before .shared-slice-known .given i) in
+    let digits = read-part s byte (c .before .before .before .before .args .place) (c .before .before .before .before .args .width) (omega
+    (arith, c .before .before .before .before .pre)) (c .before .packed-in .ensures)
+    (c .before .before .number-at .ensures .so) in
+    ap (λ (p : Packed). p .count) digits
+
+pub count-at-spec : {M : Type 1} → statement M
+count-at-spec = tie.close (tie.spec number-at-requires packed-in-requires cast-result returns)

@@ -1,0 +1,85 @@
+-- `cjt_reading::read_line` meets its contract: the line is taken in, then come the rules on bytes. Assumes nothing.
+use borrow.Author.Needs.{needs}
+use denote.Ref.{now}
+use native.Mathlib.Omega.{arith}
+use mathlib.Core.Path.{refl, sym, ap, _∙_}
+use Rattle.cjt_rules.specs.CjtViews.{cjtShown}
+use Rattle.cjt_reading.proofs.Laws.TakingLaws.{none-is, taken-far, near-refused, near-count, near-sum, near-passed}
+use Rattle.cjt_reading.proofs.read_line.Statement.{statement}
+use Rattle.cjt_reading.proofs.read_line.Tie as tie
+
+returns : tie.Need-returns
+returns c = ap cjtShown (sym (none-is (now (c .before .before .args .line)) (c .if1 .taken)))
+
+soundness-of-requires : tie.Need-soundness-of-requires
+soundness-of-requires c κs = search needs
+
+far-of-requires : tie.Need-far-of-requires
+far-of-requires c κs = search needs
+
+returns-2 : tie.Need-returns-2
+returns-2 c = rw (c .far-of .ensures) (ap cjtShown (sym (taken-far (now (c .before .before .before .before .before .args .line)) (omega
+    (arith, c .before .before .if2 .taken)) (c .before .soundness-of .ensures) (c .before .before .if2 .taken))))
+
+slice-aggregate-gather : tie.Need-slice-aggregate-gather
+slice-aggregate-gather c = search needs
+
+gather-requires : tie.Need-gather-requires
+gather-requires c κs = search needs
+
+enum-known-outcome : tie.Need-enum-known-outcome
+enum-known-outcome c = search needs
+
+returns-3 : tie.Need-returns-3
+returns-3 c =
+    ap cjtShown (sym (near-refused (now (c .before .before .before .before .before .before .before .before .before .args .line))
+    (c .before .before .before .before .gather .last .1 .0) refl (c .before .before .before .before .before .before .before .if1 .left)
+    (c .before .before .before .before .before .before .if2 .left) (c .before .before .before .before .gather .ensures .0)
+    (c .before .before .before .before .gather .ensures .1)
+    (c .before .outcome .given .1)))
+
+enum-told : tie.Need-enum-told
+enum-told c = search needs
+
+array-share-prefix-bytes : tie.Need-array-share-prefix-bytes
+array-share-prefix-bytes c = search needs
+
+slice-aggregate-read-in : tie.Need-slice-aggregate-read-in
+slice-aggregate-read-in c =
+    near-count (now (c .before .before .before .before .before .before .before .before .before .args .line))
+    (c .before .before .before .before .gather .last .1 .0) refl (c .before .before .before .before .before .before .before .if1 .left)
+    (c .before .before .before .before .before .before .if2 .left) (c .before .before .before .before .gather .ensures .0)
+    (c .before .before .before .before .gather .ensures .1)
+
+read-in-requires : tie.Need-read-in-requires
+read-in-requires c κs =
+    near-sum (now (c .before .before .before .before .before .before .before .before .before .args .line))
+    (c .before .before .before .before .gather .last .1 .0) refl (c .before .before .before .before .before .before .before .if1 .left)
+    (c .before .before .before .before .before .before .if2 .left) (c .before .before .before .before .gather .ensures .0)
+    (c .before .before .before .before .gather .ensures .1)
+
+returns-4 : tie.Need-returns-4
+returns-4 c =
+    c .read-in .ensures ∙ ap cjtShown (near-passed (now (c .before .before .before .before .before .before .before .before .before .before .args .line))
+    (c .before .before .before .before .before .gather .last .1 .0) refl (c .before .before .before .before .before .before .before .before .if1 .left)
+    (c .before .before .before .before .before .before .before .if2 .left) (c .before .before .before .before .before .gather .ensures .0)
+    (c .before .before .before .before .before .gather .ensures .1)
+    (c .before .before .enum-told .given .1))
+
+pub read-line-spec : {M : Type 1} → statement M
+read-line-spec =
+    tie.close
+    (tie.spec
+    returns
+    soundness-of-requires
+    far-of-requires
+    returns-2
+    slice-aggregate-gather
+    gather-requires
+    enum-known-outcome
+    returns-3
+    enum-told
+    array-share-prefix-bytes
+    slice-aggregate-read-in
+    read-in-requires
+    returns-4)

@@ -1,0 +1,2 @@
+-- What reading holds on to between the bytes and the telegram.
+pub mod CjtParts

@@ -1,0 +1,58 @@
+// A line whose characters come as bytes, two per character, low byte first.
+ghost use mathlib.Core.Path.{_≡_};
+ghost use Rattle.mbus_rules.specs.Host.{chars};
+ghost use Rattle.cjt_rules.specs.CjtLines.{readCjtLine};
+ghost use Rattle.cjt_rules.specs.CjtViews.{cjtShown, cjtViewed};
+ghost use Rattle.cjt_reading.specs.CjtParts.{viewedAs};
+use crate::MOST;
+use crate::far_of;
+use crate::frame::read_in;
+use cjt_rules::CjtReading;
+use cjt_rules::CjtTelegram;
+use cjt_rules::CjtView;
+use mbus_characters::pairs::gather;
+use mbus_characters::pairs::soundness_of;
+use mbus_rules::Outcome;
+
+// The whole answer of reading a line.
+fn read_pairs(bytes: &[u8]) -> CjtReading
+    ensures { λ r. ⌜ r ≡ cjtShown (readCjtLine (chars (now (bytes .entry)))) ⌝ }
+{
+    let count = bytes.len() / 2;
+    if count == 0 {
+        return CjtReading::Refused(1);
+    }
+    if MOST < count {
+        let sound = soundness_of(bytes);
+        let number = far_of(sound);
+        return CjtReading::Refused(number);
+    }
+    let mut low = [0u8; MOST];
+    let gathering = gather(bytes, &mut low);
+    let outcome = gathering.outcome;
+    if let Outcome::Refused(n) = outcome {
+        return CjtReading::Refused(n);
+    }
+    read_in(&low[..count], gathering.sum)
+}
+
+// Which of the two telegrams was read.
+fn view_of(reading: CjtReading) -> CjtView
+    ensures { λ r. ⌜ r ≡ viewedAs reading ⌝ }
+{
+    match reading {
+        CjtReading::Refused(n) => CjtView::Refused(n),
+        CjtReading::Read(telegram) => match telegram {
+            CjtTelegram::Request(_) => CjtView::Request,
+            CjtTelegram::Answer(_) => CjtView::Answer,
+        },
+    }
+}
+
+// Which of the two telegrams a line is, or what it is refused by.
+pub fn outline_of(bytes: &[u8]) -> CjtView
+    ensures { λ r. ⌜ r ≡ cjtViewed (readCjtLine (chars (now (bytes .entry)))) ⌝ }
+{
+    let reading = read_pairs(bytes);
+    view_of(reading)
+}

@@ -1,0 +1,46 @@
+-- `cjt_writing::write_request` meets its contract. Assumes nothing.
+use mathlib.Core.Path.{sym, _∙_}
+use denote.Ref.{now}
+use Rattle.cjt_rules.specs.declared.CjtTelegram.the-variants.{Request}
+use Rattle.cjt_writing.proofs.Laws.Answering.{not-written, line-written}
+use borrow.Author.Needs.{needs}
+use Rattle.cjt_writing.proofs.write_request.Statement.{statement}
+use Rattle.cjt_writing.proofs.write_request.Tie as tie
+
+unwritten-request-requires : tie.Need-unwritten-request-requires
+unwritten-request-requires c κs = search needs
+
+returns : tie.Need-returns
+returns c = not-written (Request (c .before .before .before .args .request)) (now (c .before .before .before .args .out)) (sym
+    (c .before .unwritten-request .ensures) ∙ c .if1 .taken)
+
+request-bytes-requires : tie.Need-request-bytes-requires
+request-bytes-requires c κs = search needs
+
+slice-aggregate-write-bytes : tie.Need-slice-aggregate-write-bytes
+slice-aggregate-write-bytes c = search needs
+
+write-bytes-requires : tie.Need-write-bytes-requires
+write-bytes-requires c κs = search needs
+
+same-length : tie.Need-same-length
+same-length c = search needs
+
+returns-2 : tie.Need-returns-2
+returns-2 c = line-written (Request (c .before .before .before .before .before .before .before .before .before .args .request)) (now
+    (c .before .before .before .before .before .before .before .before .before .args .out)) (sym
+    (c .before .before .before .before .before .before .before .unwritten-request .ensures)
+    ∙ c .before .before .before .before .before .before .if1 .left) (c .before .before .before .before .before .request-bytes .ensures)
+    (c .before .before .write-bytes .ensures)
+
+pub write-request-spec : {M : Type 1} → statement M
+write-request-spec =
+    tie.close
+    (tie.spec
+    unwritten-request-requires
+    returns
+    request-bytes-requires
+    slice-aggregate-write-bytes
+    write-bytes-requires
+    same-length
+    returns-2)
