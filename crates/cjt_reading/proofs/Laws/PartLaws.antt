@@ -11,13 +11,13 @@ use lib.ListN.{length, take, drop, length-take, length-drop, replicate}
 use lib.Seq.{getD-drop, getD-take, length-take-le, take-all}
 use Rattle.mbus_rules.specs.Lists.{at, any}
 use Rattle.mbus_rules.specs.Digits.{digitsOf}
-use Rattle.mbus_rules.proofs.Laws.ByteLaws.{byte-at, bytes-take}
+use Rattle.mbus_rules.proofs.Laws.ByteLaws.{bytes-each, byte-at, bytes-take}
 use Rattle.mbus_rules.proofs.Laws.Tests.{by-test}
 use Rattle.bytes_numbers.specs.Numbers.{number, bytesOf}
 use Rattle.bytes_numbers.proofs.Laws.NumberLaws.{bytes-read}
 use Rattle.mbus_fields.specs.declared.digits.Packed.{Packed}
 use Rattle.mbus_fields.specs.Fields.{packedOf}
-use Rattle.mbus_fields.proofs.Laws.GatherLaws.{bytes-known, word-packed, digits-most}
+use Rattle.mbus_fields.proofs.Laws.GatherLaws.{word-packed, digits-most}
 use Rattle.cjt_rules.specs.CjtAddresses.{partyBytes, allAA}
 use Rattle.cjt_rules.specs.CjtLines.{part}
 use Rattle.cjt_rules.proofs.Laws.BodyLaws.{all-aa}
@@ -41,7 +41,7 @@ module _ (s : List ℕ) (byte : (i : ℕ) → at s i < 256) where
   pub count-fits : (place width : ℕ) → width ≤ 4 → digitsOf (part place width s) < 2 ^ 32
   count-fits place width h =
       let most : 3 * digitsOf (part place width s) + 5 ≤ 5 * 100 ^ 4 =
-      le-trans (digits-most (part place width s) (bytes-take width (drop place s) (bytes-known (drop place s) (further place))))
+      le-trans (digits-most (part place width s) (bytes-take width (drop place s) (bytes-each (drop place s) (further place))))
       (mul-le-mul-left 5 (pow-le-pow-right (lit< tt) {j = 4} (omega (arith, length-take width (drop place s))))) in
       omega (arith, most)
 
@@ -61,7 +61,7 @@ module _ (s : List ℕ) (byte : (i : ℕ) → at s i < 256) where
       ne-eqb (number a) 0xAAAAAAAAAAAAAA (λ e. true≢false (sym (ap allAA (sym back ∙ ap (bytesOf 7) e)) ∙ some)) ∙ sym some)
     where
       seven-byte : (i : ℕ) → at (partyBytes s) i < 256
-      seven-byte i = byte-at (partyBytes s) (bytes-take 7 (drop 2 s) (bytes-known (drop 2 s) (further 2))) i
+      seven-byte i = byte-at (partyBytes s) (bytes-take 7 (drop 2 s) (bytes-each (drop 2 s) (further 2))) i
 
 -- the bytes of the clock
 pub clock-at : (s : List ℕ) (i : ℕ) → i < 7 → at (part 34 7 s) i ≡ at s (34 + i)
