@@ -5,10 +5,10 @@ ghost use Prim.Native.Nat.{_*_, _/_};
 ghost use Rattle.cjt_rules.specs.CjtUnits.{energyCode};
 ghost use Rattle.cjt_energy.specs.Energies.{unitFor, codeDigit, entryDigit, entryFor, shownEntry};
 use cjt_fields::is_energy;
-use mbus_fields::quantities::TWELVE_DIGITS;
 use mbus_rules::Decimal;
 use mbus_rules::Entry;
 use mbus_rules::Value;
+use mbus_telegrams::table::TWELVE_DIGITS;
 
 // An entry, or refused by 84, 85 or 86.
 pub enum Converted {

@@ -9,7 +9,6 @@ use mbus_fields::binary::coded_of;
 use mbus_fields::digits::Signed;
 use mbus_fields::digits::signed_of;
 use mbus_fields::moments::timed_of;
-use mbus_fields::quantities::UNIT_OF_TIME;
 use mbus_fields::quantities::goes_with;
 use mbus_fields::quantities::low_width;
 use mbus_fields::quantities::may_fall;
@@ -18,6 +17,7 @@ use mbus_rules::Decimal;
 use mbus_rules::Entry;
 use mbus_rules::Value;
 use mbus_rules::Whole;
+use mbus_telegrams::table::UNIT_OF_TIME;
 
 // The value of an entry, or what it is refused by.
 pub enum Valued {

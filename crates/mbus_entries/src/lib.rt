@@ -7,14 +7,14 @@ ghost use Rattle.mbus_rules.specs.Entries.{readEntries};
 ghost use Rattle.mbus_entries.specs.Walking.{entriesShown, unmarked, outcomeAfter, isRefusal};
 use crate::entry::Tried;
 use crate::entry::next_entry;
-use mbus_fields::quantities::ENERGY;
-use mbus_fields::quantities::INLET;
-use mbus_fields::quantities::OUTLET;
-use mbus_fields::quantities::TIME;
-use mbus_fields::quantities::VOLUME;
 use mbus_rules::Entry;
 use mbus_rules::Outcome;
 use mbus_telegrams::blank_entry;
+use mbus_telegrams::table::ENERGY;
+use mbus_telegrams::table::INLET;
+use mbus_telegrams::table::OUTLET;
+use mbus_telegrams::table::TIME;
+use mbus_telegrams::table::VOLUME;
 
 // The answer of reading entries. Where the outcome is a refusal, count and entries are blank.
 pub struct Entries {

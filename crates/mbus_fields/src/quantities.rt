@@ -4,50 +4,26 @@ ghost use mathlib.Core.Bool.{_||_};
 ghost use Rattle.mbus_rules.specs.Quantities.{quantityOf, widthOf, isPacked, isBinary, paired};
 ghost use Rattle.mbus_rules.specs.Entries.{mayFall};
 ghost use Rattle.mbus_fields.specs.Fields.{goesWith, lowWidth};
-
-// The rows of the table in its order, and a number for a unit byte that is in no row.
-pub const ENERGY: u8 = 0;
-
-pub const VOLUME: u8 = 1;
-
-pub const POWER: u8 = 2;
-
-pub const FLOW: u8 = 3;
-
-pub const INLET: u8 = 4;
-
-pub const OUTLET: u8 = 5;
-
-pub const TIME: u8 = 6;
-
-pub const UNKNOWN: u8 = 7;
-
-// The unit byte of a time, and the structure that it goes with alone.
-pub const UNIT_OF_TIME: u8 = 0x6D;
-
-pub const POINT_IN_TIME: u8 = 0x06;
-
-// The structures of packed digits.
-pub const FOUR_DIGITS: u8 = 0x0A;
-
-pub const SIX_DIGITS: u8 = 0x0B;
-
-pub const EIGHT_DIGITS: u8 = 0x0C;
-
-pub const TWELVE_DIGITS: u8 = 0x0E;
-
-// The structures of binary. Six bytes are the point in time too.
-pub const ONE_BYTE: u8 = 0x01;
-
-pub const TWO_BYTES: u8 = 0x02;
-
-pub const THREE_BYTES: u8 = 0x03;
-
-pub const FOUR_BYTES: u8 = 0x04;
-
-pub const SIX_BYTES: u8 = 0x06;
-
-pub const EIGHT_BYTES: u8 = 0x07;
+use mbus_telegrams::table::EIGHT_BYTES;
+use mbus_telegrams::table::EIGHT_DIGITS;
+use mbus_telegrams::table::ENERGY;
+use mbus_telegrams::table::FLOW;
+use mbus_telegrams::table::FOUR_BYTES;
+use mbus_telegrams::table::FOUR_DIGITS;
+use mbus_telegrams::table::INLET;
+use mbus_telegrams::table::ONE_BYTE;
+use mbus_telegrams::table::OUTLET;
+use mbus_telegrams::table::POINT_IN_TIME;
+use mbus_telegrams::table::POWER;
+use mbus_telegrams::table::SIX_BYTES;
+use mbus_telegrams::table::SIX_DIGITS;
+use mbus_telegrams::table::THREE_BYTES;
+use mbus_telegrams::table::TIME;
+use mbus_telegrams::table::TWELVE_DIGITS;
+use mbus_telegrams::table::TWO_BYTES;
+use mbus_telegrams::table::UNIT_OF_TIME;
+use mbus_telegrams::table::UNKNOWN;
+use mbus_telegrams::table::VOLUME;
 
 // The row of the table that has the unit byte.
 pub fn quantity_of(unit: u8) -> u8

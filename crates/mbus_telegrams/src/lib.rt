@@ -1,4 +1,5 @@
-// The five telegrams: those without header and entries, their methods and the address of all, and the host's numbers of their kinds.
+// The five telegrams: those without header and entries, their methods and the address of all, the host's numbers of their kinds, and the
+// numbers of quantities and structures.
 ghost use mathlib.Core.Path.{_≡_};
 ghost use Rattle.mbus_rules.specs.Answers.{reads, refusal};
 ghost use Rattle.mbus_rules.specs.Lines.{isMethod};
@@ -13,6 +14,7 @@ use mbus_rules::Telegram;
 use mbus_rules::Value;
 
 pub mod kinds;
+pub mod table;
 
 // The address that asks every meter.
 pub const BROADCAST: u8 = 0xFE;

@@ -17,11 +17,6 @@ use mbus_fields::headers::maker_named;
 use mbus_fields::moments::date_exists;
 use mbus_fields::moments::time_exists;
 use mbus_fields::moments::weekday_exists;
-use mbus_fields::quantities::EIGHT_DIGITS;
-use mbus_fields::quantities::FOUR_DIGITS;
-use mbus_fields::quantities::SIX_DIGITS;
-use mbus_fields::quantities::TWELVE_DIGITS;
-use mbus_fields::quantities::UNIT_OF_TIME;
 use mbus_fields::quantities::is_binary;
 use mbus_fields::quantities::is_paired;
 use mbus_fields::quantities::may_fall;
@@ -33,6 +28,11 @@ use mbus_rules::Kind;
 use mbus_rules::Telegram;
 use mbus_rules::Value;
 use mbus_telegrams::is_method;
+use mbus_telegrams::table::EIGHT_DIGITS;
+use mbus_telegrams::table::FOUR_DIGITS;
+use mbus_telegrams::table::SIX_DIGITS;
+use mbus_telegrams::table::TWELVE_DIGITS;
+use mbus_telegrams::table::UNIT_OF_TIME;
 
 // A value that is not blank.
 fn used_value(value: Value) -> bool

@@ -5,15 +5,15 @@ ghost use Rattle.mbus_rules.specs.Quantities.{energy, volume};
 ghost use Rattle.meter_template.specs.Templates.{isDataKind, holds, unfitTemplate, valueCount, totalIn, pairIn, counted, filledEntry, filled};
 ghost use Rattle.meter_template.specs.Templates.{lacks, nextAccess, raised, dataWith, passes, sumOf, shownSum};
 use mbus_fields::digits::size_of;
-use mbus_fields::quantities::EIGHT_DIGITS;
-use mbus_fields::quantities::ENERGY;
-use mbus_fields::quantities::VOLUME;
 use mbus_fields::quantities::quantity_of;
 use mbus_rules::Decimal;
 use mbus_rules::Entry;
 use mbus_rules::Kind;
 use mbus_rules::Telegram;
 use mbus_rules::Value;
+use mbus_telegrams::table::EIGHT_DIGITS;
+use mbus_telegrams::table::ENERGY;
+use mbus_telegrams::table::VOLUME;
 use mbus_writable::is_unwritable;
 
 // A pair of totals, each a count of the last digit that the template gives it.

@@ -7,8 +7,6 @@ ghost use Rattle.replay_error.specs.Shown.{cappedVolume, shownTold};
 use bundle_rows::unchecked_characters;
 use mbus_fields::digits::size_of;
 use mbus_fields::moments::moment_of;
-use mbus_fields::quantities::TIME;
-use mbus_fields::quantities::VOLUME;
 use mbus_fields::quantities::quantity_of;
 use mbus_reading::read_line;
 use mbus_rules::Entry;
@@ -16,6 +14,8 @@ use mbus_rules::Moment;
 use mbus_rules::Telegram;
 use mbus_rules::Value;
 use mbus_telegrams::blank_entry;
+use mbus_telegrams::table::TIME;
+use mbus_telegrams::table::VOLUME;
 
 // A volume in millilitres, 10^9 + 1 standing for every larger one, and a time.
 pub(crate) struct Figures {
