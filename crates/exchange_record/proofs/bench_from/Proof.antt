@@ -26,12 +26,14 @@ enum-known-stood-2 c = search needs
 returns-2 : tie.Need-returns-2
 returns-2 c =
     exchange-refused (now (c .before .before .before .before .before .before .before .before .args .b))
-    (c .before .before .before .before .before .is-same .ensures) (c .before .before .before .exchange-from .ensures) (c .before .before .before .before .if1 .left) (c .before .stood .given .1)
+    (c .before .before .before .before .before .is-same .ensures) (c .before .before .before .exchange-from .ensures)
+    (c .before .before .before .before .if1 .left) (c .before .stood .given .1)
 
 returns-3 : tie.Need-returns-3
 returns-3 c =
     exchange-taken (now (c .before .before .before .before .before .before .before .before .args .b))
-    (c .before .before .before .before .before .is-same .ensures) (c .before .before .before .exchange-from .ensures) (c .before .before .before .before .if1 .left) (c .before .stood2 .given .1)
+    (c .before .before .before .before .before .is-same .ensures) (c .before .before .before .exchange-from .ensures)
+    (c .before .before .before .before .if1 .left) (c .before .stood2 .given .1)
 
 pub bench-from-spec : {M : Type 1} → statement M
 bench-from-spec =

@@ -29,7 +29,8 @@ add-result-2 c = search needs
 returns : tie.Need-returns
 returns c =
     let args = c .before .before .before .before .before .before .before .args in
-    none-after (args .t) (now (args .capture)) (now (args .times)) (now (args .found)) (c .before .before .before .find-line-after .ensures) (c .before .search .given .1)
+    none-after (args .t) (now (args .capture)) (now (args .times)) (now (args .found)) (c .before .before .before .find-line-after .ensures)
+    (c .before .search .given .1)
 
 same-length : tie.Need-same-length
 same-length c = search needs
@@ -38,7 +39,9 @@ returns-2 : tie.Need-returns-2
 returns-2 c =
     let args = c .before .before .before .before .before .before .before .before .before .before .before .before .args in
     let put = c .before .before .before .put-timed .ensures in
-    after-short (args .t) (now (args .capture)) (now (args .times)) (now (args .found)) (c .before .before .before .before .before .before .before .before .find-line-after .ensures) (c .before .before .before .before .before .before .search2 .given .1)
+    after-short (args .t) (now (args .capture)) (now (args .times)) (now (args .found))
+    (c .before .before .before .before .before .before .before .before .find-line-after .ensures)
+    (c .before .before .before .before .before .before .search2 .given .1)
     (put .0) (put .1) (c .if1 .taken)
 
 same-length-2 : tie.Need-same-length-2
@@ -48,7 +51,9 @@ returns-3 : tie.Need-returns-3
 returns-3 c =
     let args = c .before .before .before .before .before .before .before .before .before .before .before .before .args in
     let put = c .before .before .before .put-timed .ensures in
-    after-whole (args .t) (now (args .capture)) (now (args .times)) (now (args .found)) (c .before .before .before .before .before .before .before .before .find-line-after .ensures) (c .before .before .before .before .before .before .search2 .given .1)
+    after-whole (args .t) (now (args .capture)) (now (args .times)) (now (args .found))
+    (c .before .before .before .before .before .before .before .before .find-line-after .ensures)
+    (c .before .before .before .before .before .before .search2 .given .1)
     (put .0) (put .1) (c .if1 .left)
 
 pub skarrowith-find-line-after-spec : {M : Type 1} → statement M

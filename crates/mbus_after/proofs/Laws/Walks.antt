@@ -191,7 +191,8 @@ after-more {t} {s} {times} {place} w k p = record {
 -- past the times before t
 pub after-early : {t : ℕ} {s times : List ℕ} {place next : ℕ} → After t s times place → next ≡ place + earlyFirst t (drop place times)
     → After t s times next
-after-early {t} {s} {times} {place} w e = subst (After t s times) (sym e) (after-more w (earlyFirst t (drop place times)) (early-passed t (drop place s) (drop place times)))
+after-early {t} {s} {times} {place} w e = subst (After t s times) (sym e)
+    (after-more w (earlyFirst t (drop place times)) (early-passed t (drop place s) (drop place times)))
 
 pub after-start : {t : ℕ} {s times : List ℕ} → After t s times 0
 after-start {t} {s} {times} = record { so = passed-zero t s times }

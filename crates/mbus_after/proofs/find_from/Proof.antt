@@ -31,13 +31,20 @@ enum-known-search-2 : tie.Need-enum-known-search-2
 enum-known-search-2 c = search needs
 
 add-t14 : tie.Need-add-t14
-add-t14 c = omega (arith, from-inside (now (c .before .before .before .before .before .before .before .args .capture)) (c .before .before .before .before .before .before .before .args .place) (c .before .before .before .find-line .ensures) (c .before .before .before .before .before .if1 .left) (c .before .search2 .given .1))
+add-t14 c = omega (
+  arith,
+  from-inside (now (c .before .before .before .before .before .before .before .args .capture))
+      (c .before .before .before .before .before .before .before .args .place) (c .before .before .before .find-line .ensures)
+      (c .before .before .before .before .before .if1 .left) (c .before .search2 .given .1),
+)
 
 returns-2 : tie.Need-returns-2
-returns-2 c = from-refused (now (c .before .before .before .before .before .before .before .args .capture)) (c .before .before .before .before .before .before .before .args .place) (c .before .before .before .find-line .ensures) (c .before .search .given .1)
+returns-2 c = from-refused (now (c .before .before .before .before .before .before .before .args .capture))
+    (c .before .before .before .before .before .before .before .args .place) (c .before .before .before .find-line .ensures) (c .before .search .given .1)
 
 returns-3 : tie.Need-returns-3
-returns-3 c = from-at (now (c .before .before .before .before .before .before .before .args .capture)) (c .before .before .before .before .before .before .before .args .place) (c .before .before .before .find-line .ensures) (c .before .search2 .given .1)
+returns-3 c = from-at (now (c .before .before .before .before .before .before .before .args .capture))
+    (c .before .before .before .before .before .before .before .args .place) (c .before .before .before .find-line .ensures) (c .before .search2 .given .1)
 
 pub find-from-spec : {M : Type 1} → statement M
 find-from-spec =

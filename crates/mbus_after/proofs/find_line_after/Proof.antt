@@ -60,7 +60,8 @@ loop-less : tie.Need-loop-less Inv-loop μ-loop
 loop-less c = omega (arith, here (c .before .before .before) .inside, here (c .before .before .before) .beyond, c .next-since2 .ensures)
 
 loop-again : tie.Need-loop-again Inv-loop μ-loop
-loop-again c = after-early (after-old (here (c .before .before .before)) (c .before .before .began-since .ensures) (c .before .if1 .left)) (c .next-since2 .ensures)
+loop-again c = after-early (after-old (here (c .before .before .before)) (c .before .before .began-since .ensures) (c .before .if1 .left))
+    (c .next-since2 .ensures)
 
 returns-2 : tie.Need-returns-2 Inv-loop μ-loop
 returns-2 c = after-end (c .before .loop .inv) (c .loop-test .left)

@@ -32,13 +32,28 @@ loop-less : tie.Need-loop-less Inv-loop μ-loop
 loop-less c = search needs
 
 loop-again : tie.Need-loop-again Inv-loop μ-loop
-loop-again c = omega (arith, c .before .before .before .loop .inv, early-next (c .before .before .before .before .args .t) (now (c .before .before .before .before .args .times)) (c .before .before .before .loop .place) (c .before .before .loop-test .taken) (c .if1 .left))
+loop-again c = omega (
+  arith,
+  c .before .before .before .loop .inv,
+  early-next (c .before .before .before .before .args .t)
+      (now (c .before .before .before .before .args .times)) (c .before .before .before .loop .place) (c .before .before .loop-test .taken) (c .if1 .left),
+)
 
 returns : tie.Need-returns Inv-loop μ-loop
-returns c = omega (arith, c .before .loop .inv, early-end (c .before .before .args .t) (now (c .before .before .args .times)) (c .before .loop .place) (c .loop-test .left))
+returns c = omega (
+  arith,
+  c .before .loop .inv,
+  early-end (c .before .before .args .t) (now (c .before .before .args .times)) (c .before .loop .place)
+      (c .loop-test .left),
+)
 
 returns-2 : tie.Need-returns-2 Inv-loop μ-loop
-returns-2 c = omega (arith, c .before .before .before .loop .inv, early-here (c .before .before .before .before .args .t) (now (c .before .before .before .before .args .times)) (c .before .before .before .loop .place) (c .before .before .loop-test .taken) (c .if1 .taken))
+returns-2 c = omega (
+  arith,
+  c .before .before .before .loop .inv,
+  early-here (c .before .before .before .before .args .t)
+      (now (c .before .before .before .before .args .times)) (c .before .before .before .loop .place) (c .before .before .loop-test .taken) (c .if1 .taken),
+)
 
 pub next-since-spec : {M : Type 1} → statement M
 next-since-spec =

@@ -85,7 +85,8 @@ module _ (s places low : List ℕ) {g : Gathering} (room : length s ≤ length p
   pub taken-near : {n : ℕ} {o : Outcome} → n ≡ length s → o ≡ cond (eqb n 0) (Refused 1) (g .outcome) → Taken s low o (g .sum)
   unfolding readLine
   taken-near {n} {o} en eo =
-      let same : cond (eqb n 0) (Refused 1) (g .outcome) ≡ cond (eqb (length s) 0) (Refused 1) (outcomeShown (sound s)) = rw (en, sound-is s places low room e stored) in
+      let same : cond (eqb n 0) (Refused 1) (g .outcome) ≡ cond (eqb (length s) 0) (Refused 1) (outcomeShown (sound s)) =
+      rw (en, sound-is s places low room e stored) in
       subst (λ (p : Outcome). Taken s low p (g .sum)) (sym (eo ∙ same))
       (taken-chain s low (g .sum) (eqb (length s) 0) (any over s) (any odd s) (readFrame readBody (map byteOf s)) refl
       (refl, low-is s places low room e stored, sum-is s places low room e stored))

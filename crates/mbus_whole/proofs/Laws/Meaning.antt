@@ -86,7 +86,8 @@ module _ (w : List ℕ) (k : ℕ) (inside : k ≤ length w) where
       rw (left, ne-eqb (lineCount few) 0 (λ z. omega (arith, Beginnings.count-some few))) at bad in
       rw (Beginnings.left-some all t) (by-test (unsoundIn (lineCount all) w) (λ u. rw (u, or-true))
       (λ u. let both = neither (any over (take (lineCount all) w)) (any odd (take (lineCount all) w)) u in
-      absurd (true≢false (sym unsound ∙ Beginnings.sound-first w (lineCount few) (lineCount all) k (Beginnings.count-grows w k some inside) (both .0) (both .1))))))
+      absurd (true≢false (sym unsound ∙ Beginnings.sound-first w (lineCount few) (lineCount all) k (Beginnings.count-grows w k some inside) (both .0)
+      (both .1))))))
 
   pub known-stays : (m n : ℕ) → lineLength (take k w) ≡ Known m → lineLength w ≡ Known n → m ≡ n
   known-stays m n e f =

@@ -15,7 +15,12 @@ returns-2 : tie.Need-returns-2
 returns-2 c = rw (← c .before .before .low-at .ensures, c .if2 .taken)
 
 returns-3 : tie.Need-returns-3
-returns-3 c = rw (← c .before .before .before .low-at .ensures, ne-eqb _ _ (c .before .before .if1 .left), ne-eqb _ _ (c .before .if2 .left), ne-eqb _ _ (c .if3 .taken))
+returns-3 c = rw (
+  ← c .before .before .before .low-at .ensures,
+  ne-eqb _ _ (c .before .before .if1 .left),
+  ne-eqb _ _ (c .before .if2 .left),
+  ne-eqb _ _ (c .if3 .taken),
+)
 
 low-at-requires-2 : tie.Need-low-at-requires-2
 low-at-requires-2 c κs = search needs
@@ -24,13 +29,29 @@ low-at-requires-3 : tie.Need-low-at-requires-3
 low-at-requires-3 c κs = search needs
 
 returns-4 : tie.Need-returns-4
-returns-4 c = rw (length-map, ← c .before .before .before .before .before .before .low-at .ensures, c .before .before .before .if3 .left, ← c .before .before .low-at2 .ensures, ← c .before .low-at3 .ensures, c .if4 .taken)
+returns-4 c = rw (
+  length-map,
+  ← c .before .before .before .before .before .before .low-at .ensures,
+  c .before .before .before .if3 .left,
+  ← c .before .before .low-at2 .ensures,
+  ← c .before .low-at3 .ensures,
+  c .if4 .taken,
+)
 
 low-at-requires-4 : tie.Need-low-at-requires-4
 low-at-requires-4 c κs = search needs
 
 returns-5 : tie.Need-returns-5
-returns-5 c = rw (length-map, ← c .before .before .before .before .before .before .before .before .low-at .ensures, c .before .before .before .before .before .if3 .left, ← c .before .before .before .before .low-at2 .ensures, ← c .before .before .before .low-at3 .ensures, c .before .before .if4 .left, ← c .before .low-at4 .ensures, c .if5 .taken)
+returns-5 c = rw (
+  length-map,
+  ← c .before .before .before .before .before .before .before .before .low-at .ensures,
+  c .before .before .before .before .before .if3 .left,
+  ← c .before .before .before .before .low-at2 .ensures,
+  ← c .before .before .before .low-at3 .ensures,
+  c .before .before .if4 .left,
+  ← c .before .low-at4 .ensures,
+  c .if5 .taken,
+)
 
 cast-result : tie.Need-cast-result
 cast-result c = search needs
@@ -39,7 +60,16 @@ add-result : tie.Need-add-result
 add-result c = search needs
 
 returns-6 : tie.Need-returns-6
-returns-6 c = rw (length-map, ← c .before .before .before .before .before .before .before .before .low-at .ensures, c .before .before .before .before .before .if3 .left, ← c .before .before .before .before .low-at2 .ensures, ← c .before .before .before .low-at3 .ensures, c .before .before .if4 .left, ← c .before .low-at4 .ensures, c .if5 .left)
+returns-6 c = rw (
+  length-map,
+  ← c .before .before .before .before .before .before .before .before .low-at .ensures,
+  c .before .before .before .before .before .if3 .left,
+  ← c .before .before .before .before .low-at2 .ensures,
+  ← c .before .before .before .low-at3 .ensures,
+  c .before .before .if4 .left,
+  ← c .before .low-at4 .ensures,
+  c .if5 .left,
+)
 
 pub left-by-spec : {M : Type 1} → statement M
 left-by-spec =

@@ -17,17 +17,20 @@ unsound-in-requires : tie.Need-unsound-in-requires
 unsound-in-requires c κs = search needs
 
 returns-3 : tie.Need-returns-3
-returns-3 c = whole-unsound _ (c .before .before .before .before .if1 .left) (c .before .before .before .left-by .ensures) (c .before .before .if2 .left) (c .before .unsound-in .ensures) (c .if3 .taken)
+returns-3 c = whole-unsound _ (c .before .before .before .before .if1 .left) (c .before .before .before .left-by .ensures) (c .before .before .if2 .left)
+    (c .before .unsound-in .ensures) (c .if3 .taken)
 
 low-at-requires : tie.Need-low-at-requires
 low-at-requires c κs = search needs
 
 returns-4 : tie.Need-returns-4
-returns-4 c = whole-lacking _ (c .before .before .before .before .before .before .if1 .left) (c .before .before .before .before .before .left-by .ensures) (c .before .before .before .before .if2 .left) (c .before .before .before .unsound-in .ensures) (c .before .before .if3 .left)
+returns-4 c = whole-lacking _ (c .before .before .before .before .before .before .if1 .left) (c .before .before .before .before .before .left-by .ensures)
+    (c .before .before .before .before .if2 .left) (c .before .before .before .unsound-in .ensures) (c .before .before .if3 .left)
     (c .before .low-at .ensures) (c .if4 .taken)
 
 returns-5 : tie.Need-returns-5
-returns-5 c = whole-lacking _ (c .before .before .before .before .before .before .if1 .left) (c .before .before .before .before .before .left-by .ensures) (c .before .before .before .before .if2 .left) (c .before .before .before .unsound-in .ensures) (c .before .before .if3 .left)
+returns-5 c = whole-lacking _ (c .before .before .before .before .before .before .if1 .left) (c .before .before .before .before .before .left-by .ensures)
+    (c .before .before .before .before .if2 .left) (c .before .before .before .unsound-in .ensures) (c .before .before .if3 .left)
     (c .before .low-at .ensures) (c .if4 .left)
 
 pub line-length-spec : {M : Type 1} → statement M

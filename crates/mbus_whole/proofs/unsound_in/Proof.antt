@@ -35,11 +35,13 @@ enum-told-2 c = search needs
 
 returns : tie.Need-returns
 returns c = let start = c .before .before .before .before .before .before .args in
-    told-unsound (now (start .first)) (start .count) (c .before .before .before .before .if1 .there) (cut (c .before .before .before .before)) (c .before .before .soundness-of .ensures) (c .enum-told .given .1)
+    told-unsound (now (start .first)) (start .count) (c .before .before .before .before .if1 .there) (cut (c .before .before .before .before))
+    (c .before .before .soundness-of .ensures) (c .enum-told .given .1)
 
 returns-2 : tie.Need-returns-2
 returns-2 c = let start = c .before .before .before .before .before .before .args in
-    told-unsound (now (start .first)) (start .count) (c .before .before .before .before .if1 .there) (cut (c .before .before .before .before)) (c .before .before .soundness-of .ensures) (c .enum-told2 .given .1)
+    told-unsound (now (start .first)) (start .count) (c .before .before .before .before .if1 .there) (cut (c .before .before .before .before))
+    (c .before .before .soundness-of .ensures) (c .enum-told2 .given .1)
 
 pub unsound-in-spec : {M : Type 1} → statement M
 unsound-in-spec =
