@@ -18,13 +18,13 @@ abbrev pub loweredRows : ℕ → ℕ → List ℕ → List Row
 loweredRows kept dropped b = map (lowered dropped) (rowsOf kept (drop 2 b))
 
 -- contents that are whole
-pub record Whole (b : List ℕ) (n : ℕ) : Type 0 where
+pub record ContentsWhole (b : List ℕ) (n : ℕ) : Type 0 where
   pub fits : length b ≤ mostBytes
   pub few : n ≤ mostRows
   pub there : firstOffset n ≤ length b
 
 -- the first of them stand at their places
 pub record InPlace (b : List ℕ) (kept n : ℕ) : Type 0 where
-  pub whole : Whole b n
+  pub whole : ContentsWhole b n
   pub part : kept ≤ n
   pub places : wrongPlaces (length b) (firstOffset n) (rowsOf kept (drop 2 b)) ≡ false

@@ -4,7 +4,7 @@ ghost use Prim.Native.Nat.{_≤_};
 ghost use lib.ListN.{length};
 ghost use Rattle.bundle_check.specs.Bundles.{mostBytes};
 ghost use Rattle.bundle_salvage.specs.Salvaging.{ruleOf, leadingRows};
-ghost use Rattle.bundle_salvage.specs.Writing.{Whole};
+ghost use Rattle.bundle_salvage.specs.Writing.{ContentsWhole};
 use bundle_rows::Row;
 use bundle_rows::unchecked_row;
 use bundle_rows::wrong_field;
@@ -45,7 +45,7 @@ fn rule_of(damaged: &[u8], before: u32, at: usize, row: Row) -> u16
 
 // Rows are tried one by one up to the first that breaks a rule.
 pub(crate) fn leading_rows(damaged: &[u8], count: usize) -> Leading
-    requires { ⌜ Whole (now damaged) count ⌝ }
+    requires { ⌜ ContentsWhole (now damaged) count ⌝ }
     ensures { λ r. ⌜ r ≡ leadingRows count (now (damaged .entry)) ⌝ }
 {
     let mut before: u32 = 0;

@@ -21,7 +21,7 @@ use Rattle.bundle_salvage.specs.declared.SalvageTold.the-variants.{Told,
 use Rattle.bundle_salvage.specs.declared.leading.Leading.{Leading}
 use Rattle.bundle_salvage.specs.Salvaging.{ruleTold, newLength, tellOf, leadingRows, salvageOf, salvageInto, newBundle}
 use Rattle.bundle_salvage.specs.Shown.{shownSalvage, Salvages}
-use Rattle.bundle_salvage.specs.Writing.{Whole, InPlace}
+use Rattle.bundle_salvage.specs.Writing.{ContentsWhole, InPlace}
 use Rattle.bundle_salvage.proofs.Laws.Leading.{leading-few, leading-keep, leading-end, keep-places}
 use Rattle.bundle_salvage.proofs.Laws.NewBundle.{end-there}
 use Rattle.bundle_salvage.proofs.Laws.Parts.{rows-taken}
@@ -38,7 +38,7 @@ salvage-refused b out k e =
     answered (refusal k) (rw (opened-refused b (reads (tellOf (countOf b) b (leadingRows (countOf b) b))) k e)) refl refl
 
 module _ (b : List ℕ) (n : ℕ) (e : opened b (reads (countOf b)) ≡ reads n) where
-  pub contents-whole : Whole b n
+  pub contents-whole : ContentsWhole b n
   contents-whole = let o = opened-whole b n e in record {
     fits = o .fits;
     few = omega (arith, o .count, o .few);

@@ -27,7 +27,7 @@ use Rattle.bundle_check.proofs.Laws.RecordLaws.{characters-append}
 use Rattle.bundle_check.proofs.Laws.RowRules.{place-right}
 use Rattle.bundle_salvage.specs.declared.leading.Leading.{Leading}
 use Rattle.bundle_salvage.specs.Salvaging.{ruleOf, Keep, oneMore, leading, leadingRows}
-use Rattle.bundle_salvage.specs.Writing.{Whole}
+use Rattle.bundle_salvage.specs.Writing.{ContentsWhole}
 
 -- ---- a row that keeps its rules, and each way of breaking one
 

@@ -18,7 +18,7 @@ use Rattle.bundle_check.specs.RowRules.{nextOffset}
 use Rattle.bundle_check.proofs.Laws.RowRules.{place-right}
 use Rattle.bundle_salvage.specs.declared.leading.Leading.{Leading}
 use Rattle.bundle_salvage.specs.Salvaging.{ruleOf, oneMore, leading, leadingRows}
-use Rattle.bundle_salvage.specs.Writing.{Whole}
+use Rattle.bundle_salvage.specs.Writing.{ContentsWhole}
 use Rattle.bundle_salvage.proofs.Laws.Leading.{rule-right}
 
 -- with so many rows in front that are kept
@@ -26,18 +26,18 @@ abbrev raised : ℕ → Leading → Leading
 raised i l = record { kept = i + l .kept; rule = l .rule; end = l .end }
 
 pub record Trying (b : List ℕ) (n i before at : ℕ) : Type 0 where
-  pub whole : Whole b n
+  pub whole : ContentsWhole b n
   pub inside : i ≤ n
   pub near : at ≤ length b
   pub so : leadingRows n b ≡ raised i (leading b before at (drop i (rowsOf n (drop 2 b))))
 
 -- the row that is read without the check is the one that stands there
-pub row-here : (b : List ℕ) (k n i : ℕ) → Whole b n → k ≤ n → i < k → uncheckedRow b i ≡ getD (rowsOf k (drop 2 b)) i blankRow
+pub row-here : (b : List ℕ) (k n i : ℕ) → ContentsWhole b n → k ≤ n → i < k → uncheckedRow b i ≡ getD (rowsOf k (drop 2 b)) i blankRow
 row-here b k n i w l h =
     row-in b i (omega (arith, w .few)) (omega (arith, w .there)) ∙ sym (row-at k i (drop 2 b) h ∙ ap rowOf (drop-drop (12 * i) 2 b))
 
 module _ {b : List ℕ} {n : ℕ} where
-  pub trying-none : Whole b n → Trying b n 0 0 (firstOffset n)
+  pub trying-none : ContentsWhole b n → Trying b n 0 0 (firstOffset n)
   trying-none w = record {
     whole = w;
     inside = zero-le;
