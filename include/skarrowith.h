@@ -20,9 +20,9 @@
  *
  * Lent memory is a pointer and the number of its places; with 0 of them the pointer may be null. Output that is too short
  * for what is to be written is refused by 21; a longer one is changed in its first places alone. A count that is answered
- * beside (rows, i, filled, written, milliohm, hundredths, length, used, made)  is written through a pointer to it, which may not be null.
- * Memory for uint16_t, uint32_t, uint64_t, int64_t and size_t is aligned as C aligns these types; bytes and records may stand
- * at any address.
+ * beside (rows, i, filled, written, milliohm, hundredths, length, used, made) is written through a pointer to it, which may
+ * not be null. Memory for uint16_t, uint32_t, uint64_t, int64_t and size_t is aligned as C aligns these types; bytes and records
+ * may stand at any address.
  *
  * Stack, as measured. skarrowith_bundle_list takes 28,000 bytes, skarrowith_replay_error 5,800, the simulated meter up to
  * 4,300, every other function fewer than 1,600.
