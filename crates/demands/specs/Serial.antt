@@ -15,7 +15,7 @@ use Rattle.mbus_rules.specs.Lines.{Accepted}
 use Rattle.mbus_rules.proofs.Laws.LineCode.{line-code}
 use Rattle.bytes_lent.specs.Pieces.{pieces}
 use Rattle.serial_marks.specs.Marks.{marked, wronged, Beginning}
-use Rattle.serial_marks.specs.declared.First.the-variants.{Whole}
+use Rattle.serial_marks.specs.declared.First.the-variants.{Finished}
 use Rattle.serial_marks.specs.Unmarking.{first, unmarkedIn}
 use Rattle.serial_marks.specs.Pieces.{Piece, received, byPieces}
 use Rattle.serial_marks.proofs.Laws.UnmarkingLaws as unmarking
@@ -68,7 +68,7 @@ accepted-was-right room bytes h a =
     (even, sym (sound.passed-as-marked room bytes h even))
 
 -- FF before another byte than 00 and FF, which no port passes on that is set as asked, is FF with wrong parity, and the other byte stands by itself.
-stray-first : (b : ℕ) (s : List ℕ) → eqb b 0xFF ≡ false → eqb b 0x00 ≡ false → first (0xFF ∷ b ∷ s) ≡ Whole 1 0x1FF
+stray-first : (b : ℕ) (s : List ℕ) → eqb b 0xFF ≡ false → eqb b 0x00 ≡ false → first (0xFF ∷ b ∷ s) ≡ Finished 1 0x1FF
 unfolding wronged flipBit carrier onesIn
 stray-first b s p q = rw (p, q)
 

@@ -9,24 +9,24 @@ use Rattle.mbus_rules.specs.Characters.{carrier}
 use Rattle.bytes_lent.specs.Copying.{laid}
 use Rattle.serial_marks.specs.Marks.{wronged}
 use Rattle.serial_marks.specs.declared.First.{First}
-use Rattle.serial_marks.specs.declared.First.the-variants.{Whole, Unfinished}
+use Rattle.serial_marks.specs.declared.First.the-variants.{Finished, Unfinished}
 use Rattle.serial_marks.specs.declared.Unmarked.{Unmarked}
 
 -- Behind \377 \0: the byte that came with wrong parity, or a break, which reads as \377 \0 \0.
 abbrev pub afterZero : List ℕ → First
 afterZero [] = Unfinished
-afterZero (b ∷ s) = Whole 3 (wronged b)
+afterZero (b ∷ s) = Finished 3 (wronged b)
 
 -- Behind \377: another is a valid byte \377, \0 goes on with the mark. Before any other byte \377 is no mark and no valid byte
 -- (docs/DECISIONS.md, "From a serial port"): it stands by itself, with wrong parity.
 abbrev pub afterMark : List ℕ → First
 afterMark [] = Unfinished
-afterMark (b ∷ s) = cond (eqb b 0xFF) (Whole 2 (carrier 0xFF)) (cond (eqb b 0x00) (afterZero s) (Whole 1 (wronged 0xFF)))
+afterMark (b ∷ s) = cond (eqb b 0xFF) (Finished 2 (carrier 0xFF)) (cond (eqb b 0x00) (afterZero s) (Finished 1 (wronged 0xFF)))
 
 -- What stands first: a mark begins by \377, and every other byte came with right parity.
 abbrev pub first : List ℕ → First
 first [] = Unfinished
-first (b ∷ s) = cond (eqb b 0xFF) (afterMark s) (Whole 1 (carrier b))
+first (b ∷ s) = cond (eqb b 0xFF) (afterMark s) (Finished 1 (carrier b))
 
 -- What is made of bytes: the characters, and how many bytes were used for them.
 pub record Unmarking : Type 0 where
@@ -36,7 +36,7 @@ pub record Unmarking : Type 0 where
 -- One character and what is made of the bytes behind it; an unfinished mark is left for the next call.
 abbrev pub andThen : First → (ℕ → Unmarking) → Unmarking
 andThen Unfinished rest = record { used = 0; characters = [] }
-andThen (Whole size c) rest = record { used = size + rest size .used; characters = c ∷ rest size .characters }
+andThen (Finished size c) rest = record { used = size + rest size .used; characters = c ∷ rest size .characters }
 
 -- What is made of bytes in so many places: character by character, never more than there is room for.
 unfoldable pub unmarkedIn : ℕ → List ℕ → Unmarking

@@ -8,7 +8,7 @@ ghost use Rattle.serial_marks.specs.Unmarking.{first, afterMark, afterZe
 
 // What stands first in marked bytes: a whole character and how many bytes it is, or no more than the beginning of a mark.
 pub enum First {
-    Whole { size: usize, character: u16 },
+    Finished { size: usize, character: u16 },
     Unfinished,
 }
 
@@ -43,7 +43,7 @@ fn after_zero(bytes: &[u8], at: usize) -> First
     if bytes.len() <= at {
         return First::Unfinished;
     }
-    First::Whole {
+    First::Finished {
         size: 3,
         character: wrong(bytes[at]),
     }
@@ -58,7 +58,7 @@ fn after_mark(bytes: &[u8], at: usize) -> First
     }
     let byte = bytes[at];
     if byte == MARK {
-        return First::Whole {
+        return First::Finished {
             size: 2,
             character: right(MARK),
         };
@@ -66,7 +66,7 @@ fn after_mark(bytes: &[u8], at: usize) -> First
     if byte == 0 {
         return after_zero(bytes, at + 1);
     }
-    First::Whole {
+    First::Finished {
         size: 1,
         character: wrong(MARK),
     }
@@ -83,7 +83,7 @@ fn first_at(bytes: &[u8], at: usize) -> First
     if byte == MARK {
         return after_mark(bytes, at + 1);
     }
-    First::Whole {
+    First::Finished {
         size: 1,
         character: right(byte),
     }
@@ -97,7 +97,7 @@ pub fn unmark(bytes: &[u8], characters: &mut [u16]) -> Unmarked
     let mut made = 0;
     while made < characters.len() {
         let next = first_at(bytes, used);
-        let First::Whole { size, character } = next else {
+        let First::Finished { size, character } = next else {
             return Unmarked { used, made };
         };
         characters[made] = character;

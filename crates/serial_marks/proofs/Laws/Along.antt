@@ -9,7 +9,7 @@ use lib.ListN.{length, getD, drop, set, length-drop}
 use lib.Seq.{drop-drop, drop-cons}
 use Rattle.bytes_lent.proofs.Laws.Copying.{Copied, copied-none, copied-next, copied-length, copied-all}
 use Rattle.serial_marks.specs.Unmarking.{first, Unmarking, unmarkedIn, Unmarks}
-use Rattle.serial_marks.specs.declared.First.the-variants.{Whole, Unfinished}
+use Rattle.serial_marks.specs.declared.First.the-variants.{Finished, Unfinished}
 use Rattle.serial_marks.proofs.Laws.FirstLaws.{first-on}
 use Rattle.serial_marks.proofs.Laws.UnmarkingLaws.{nothing, after, stop, step, no-room, within-both}
 
@@ -40,7 +40,7 @@ module _ {bytes d : List ℕ} {used made : ℕ} {now : List ℕ} (g : Along byte
   pub along-length : length now ≡ length d
   along-length = copied-length (g .stored)
 
-  module _ {n c : ℕ} (e : first (drop used bytes) ≡ Whole n c) where
+  module _ {n c : ℕ} (e : first (drop used bytes) ≡ Finished n c) where
     pub along-inside : used + n ≤ length bytes
     along-inside =
         let size : n ≤ length (drop used bytes) = first-on (drop used bytes) [] e .1 .inside in

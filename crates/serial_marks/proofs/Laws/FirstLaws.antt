@@ -16,7 +16,7 @@ use Rattle.mbus_rules.proofs.Laws.CharacterLaws.{carrier-byte}
 use Rattle.serial_marks.specs.Marks.{marked, wronged, Beginning}
 use Rattle.serial_marks.specs.Unmarking.{first, afterMark, afterZero}
 use Rattle.serial_marks.specs.declared.First.{First}
-use Rattle.serial_marks.specs.declared.First.the-variants.{Whole, Unfinished}
+use Rattle.serial_marks.specs.declared.First.the-variants.{Finished, Unfinished}
 use Rattle.serial_marks.proofs.Laws.MarkLaws.{wronged-back}
 
 -- the byte at a place of the bytes, as the code looks at it, and what comes behind it
@@ -24,11 +24,11 @@ pub here : (s : List ℕ) (at : ℕ) → at < length s → drop at s ≡ getD s 
 here s at h = rw (add-one, drop-cons s at 0)
 
 -- either way it can go
-by-case : {X : Type 0} (f : First) → (f ≡ Unfinished → X) → ((n c : ℕ) → f ≡ Whole n c → X) → X
+by-case : {X : Type 0} (f : First) → (f ≡ Unfinished → X) → ((n c : ℕ) → f ≡ Finished n c → X) → X
 by-case Unfinished stop whole = stop refl
-by-case (Whole n c) stop whole = whole n c refl
+by-case (Finished n c) stop whole = whole n c refl
 
-pub by-first : {X : Type 0} (s : List ℕ) → (first s ≡ Unfinished → X) → ((n c : ℕ) → first s ≡ Whole n c → X) → X
+pub by-first : {X : Type 0} (s : List ℕ) → (first s ≡ Unfinished → X) → ((n c : ℕ) → first s ≡ Finished n c → X) → X
 by-first s stop whole = by-case (first s) stop whole
 
 -- ---- a whole character is some of the bytes, and what comes behind them does not change it
@@ -39,7 +39,7 @@ pub record Sized (n : ℕ) (s : List ℕ) : Type 0 where
 
 Known : First → First → List ℕ → Type 0
 Known Unfinished g s = Unit {0}
-Known (Whole n c) g s = (g ≡ Whole n c) × Sized n s
+Known (Finished n c) g s = (g ≡ Finished n c) × Sized n s
 
 known-either : (s : List ℕ) (t : Bool) (a a' b b' : First) → Known a a' s → Known b b' s → Known (cond t a b) (cond t a' b') s
 known-either s true a a' b b' ha hb = ha
@@ -54,25 +54,25 @@ mark-known : (x : ℕ) (s q : List ℕ) → Known (afterMark s) (afterMark (s ++
 unfolding Known
 mark-known x [] q = tt
 mark-known x (b ∷ s) q =
-    known-either (x ∷ b ∷ s) (eqb b 0xFF) (Whole 2 (carrier 0xFF)) (Whole 2 (carrier 0xFF)) (cond (eqb b 0x00) (afterZero s) (Whole 1 (wronged 0xFF)))
-    (cond (eqb b 0x00) (afterZero (s ++ q)) (Whole 1 (wronged 0xFF))) (refl, record { some = omega arith; inside = omega arith })
-    (known-either (x ∷ b ∷ s) (eqb b 0x00) (afterZero s) (afterZero (s ++ q)) (Whole 1 (wronged 0xFF)) (Whole 1 (wronged 0xFF)) (zero-known x b s q)
+    known-either (x ∷ b ∷ s) (eqb b 0xFF) (Finished 2 (carrier 0xFF)) (Finished 2 (carrier 0xFF)) (cond (eqb b 0x00) (afterZero s) (Finished 1 (wronged 0xFF)))
+    (cond (eqb b 0x00) (afterZero (s ++ q)) (Finished 1 (wronged 0xFF))) (refl, record { some = omega arith; inside = omega arith })
+    (known-either (x ∷ b ∷ s) (eqb b 0x00) (afterZero s) (afterZero (s ++ q)) (Finished 1 (wronged 0xFF)) (Finished 1 (wronged 0xFF)) (zero-known x b s q)
     (refl, record { some = omega arith; inside = omega arith }))
 
 first-known : (s q : List ℕ) → Known (first s) (first (s ++ q)) s
 unfolding Known
 first-known [] q = tt
 first-known (b ∷ s) q =
-    known-either (b ∷ s) (eqb b 0xFF) (afterMark s) (afterMark (s ++ q)) (Whole 1 (carrier b)) (Whole 1 (carrier b)) (mark-known b s q)
+    known-either (b ∷ s) (eqb b 0xFF) (afterMark s) (afterMark (s ++ q)) (Finished 1 (carrier b)) (Finished 1 (carrier b)) (mark-known b s q)
     (refl, record { some = omega arith; inside = omega arith })
 
-pub first-on : (s q : List ℕ) {n c : ℕ} → first s ≡ Whole n c → (first (s ++ q) ≡ Whole n c) × Sized n s
+pub first-on : (s q : List ℕ) {n c : ℕ} → first s ≡ Finished n c → (first (s ++ q) ≡ Finished n c) × Sized n s
 unfolding Known
 first-on s q e = rw e at (first-known s q)
 
 -- ---- what is unfinished is the beginning of a mark
 
-one-case : (f : First) (n c : ℕ) → f ≡ Whole n c → f ≡ Unfinished → ⊥
+one-case : (f : First) (n c : ℕ) → f ≡ Finished n c → f ≡ Unfinished → ⊥
 one-case f n c e u = let z : _≡_ {A = ℕ} 0 1 = cc in omega arith
 
 zero-left : (s : List ℕ) → afterZero s ≡ Unfinished → s ≡ []
@@ -95,9 +95,9 @@ first-left (b ∷ s) e =
 
 -- ---- a character that was marked stands first as itself
 
-pub first-marked : (c : ℕ) → c ≤ 511 → (s : List ℕ) → first (marked c ++ s) ≡ Whole (length (marked c)) c
+pub first-marked : (c : ℕ) → c ≤ 511 → (s : List ℕ) → first (marked c ++ s) ≡ Finished (length (marked c)) c
 first-marked c h s =
-    by-test (odd c) (λ o. rw o (ap (Whole 3) (wronged-back c h o)))
+    by-test (odd c) (λ o. rw o (ap (Finished 3) (wronged-back c h o)))
     (λ o. by-test (eqb (byteOf c) 0xFF)
-    (λ m. rw (o, m) (ap (Whole 2) (ap carrier (eqb-true 0xFF (byteOf c) (rw (eqb-true (byteOf c) 0xFF m))) ∙ carrier-byte c h o)))
-    (λ m. rw (o, m) (rw m (ap (Whole 1) (carrier-byte c h o)))))
+    (λ m. rw (o, m) (ap (Finished 2) (ap carrier (eqb-true 0xFF (byteOf c) (rw (eqb-true (byteOf c) 0xFF m))) ∙ carrier-byte c h o)))
+    (λ m. rw (o, m) (rw m (ap (Finished 1) (carrier-byte c h o)))))

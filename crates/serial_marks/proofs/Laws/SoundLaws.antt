@@ -18,7 +18,7 @@ use Rattle.bytes_lent.specs.Pieces.{pieces}
 use Rattle.serial_marks.specs.Marks.{marked, wronged}
 use Rattle.serial_marks.specs.Unmarking.{first, afterMark, afterZero, Unmarking, unmarkedIn}
 use Rattle.serial_marks.specs.declared.First.{First}
-use Rattle.serial_marks.specs.declared.First.the-variants.{Whole, Unfinished}
+use Rattle.serial_marks.specs.declared.First.the-variants.{Finished, Unfinished}
 use Rattle.serial_marks.proofs.Laws.MarkLaws.{wronged-odd, wronged-in-range}
 use Rattle.serial_marks.proofs.Laws.FirstLaws.{by-first}
 use Rattle.serial_marks.proofs.Laws.UnmarkingLaws.{stop, step, no-room}
@@ -30,7 +30,7 @@ record Sound (n c : ℕ) (s : List ℕ) : Type 0 where
 
 Right : First → List ℕ → Type 0
 Right Unfinished s = Unit {0}
-Right (Whole n c) s = Sound n c s
+Right (Finished n c) s = Sound n c s
 
 right-either : (s : List ℕ) (t : Bool) (a b : First) → (t ≡ true → Right a s) → (t ≡ false → Right b s) → Right (cond t a b) s
 right-either s true a b ha hb = ha refl
@@ -57,22 +57,22 @@ mark-right : (x : ℕ) (s : List ℕ) → x ≡ 0xFF → Bytes s → Right (afte
 unfolding Right
 mark-right x [] e h = tt
 mark-right x (b ∷ s) e h =
-    right-either (x ∷ b ∷ s) (eqb b 0xFF) (Whole 2 (carrier 0xFF)) (cond (eqb b 0x00) (afterZero s) (Whole 1 (wronged 0xFF)))
+    right-either (x ∷ b ∷ s) (eqb b 0xFF) (Finished 2 (carrier 0xFF)) (cond (eqb b 0x00) (afterZero s) (Finished 1 (wronged 0xFF)))
     (λ m. record {
       range = carrier-in-range 0xFF (lit< tt);
       passed = λ o. ap₂ (λ (p q : ℕ). p ∷ q ∷ []) e (eqb-true b 0xFF m) ∙ sym ff-marked;
     })
-    (λ m. right-either (x ∷ b ∷ s) (eqb b 0x00) (afterZero s) (Whole 1 (wronged 0xFF)) (λ z. zero-right x b s (h .1))
+    (λ m. right-either (x ∷ b ∷ s) (eqb b 0x00) (afterZero s) (Finished 1 (wronged 0xFF)) (λ z. zero-right x b s (h .1))
     (λ z. wrong-sound 1 0xFF (x ∷ b ∷ s) (lit< tt)))
 
 first-right : (s : List ℕ) → Bytes s → Right (first s) s
 unfolding Right
 first-right [] h = tt
 first-right (b ∷ s) h =
-    right-either (b ∷ s) (eqb b 0xFF) (afterMark s) (Whole 1 (carrier b)) (λ m. mark-right b s (eqb-true b 0xFF m) (h .1))
+    right-either (b ∷ s) (eqb b 0xFF) (afterMark s) (Finished 1 (carrier b)) (λ m. mark-right b s (eqb-true b 0xFF m) (h .1))
     (λ m. record { range = carrier-in-range b (h .0); passed = λ o. sym (plain-marked b (h .0) m) })
 
-first-sound : (s : List ℕ) → Bytes s → {n c : ℕ} → first s ≡ Whole n c → Sound n c s
+first-sound : (s : List ℕ) → Bytes s → {n c : ℕ} → first s ≡ Finished n c → Sound n c s
 unfolding Right
 first-sound s h e = rw e at (first-right s h)
 

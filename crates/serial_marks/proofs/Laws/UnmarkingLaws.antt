@@ -15,7 +15,7 @@ use Rattle.mbus_rules.proofs.Laws.Tests.{neither}
 use Rattle.bytes_lent.specs.Pieces.{pieces}
 use Rattle.serial_marks.specs.Marks.{marked, Beginning}
 use Rattle.serial_marks.specs.Unmarking.{first, Unmarking, unmarkedIn}
-use Rattle.serial_marks.specs.declared.First.the-variants.{Whole, Unfinished}
+use Rattle.serial_marks.specs.declared.First.the-variants.{Finished, Unfinished}
 use Rattle.serial_marks.proofs.Laws.FirstLaws.{by-first, first-on, first-left, first-marked}
 
 abbrev pub nothing : Unmarking
@@ -39,7 +39,7 @@ unfolding unmarkedIn
 stop zero s e = refl
 stop (suc room) s e = rw e
 
-pub step : (room : ℕ) (s : List ℕ) {n c : ℕ} → first s ≡ Whole n c → unmarkedIn (suc room) s ≡ after n (c ∷ []) (unmarkedIn room (drop n s))
+pub step : (room : ℕ) (s : List ℕ) {n c : ℕ} → first s ≡ Finished n c → unmarkedIn (suc room) s ≡ after n (c ∷ []) (unmarkedIn room (drop n s))
 unfolding unmarkedIn
 step room s e = rw e
 
