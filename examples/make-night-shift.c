@@ -2,8 +2,8 @@
  *   cc -std=c99 -o make-night-shift examples/make-night-shift.c second/example.c second/line.c second/bundle.c second/number.c
  *   ./make-night-shift >examples/night-shift.bundle
  * Positions 3 and 7 are woken, put into verification, read and let go. Position 3's first answer is damaged on
- * the line and asked for again. At position 7 an answer to the bench before is still coming in: it began before
- * the first send at that position had ended. */
+ * the line and asked for again. Position 6 is read once; its answer stays in the driver's buffer and is handed over
+ * again at position 7, where it begins before the first send at that position has ended. */
 #include "../second/bundle.h"
 #include "../second/example.h"
 #include "../second/line.h"
@@ -74,20 +74,23 @@ int main(void)
     ask_read(3, 8600, 0xFE);
     data(3, 8850, 3, 5, 0x40, -1);
 
+    ask_read(6, 9800, 6);
+    data(6, 10050, 6, 9, 0x15, -1);
+
     wake(7, 12000, 459);
-    /* this answer began 20 bit times after the read did, and the read's five characters take 55 */
+    /* the answer of position 6 once more: it began 20 bit times after the read did, and the read's five characters take 55 */
     ask_read(7, 17200, 0xFE);
     data(7, 17220, 6, 9, 0x15, -1);
     ask_read(7, 18600, 0xFE);
     data(7, 18850, 7, 1, 0x20, -1);
     command(7, 19800, 7, 0x91);
     ack(7, 20100);
-    ask_read(7, 4320000, 7);
-    data(7, 4320250, 7, 2, 0x21, -1);
-    command(7, 4321200, 7, 0x00);
-    ack(7, 4321500);
-    command(3, 4322000, 0xFE, 0x00);
-    ack(3, 4322300);
+    ask_read(7, 23000, 7);
+    data(7, 23250, 7, 2, 0x21, -1);
+    command(7, 24200, 7, 0x00);
+    ack(7, 24500);
+    command(3, 25000, 0xFE, 0x00);
+    ack(3, 25300);
 
     second_put_number(contents, 2, count);
     for (size_t i = 0; i < count; i++) {
