@@ -299,7 +299,7 @@ static void test_sweep(void)
         expect("a read", skarrowith_bundle_add(lent.bytes, room, &lent.number, position, 0, time++, request, 10), 0);
         answer = skarrowith_bundle_add(lent.bytes, room, &lent.number, position, direction, time++, wake, sizeof wake);
     }
-    expect("the run is full", answer, SKARROWITH_REFUSED + 38);
+    expect("the run is full", answer, SKARROWITH_REFUSED + SKARROWITH_BUNDLE_FULL);
     expect("its reads", woken, 69);
     full = lent.number;
     remember();

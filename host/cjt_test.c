@@ -62,23 +62,23 @@ static void test_lines(void)
     unsigned char b[SECOND_CJT_EXAMPLE];
     for (size_t front = 0; front < 8; front++) {
         put(request, sizeof request, front);
-        expect_line("001's request", front < 6 ? SKARROWITH_CJT_REQUEST : SKARROWITH_REFUSED + 80);
+        expect_line("001's request", front < 6 ? SKARROWITH_CJT_REQUEST : SKARROWITH_REFUSED + SKARROWITH_CJT_WRONG_FRAME);
         put(second_cjt_example, SECOND_CJT_EXAMPLE, front);
-        expect_line("the answer", front < 6 ? SKARROWITH_CJT_ANSWER : SKARROWITH_REFUSED + 80);
+        expect_line("the answer", front < 6 ? SKARROWITH_CJT_ANSWER : SKARROWITH_REFUSED + SKARROWITH_CJT_WRONG_FRAME);
     }
     put(broadcast, sizeof broadcast, 5);
-    expect_line("001's broadcast, control 33", SKARROWITH_REFUSED + 80);
+    expect_line("001's broadcast, control 33", SKARROWITH_REFUSED + SKARROWITH_CJT_WRONG_FRAME);
     memcpy(b, second_cjt_example, sizeof b);
     b[57] = (unsigned char)(b[57] - 0x68);
     put(b, sizeof b, 0);
-    expect_line("the sum from the type byte on", SKARROWITH_REFUSED + 81);
+    expect_line("the sum from the type byte on", SKARROWITH_REFUSED + SKARROWITH_CJT_WRONG_SUM);
     put(request, sizeof request, 1);
     line[0] ^= 0x100;
-    expect_line("an odd FE", SKARROWITH_REFUSED + 3);
+    expect_line("an odd FE", SKARROWITH_REFUSED + SKARROWITH_ODD_PARITY);
     line[count - 1] |= 0x200;
-    expect_line("a last character over 511", SKARROWITH_REFUSED + 2);
+    expect_line("a last character over 511", SKARROWITH_REFUSED + SKARROWITH_WRONG_CHARACTER);
     count = 0;
-    expect_line("no line", SKARROWITH_REFUSED + 1);
+    expect_line("no line", SKARROWITH_REFUSED + SKARROWITH_EMPTY_LINE);
 }
 
 static void test_bytes(void)

@@ -8,8 +8,6 @@
 #include <string.h>
 
 #define OWN 5
-#define FE 0xFE
-#define RETURN 4320000u
 
 static unsigned tried, wrong;
 static struct skarrowith_telegram data, answer;
@@ -46,7 +44,7 @@ static void shows(const char *what, uint64_t t, uint64_t volume, uint64_t energy
 {
     uint16_t line[SKARROWITH_LINE_MOST];
     struct skarrowith_telegram again;
-    expect(what, hear(SKARROWITH_READ, FE, 0, t), SKARROWITH_DATA);
+    expect(what, hear(SKARROWITH_READ, SKARROWITH_BROADCAST, 0, t), SKARROWITH_DATA);
     expect(what, answer.entries[0].value.count, energy);
     expect(what, answer.entries[1].value.count, volume);
     expect(what, answer.access, access);
@@ -150,31 +148,31 @@ static void verification(void)
     shows("a read in use", 100, 12345678, 96712345, 4);
     expect("a measure in use", skarrowith_meter_measure(&meter, sizeof meter, 10, 20, 200), 0);
     shows("what was measured in use", 300, 12345688, 96712365, 5);
-    expect("enter", hear(SKARROWITH_ENTER, OWN, 0x91, 400), SKARROWITH_ACK);
+    expect("enter", hear(SKARROWITH_ENTER, OWN, SKARROWITH_SIMULATED_FLOW, 400), SKARROWITH_ACK);
     expect("the ack is a record", answer.kind, SKARROWITH_ACK);
     expect("it is in verification", meter.mode, 1);
-    expect("by simulated flow", meter.method, 0x91);
+    expect("by simulated flow", meter.method, SKARROWITH_SIMULATED_FLOW);
     expect("since the enter", meter.since, 400);
     shows("cleared totals", 500, 0, 0, 6);
     expect("a measure in verification", skarrowith_meter_measure(&meter, sizeof meter, 7, 8, 600), 0);
-    expect("a repeated enter", hear(SKARROWITH_ENTER, FE, 0x92, 700), SKARROWITH_ACK);
+    expect("a repeated enter", hear(SKARROWITH_ENTER, SKARROWITH_BROADCAST, SKARROWITH_REAL_TIME, 700), SKARROWITH_ACK);
     shows("totals that a repeated enter keeps", 800, 7, 8, 7);
     expect("another address gets silence", hear(SKARROWITH_LEAVE, OWN + 1, 0, 900), 0);
     expect("and no answer", answer_untouched(), 1);
     expect("but the time goes on", meter.last, 900);
-    expect("leave", hear(SKARROWITH_LEAVE, FE, 0, 1000), SKARROWITH_ACK);
+    expect("leave", hear(SKARROWITH_LEAVE, SKARROWITH_BROADCAST, 0, 1000), SKARROWITH_ACK);
     expect("it is in use", meter.mode, 0);
     expect("no method", meter.method, 0);
     expect("no last instruction", meter.since, 0);
     shows("the use pair again", 1100, 12345688, 96712365, 8);
     expect("the verification pair stays", meter.verified.volume, 7);
-    expect("enter from use", hear(SKARROWITH_ENTER, FE, 0x90, 1200), SKARROWITH_ACK);
+    expect("enter from use", hear(SKARROWITH_ENTER, SKARROWITH_BROADCAST, SKARROWITH_START_STOP, 1200), SKARROWITH_ACK);
     expect("clears it", meter.verified.volume + meter.verified.energy, 0);
-    expect("shortly before 30 minutes", skarrowith_meter_measure(&meter, sizeof meter, 1, 1, 1200 + RETURN - 1), 0);
+    expect("shortly before 30 minutes", skarrowith_meter_measure(&meter, sizeof meter, 1, 1, 1200 + SKARROWITH_RETURN_TIME - 1), 0);
     expect("it is in verification still", meter.mode, 1);
-    expect("30 minutes without an instruction", skarrowith_meter_measure(&meter, sizeof meter, 2, 3, 1200 + RETURN), 0);
+    expect("30 minutes without an instruction", skarrowith_meter_measure(&meter, sizeof meter, 2, 3, 1200 + SKARROWITH_RETURN_TIME), 0);
     expect("it has returned", meter.mode, 0);
-    shows("and measures in use", 1300 + RETURN, 12345690, 96712368, 9);
+    shows("and measures in use", 1300 + SKARROWITH_RETURN_TIME, 12345690, 96712368, 9);
 }
 
 /* A step that is refused leaves meter and answer as they were. */
@@ -237,12 +235,12 @@ static void refusals(void)
     meter.method = 0x93;
     meter.since = meter.last;
     no_record("method 93");
-    meter.method = 0x92;
+    meter.method = SKARROWITH_REAL_TIME;
     meter.since = meter.last + 1;
     no_record("an instruction after the last step");
-    meter.since = meter.last - RETURN;
+    meter.since = meter.last - SKARROWITH_RETURN_TIME;
     no_record("a meter that has returned");
-    meter.since = meter.last - RETURN + 1;
+    meter.since = meter.last - SKARROWITH_RETURN_TIME + 1;
     expect("a meter that has not", skarrowith_meter_measure(&meter, sizeof meter, 0, 0, t), 0);
     expect("is in verification", meter.mode, 1);
 }

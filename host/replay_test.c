@@ -6,7 +6,7 @@
 #include <stdio.h>
 #include <string.h>
 
-enum { POSITION = 5, ASKED = 0xFE, CHARACTER = 11, WINDOW = 450, TIMES = 6 };
+enum { POSITION = 5, ASKED = SKARROWITH_BROADCAST, CHARACTER = SKARROWITH_BIT_TIMES_PER_CHARACTER, WINDOW = SKARROWITH_REPLY_TIME, TIMES = 6 };
 
 static uint8_t bundle[SKARROWITH_BUNDLE_MOST];
 static size_t filled;
@@ -130,8 +130,8 @@ static void test_refusals(void)
     refused("a bundle cut", replay(0, 0, 1000, 1000), 35);
     begin();
     refused("an empty bundle", replay(POSITION, 0, 1000, 1000), 63);
-    expect("no place", skarrowith_replay_error(&byte, 1, 0, 0, 0, 0, NULL, 0), SKARROWITH_REFUSED + 21);
-    expect("no bytes", skarrowith_replay_error(NULL, 0, 0, 0, 0, 0, lent + 1, 1), SKARROWITH_REFUSED + 31);
+    expect("no place", skarrowith_replay_error(&byte, 1, 0, 0, 0, 0, NULL, 0), SKARROWITH_REFUSED + SKARROWITH_TOO_FEW_PLACES);
+    expect("no bytes", skarrowith_replay_error(NULL, 0, 0, 0, 0, 0, lent + 1, 1), SKARROWITH_REFUSED + SKARROWITH_BUNDLE_TOO_SHORT);
 }
 
 int main(void)
