@@ -82,23 +82,23 @@ static void no_set_up(const char *what, const struct skarrowith_telegram *given,
 static void set_ups(void)
 {
     static const struct change changes[] = {
-        {"a template that is no data", offsetof(struct skarrowith_telegram, kind), 1, SKARROWITH_READ, 72},
-        {"a kind of 0", offsetof(struct skarrowith_telegram, kind), 1, 0, 101},
-        {"a kind of 6", offsetof(struct skarrowith_telegram, kind), 1, 6, 101},
-        {"a byte named zero that is not", offsetof(struct skarrowith_telegram, zero), 1, 1, 101},
-        {"an entry past the count", offsetof(struct skarrowith_telegram, count), 8, 6, 72},
-        {"a count of 9", offsetof(struct skarrowith_telegram, count), 8, 9, 72},
-        {"energy as a time's structure", offsetof(struct skarrowith_telegram, entries[0].structure), 1, 0x06, 72},
-        {"a sort of 3", offsetof(struct skarrowith_telegram, entries[6].sort), 1, 3, 101},
-        {"a time told as binary", offsetof(struct skarrowith_telegram, entries[6].sort), 1, 2, 72},
-        {"month 13", offsetof(struct skarrowith_telegram, entries[6].value.time.month), 1, 13, 72},
-        {"weekday 8", offsetof(struct skarrowith_telegram, entries[6].value.time.weekday), 1, 8, 72},
-        {"a time's last byte", offsetof(struct skarrowith_telegram, entries[6].value.time.zero), 1, 1, 101},
+        {"a template that is no data", offsetof(struct skarrowith_telegram, kind), 1, SKARROWITH_READ, SKARROWITH_METER_WRONG_TEMPLATE},
+        {"a kind of 0", offsetof(struct skarrowith_telegram, kind), 1, 0, SKARROWITH_NO_RECORD},
+        {"a kind of 6", offsetof(struct skarrowith_telegram, kind), 1, 6, SKARROWITH_NO_RECORD},
+        {"a byte named zero that is not", offsetof(struct skarrowith_telegram, zero), 1, 1, SKARROWITH_NO_RECORD},
+        {"an entry past the count", offsetof(struct skarrowith_telegram, count), 8, 6, SKARROWITH_METER_WRONG_TEMPLATE},
+        {"a count of 9", offsetof(struct skarrowith_telegram, count), 8, 9, SKARROWITH_METER_WRONG_TEMPLATE},
+        {"energy as a time's structure", offsetof(struct skarrowith_telegram, entries[0].structure), 1, 0x06, SKARROWITH_METER_WRONG_TEMPLATE},
+        {"a sort of 3", offsetof(struct skarrowith_telegram, entries[6].sort), 1, 3, SKARROWITH_NO_RECORD},
+        {"a time told as binary", offsetof(struct skarrowith_telegram, entries[6].sort), 1, 2, SKARROWITH_METER_WRONG_TEMPLATE},
+        {"month 13", offsetof(struct skarrowith_telegram, entries[6].value.time.month), 1, 13, SKARROWITH_METER_WRONG_TEMPLATE},
+        {"weekday 8", offsetof(struct skarrowith_telegram, entries[6].value.time.weekday), 1, 8, SKARROWITH_METER_WRONG_TEMPLATE},
+        {"a time's last byte", offsetof(struct skarrowith_telegram, entries[6].value.time.zero), 1, 1, SKARROWITH_NO_RECORD},
     };
     uint16_t line[SKARROWITH_LINE_MOST];
     struct skarrowith_telegram other;
     for (size_t i = 0; i < sizeof changes / sizeof changes[0]; i++) {
-        uint32_t written = SKARROWITH_REFUSED + (changes[i].number == 101 ? 101 : 20);
+        uint32_t written = SKARROWITH_REFUSED + (changes[i].number == SKARROWITH_NO_RECORD ? SKARROWITH_NO_RECORD : SKARROWITH_UNWRITABLE);
         other = data;
         make(&other, &changes[i]);
         expect(changes[i].what, skarrowith_write_line(&other, sizeof other, line, SKARROWITH_LINE_MOST), written);
@@ -106,13 +106,13 @@ static void set_ups(void)
     }
     other = data;
     other.entries[0].structure = 0x0E;
-    no_set_up("energy in structure 0E", &other, sizeof other, sizeof meter, 72);
+    no_set_up("energy in structure 0E", &other, sizeof other, sizeof meter, SKARROWITH_METER_WRONG_TEMPLATE);
     other.kind = SKARROWITH_ACK;
-    no_set_up("too few places before a template that is no data", &other, sizeof other, sizeof meter - 1, 21);
+    no_set_up("too few places before a template that is no data", &other, sizeof other, sizeof meter - 1, SKARROWITH_TOO_FEW_PLACES);
     other.kind = 0;
-    no_set_up("no record before too few places", &other, sizeof other, 0, 101);
-    no_set_up("a template of 135 bytes", &data, sizeof data - 1, sizeof meter, 101);
-    no_set_up("a meter of 191 bytes", &data, sizeof data, sizeof meter - 1, 21);
+    no_set_up("no record before too few places", &other, sizeof other, 0, SKARROWITH_NO_RECORD);
+    no_set_up("a template of 135 bytes", &data, sizeof data - 1, sizeof meter, SKARROWITH_NO_RECORD);
+    no_set_up("a meter of 191 bytes", &data, sizeof data, sizeof meter - 1, SKARROWITH_TOO_FEW_PLACES);
     other = data;
     other.address = 0x99;
     expect("set-up", skarrowith_meter_set_up(&meter, sizeof meter, OWN, &other, sizeof other), 0);
@@ -195,34 +195,34 @@ static void no_measure(const char *what, uint64_t volume, uint64_t energy, uint6
 
 static void no_record(const char *what)
 {
-    no_step(what, sizeof meter, UINT64_MAX, sizeof answer, 101);
-    no_step(what, sizeof meter, 0, 0, 101);
-    no_measure(what, 1, 1, UINT64_MAX, 101);
+    no_step(what, sizeof meter, UINT64_MAX, sizeof answer, SKARROWITH_NO_RECORD);
+    no_step(what, sizeof meter, 0, 0, SKARROWITH_NO_RECORD);
+    no_measure(what, 1, 1, UINT64_MAX, SKARROWITH_NO_RECORD);
 }
 
 static void refusals(void)
 {
     static const struct change changes[] = {
-        {"a byte named zero that is not", offsetof(struct skarrowith_meter, zero[4]), 1, 1, 101},
-        {"a method in use", offsetof(struct skarrowith_meter, method), 1, 0x90, 101},
-        {"an instruction in use", offsetof(struct skarrowith_meter, since), 8, 1, 101},
-        {"mode 2", offsetof(struct skarrowith_meter, mode), 1, 2, 101},
-        {"an energy below the template's", offsetof(struct skarrowith_meter, used.energy), 8, 96712344, 101},
-        {"a total past the limit", offsetof(struct skarrowith_meter, used.volume), 8, 100000000, 101},
-        {"a verified total past the limit", offsetof(struct skarrowith_meter, verified.energy), 8, 100000000, 101},
-        {"a template that is not fit", offsetof(struct skarrowith_meter, data.entries[0].structure), 1, 0x0E, 101},
-        {"a template that is no record", offsetof(struct skarrowith_meter, data.entries[6].zero[0]), 1, 1, 101},
+        {"a byte named zero that is not", offsetof(struct skarrowith_meter, zero[4]), 1, 1, SKARROWITH_NO_RECORD},
+        {"a method in use", offsetof(struct skarrowith_meter, method), 1, SKARROWITH_START_STOP, SKARROWITH_NO_RECORD},
+        {"an instruction in use", offsetof(struct skarrowith_meter, since), 8, 1, SKARROWITH_NO_RECORD},
+        {"mode 2", offsetof(struct skarrowith_meter, mode), 1, 2, SKARROWITH_NO_RECORD},
+        {"an energy below the template's", offsetof(struct skarrowith_meter, used.energy), 8, 96712344, SKARROWITH_NO_RECORD},
+        {"a total past the limit", offsetof(struct skarrowith_meter, used.volume), 8, 100000000, SKARROWITH_NO_RECORD},
+        {"a verified total past the limit", offsetof(struct skarrowith_meter, verified.energy), 8, 100000000, SKARROWITH_NO_RECORD},
+        {"a template that is not fit", offsetof(struct skarrowith_meter, data.entries[0].structure), 1, 0x0E, SKARROWITH_NO_RECORD},
+        {"a template that is no record", offsetof(struct skarrowith_meter, data.entries[6].zero[0]), 1, 1, SKARROWITH_NO_RECORD},
     };
     const uint64_t t = meter.last;
-    no_step("a time that goes back", sizeof meter, t - 1, sizeof answer, 70);
-    no_measure("a measure whose time goes back", 1, 1, t - 1, 70);
-    no_measure("70 before 71", 99999999, 0, t - 1, 70);
-    no_measure("a volume past the limit", 99999999 - 12345690 + 1, 0, t, 71);
-    no_measure("an energy of 64 bits", 0, UINT64_MAX, t, 71);
-    no_step("an answer of 135 bytes", sizeof meter, t, sizeof answer - 1, 21);
-    no_step("21 before 70", sizeof meter, t - 1, sizeof answer - 1, 21);
-    no_step("a meter of 191 bytes", sizeof meter - 1, t, sizeof answer, 101);
-    no_step("no meter at all", 0, t, sizeof answer, 101);
+    no_step("a time that goes back", sizeof meter, t - 1, sizeof answer, SKARROWITH_METER_TIME_BACK);
+    no_measure("a measure whose time goes back", 1, 1, t - 1, SKARROWITH_METER_TIME_BACK);
+    no_measure("70 before 71", 99999999, 0, t - 1, SKARROWITH_METER_TIME_BACK);
+    no_measure("a volume past the limit", 99999999 - 12345690 + 1, 0, t, SKARROWITH_METER_TOTAL_TOO_LARGE);
+    no_measure("an energy of 64 bits", 0, UINT64_MAX, t, SKARROWITH_METER_TOTAL_TOO_LARGE);
+    no_step("an answer of 135 bytes", sizeof meter, t, sizeof answer - 1, SKARROWITH_TOO_FEW_PLACES);
+    no_step("21 before 70", sizeof meter, t - 1, sizeof answer - 1, SKARROWITH_TOO_FEW_PLACES);
+    no_step("a meter of 191 bytes", sizeof meter - 1, t, sizeof answer, SKARROWITH_NO_RECORD);
+    no_step("no meter at all", 0, t, sizeof answer, SKARROWITH_NO_RECORD);
 
     const struct skarrowith_meter good = meter;
     for (size_t i = 0; i < sizeof changes / sizeof changes[0]; i++) {

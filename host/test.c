@@ -309,11 +309,11 @@ static void expect_signs(void)
     expect_minus("an inlet of -1.50", (const uint8_t[]){0x50, 0x01, 0xF0}, -150);
     expect_minus("the smallest inlet", (const uint8_t[]){0x99, 0x99, 0xF9}, -99999);
     expect_minus("the largest inlet", (const uint8_t[]){0x99, 0x99, 0x99}, 999999);
-    expect_no_minus("minus zero", INLET_AT, (const uint8_t[]){0x00, 0x00, 0xF0}, 3, 12);
-    expect_no_minus("F in the second digit", INLET_AT, (const uint8_t[]){0x50, 0x01, 0x0F}, 3, 12);
-    expect_no_minus("A in the highest place", INLET_AT, (const uint8_t[]){0x50, 0x01, 0xA0}, 3, 12);
-    expect_no_minus("an energy with a minus", ENERGY_AT, (const uint8_t[]){0x45, 0x23, 0x71, 0xF6}, 4, 12);
-    expect_no_minus("a meter number with a minus", NUMBER_AT, (const uint8_t[]){0x78, 0x56, 0x34, 0xF2}, 4, 10);
+    expect_no_minus("minus zero", INLET_AT, (const uint8_t[]){0x00, 0x00, 0xF0}, 3, SKARROWITH_WRONG_VALUE);
+    expect_no_minus("F in the second digit", INLET_AT, (const uint8_t[]){0x50, 0x01, 0x0F}, 3, SKARROWITH_WRONG_VALUE);
+    expect_no_minus("A in the highest place", INLET_AT, (const uint8_t[]){0x50, 0x01, 0xA0}, 3, SKARROWITH_WRONG_VALUE);
+    expect_no_minus("an energy with a minus", ENERGY_AT, (const uint8_t[]){0x45, 0x23, 0x71, 0xF6}, 4, SKARROWITH_WRONG_VALUE);
+    expect_no_minus("a meter number with a minus", NUMBER_AT, (const uint8_t[]){0x78, 0x56, 0x34, 0xF2}, 4, SKARROWITH_WRONG_HEADER);
     expect_count("-99999 beside a sign", INLET, -99999, SECOND_EXAMPLE);
     expect_count("-100000 beside a sign", INLET, -100000, SKARROWITH_REFUSED + SKARROWITH_UNWRITABLE);
     expect_count("the smallest of 64 bits", INLET, INT64_MIN, SKARROWITH_REFUSED + SKARROWITH_UNWRITABLE);
