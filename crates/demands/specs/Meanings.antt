@@ -1,10 +1,13 @@
 -- 01, "Entry", with 02's 2026-06: the table of quantities, as the meaning of a unit byte is told.
-use Prim.Native.Nat.{ℕ, zero, suc}
+use Prim.Native.Nat.{ℕ, zero, suc, _<_}
 use mathlib.Core.List.{List, [], _∷_, _++_}
 use mathlib.Core.Path.{_≡_, refl}
 use lib.IntN.{pos, subℕ}
 use Rattle.mbus_rules.specs.Answers.{Answer, reads, refusal}
+use Rattle.mbus_rules.specs.Binary.{binaryOf, binaryBytes, fitsBinary}
 use Rattle.mbus_rules.specs.Quantities.{quantityOf, powerOf, energy, volume, power, flow, inlet, outlet, time}
+use Rattle.mbus_rules.proofs.Laws.BinaryLaws.{binary-written}
+use Rattle.mbus_rules.proofs.Laws.Tests.{below}
 use Rattle.host_meaning.specs.Meanings.{Meaning, meant, meaningOf, unitOf, noUnit, wattHour, joule, cubicMetre, watt, cubicMetreAnHour, degreeCelsius}
 
 -- what so many unit bytes mean, from one on
@@ -40,3 +43,8 @@ pub whole-table :
     ∷ noRow 146)))))))))))
 unfolding meanings rowFrom noRow quantityOf powerOf unitOf
 whole-table = refl
+
+-- The power is read from its byte in the record as it was meant.
+pub power-read-back : (u : ℕ) → u < 256 → binaryOf (binaryBytes 1 (powerOf u)) ≡ powerOf u
+unfolding quantityOf powerOf
+power-read-back u h = binary-written 1 (powerOf u) (below 256 (λ (v : ℕ). fitsBinary 1 (powerOf v)) refl u h) .back
