@@ -97,6 +97,28 @@ static void expect_version(void)
     hold("its text", strcmp(text, SKARROWITH_VERSION_TEXT), 0);
 }
 
+/* The header's limits, methods and address are those by which the library goes. (host/meter_test.c has the return to use.) */
+static void expect_names(void)
+{
+    static uint16_t line[SKARROWITH_WAKE_MOST + 1];
+    struct skarrowith_exchange x = {0};
+    const uint64_t end = 1000;
+    hold("the least gap", skarrowith_gap(end, end + SKARROWITH_GAP_LEAST), 0);
+    hold("less", skarrowith_gap(end, end + SKARROWITH_GAP_LEAST - 1), SKARROWITH_REFUSED + SKARROWITH_GAP_TOO_SHORT);
+    hold("the greatest gap", skarrowith_gap(end, end + SKARROWITH_GAP_MOST), 0);
+    hold("more", skarrowith_gap(end, end + SKARROWITH_GAP_MOST + 1), SKARROWITH_REFUSED + SKARROWITH_GAP_TOO_LONG);
+    for (size_t count = SKARROWITH_WAKE_LEAST - 1; count <= SKARROWITH_WAKE_MOST + 1; count++)
+        hold("a wake-up", skarrowith_write_wake(count, line, SKARROWITH_WAKE_MOST + 1),
+             count < SKARROWITH_WAKE_LEAST || count > SKARROWITH_WAKE_MOST ? SKARROWITH_REFUSED + SKARROWITH_WAKE_WRONG_COUNT : 0);
+    for (unsigned method = 0; method < 256; method++)
+        hold("an enter", skarrowith_write_request(SKARROWITH_ENTER, SKARROWITH_BROADCAST, (uint8_t)method, line, 10),
+             method == SKARROWITH_START_STOP || method == SKARROWITH_SIMULATED_FLOW || method == SKARROWITH_REAL_TIME
+                 ? 10 : SKARROWITH_REFUSED + SKARROWITH_UNWRITABLE);
+    hold("a read of all", skarrowith_exchange_send_ended(&x, sizeof x, SKARROWITH_READ, SKARROWITH_BROADCAST, 0, end), SKARROWITH_WAITING);
+    hold("the window", skarrowith_exchange_tick(&x, sizeof x, end + SKARROWITH_REPLY_TIME), SKARROWITH_WAITING);
+    hold("past it", skarrowith_exchange_tick(&x, sizeof x, end + SKARROWITH_REPLY_TIME + 1), SKARROWITH_RESEND);
+}
+
 /* What a unit byte means, in memory of so many bytes: what it then holds, and nothing beyond. */
 static void expect_meaning(unsigned unit, size_t size, uint32_t answer, const char *record)
 {
@@ -443,6 +465,7 @@ int main(void)
     data[2 * 16] ^= 1;
     expect("the same, five flips", SKARROWITH_REFUSED + SKARROWITH_ODD_PARITY, data, sizeof data);
     expect_version();
+    expect_names();
     expect_meanings();
     expect_both_interfaces();
     expect_signs();

@@ -197,9 +197,9 @@ uint32_t skarrowith_refusal_text(uint32_t number, char *out, size_t len);
 #define SKARROWITH_REAL_TIME 0x92u
 
 /*
- * The line clock, in bit times of 1/2400 s: a character; the least and the greatest gap between a wake-up's end and the command
- * after it (13.75 and 137.5 ms); the window in which a reply to a send begins (187.5 ms); how long a meter in verification stays
- * there without an instruction (30 min).
+ * The line clock: the bit times of a second and of a character, and in bit times the least and the greatest gap between a
+ * wake-up's end and the command after it (13.75 and 137.5 ms), the window in which a reply to a send begins (187.5 ms), and how
+ * long a meter in verification stays there without an instruction (30 min).
  */
 #define SKARROWITH_BIT_TIMES_PER_SECOND 2400u
 #define SKARROWITH_BIT_TIMES_PER_CHARACTER 11u
