@@ -1,10 +1,11 @@
-/* The cases of lines, wake-up, gap and error of indication. */
+/* The cases of lines, what a unit byte means, wake-up, gap and error of indication. */
 #include "lines.h"
 
 #include "telegrams.h"
 #include "words.h"
 
 #include "../second/indication.h"
+#include "../second/meaning.h"
 #include "../second/wake.h"
 
 #include <inttypes.h>
@@ -75,6 +76,17 @@ int answer_either(void)
         return 0;
     if (!refused(second_either(characters, n, optical, optical_n, &live)))
         printf("found %s +%zu +%zu", live.optical ? "optical" : "mbus", live.place, live.length);
+    return 1;
+}
+
+int answer_meaning(void)
+{
+    struct second_meaning m = {0, 0, 0};
+    uint64_t unit;
+    if (!take(&unit, 0xFF) || !is_whole())
+        return 0;
+    if (!refused(second_entry_meaning((unsigned)unit, &m)))
+        printf("meaning +%u +%u %+d", m.quantity, m.unit, m.power);
     return 1;
 }
 

@@ -1,4 +1,4 @@
-/* The cases of lines, wake-up, gap and error of indication. */
+/* The cases of lines, what a unit byte means, wake-up, gap and error of indication. */
 #ifndef CASES_LINES_H
 #define CASES_LINES_H
 
@@ -15,6 +15,7 @@ int answer_read(void);
 int answer_write(void);
 int answer_find(void);
 int answer_either(void);
+int answer_meaning(void);
 int answer_wake(void);
 int answer_gap(void);
 int answer_error(void);

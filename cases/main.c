@@ -23,7 +23,7 @@ static const struct {
     {"check", answer_check}, {"row", answer_row},     {"body", answer_body},         {"add", answer_add},
     {"list", answer_list},   {"kept", answer_kept},   {"next", answer_next},         {"salvage", answer_salvage},
     {"resistance", answer_resistance}, {"temperature", answer_temperature},
-    {"either", answer_either},
+    {"either", answer_either}, {"meaning", answer_meaning},
     {"unmark", answer_unmark},
     {"length", answer_length}, {"after", answer_after},
     {"replay", answer_replay},

@@ -10,8 +10,7 @@
 #include <stdio.h>
 #include <stdlib.h>
 
-enum { POSITION = 7, OWN_ADDRESS = 5, BROADCAST = 0xFE, START_STOP = 0x90 };
-enum { WAKE_UP = 480, CHARACTER = 11, REPLY_AFTER = 60, WINDOW = 450 };
+enum { POSITION = 7, OWN_ADDRESS = 5, WAKE_UP = 480, REPLY_AFTER = 60 };
 
 static uint8_t bundle[SKARROWITH_BUNDLE_MOST]; /* two bytes of 0 are an empty one */
 static size_t filled = 2;
@@ -22,13 +21,12 @@ static uint64_t now; /* in bit times of 1/2400 s */
 /* Hands on an answer; a refusal, which a bench that keeps the rules does not see, ends the program with its words. */
 static uint32_t expect(const char *what, uint32_t answer)
 {
-    char words[256];
+    char words[SKARROWITH_TEXT_MOST];
     if (answer < SKARROWITH_REFUSED)
         return answer;
-    uint32_t length = skarrowith_refusal_text(answer, words, sizeof words);
     printf("%s: refused %lu", what, (unsigned long)(answer - SKARROWITH_REFUSED));
-    if (length < SKARROWITH_REFUSED)
-        printf(", %.*s", (int)length, words);
+    if (skarrowith_refusal_text(answer, words, sizeof words) < SKARROWITH_REFUSED)
+        printf(", %s", words);
     putchar('\n');
     exit(1);
 }
@@ -43,7 +41,7 @@ static void record(uint8_t direction, uint64_t time, const uint16_t *line, size_
 static void send(const uint16_t *line, size_t count)
 {
     record(SKARROWITH_SENT, now, line, count);
-    now += CHARACTER * count;
+    now += SKARROWITH_BIT_TIMES_PER_CHARACTER * count;
 }
 
 /* What the meter answers to a line whose send has just ended: the characters of its answer, 0 for silence. */
@@ -60,25 +58,26 @@ static size_t meter_answers(const uint16_t *line, size_t count, uint16_t *answer
 static uint32_t send_request(uint8_t kind, uint8_t method, const uint16_t *line, size_t count)
 {
     send(line, count);
-    return expect("send ended", skarrowith_exchange_send_ended(&exchange, sizeof exchange, kind, BROADCAST, method, now));
+    return expect("send ended", skarrowith_exchange_send_ended(&exchange, sizeof exchange, kind, SKARROWITH_BROADCAST, method, now));
 }
 
 /* One exchange: sends the request until a fitting answer has come, which the line loses so many times. */
 static void ask(uint8_t kind, uint8_t method, int lost, const uint16_t *left_over, size_t left, struct skarrowith_telegram *reply)
 {
     uint16_t request[SKARROWITH_LINE_MOST], answer[SKARROWITH_LINE_MOST];
-    size_t length = expect("request", skarrowith_write_request(kind, BROADCAST, method, request, SKARROWITH_LINE_MOST));
+    size_t length = expect("request", skarrowith_write_request(kind, SKARROWITH_BROADCAST, method, request, SKARROWITH_LINE_MOST));
     uint64_t began = now;
     uint32_t state = send_request(kind, method, request, length);
     if (left != 0) {
         record(SKARROWITH_HEARD, began, left_over, left);
         uint32_t said = skarrowith_exchange_heard(&exchange, sizeof exchange, left_over, left, began, reply, sizeof *reply);
-        printf("left-over answer: %s\n", said == SKARROWITH_REFUSED + 40 ? "refused by 40, it does not count" : "taken");
+        printf("left-over answer: %s\n",
+               said == SKARROWITH_REFUSED + SKARROWITH_EXCHANGE_TIME_BACK ? "refused by 40, it does not count" : "taken");
     }
     while (state != SKARROWITH_WELL) {
         size_t count = meter_answers(request, length, answer);
         if (lost-- > 0) {
-            now += WINDOW + 1;
+            now += SKARROWITH_REPLY_TIME + 1;
             expect("tick", skarrowith_exchange_tick(&exchange, sizeof exchange, now));
             printf("no answer: send again\n");
             state = send_request(kind, method, request, length);
@@ -86,7 +85,7 @@ static void ask(uint8_t kind, uint8_t method, int lost, const uint16_t *left_ove
             now += REPLY_AFTER;
             record(SKARROWITH_HEARD, now, answer, count);
             state = expect("heard", skarrowith_exchange_heard(&exchange, sizeof exchange, answer, count, now, reply, sizeof *reply));
-            now += CHARACTER * count;
+            now += SKARROWITH_BIT_TIMES_PER_CHARACTER * count;
         }
     }
     now += 100;
@@ -123,9 +122,12 @@ static void say_live(const uint16_t *optical, size_t count)
 /* The volume that an answer gives, a count of its last digit; no volume is below 0. */
 static uint64_t volume_in(const struct skarrowith_telegram *answer)
 {
-    for (uint64_t i = 0; i < answer->count; i++)
-        if (answer->entries[i].unit >= 0x10 && answer->entries[i].unit <= 0x17)
+    for (uint64_t i = 0; i < answer->count; i++) {
+        struct skarrowith_meaning meaning;
+        expect("meaning", skarrowith_entry_meaning(answer->entries[i].unit, &meaning, sizeof meaning));
+        if (meaning.quantity == SKARROWITH_VOLUME)
             return (uint64_t)answer->entries[i].value.count;
+    }
     return 0;
 }
 
@@ -152,7 +154,7 @@ int main(void)
     set_box("inlet", 7812);
     set_box("outlet", 6534);
     wake_up();
-    ask(SKARROWITH_ENTER, START_STOP, 1, NULL, 0, &ack);
+    ask(SKARROWITH_ENTER, SKARROWITH_START_STOP, 1, NULL, 0, &ack);
     ask(SKARROWITH_READ, 0, 0, NULL, 0, &first);
     size_t left = expect("left over", skarrowith_write_line(&first, sizeof first, left_over, SKARROWITH_LINE_MOST));
     say_live(left_over, left);

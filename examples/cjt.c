@@ -32,11 +32,10 @@ static const struct {
 
 static void say_refusal(const char *what, uint32_t refusal)
 {
-    char words[256];
-    uint32_t length = skarrowith_refusal_text(refusal, words, sizeof words);
+    char words[SKARROWITH_TEXT_MOST];
     printf("%s: refused %lu", what, (unsigned long)(refusal - SKARROWITH_REFUSED));
-    if (length < SKARROWITH_REFUSED)
-        printf(", %.*s", (int)length, words);
+    if (skarrowith_refusal_text(refusal, words, sizeof words) < SKARROWITH_REFUSED)
+        printf(", %s", words);
     putchar('\n');
 }
 
@@ -94,18 +93,19 @@ static void say_values(const struct skarrowith_cjt_telegram *t)
     printf("outlet sensor: %s\n", t->state[1] & 4 ? "faulty" : "fine");
 }
 
-/* An energy as an M-Bus entry: unit bytes 00 to 07 are 10^-3 to 10^4 Wh, 08 to 0F are 10^0 to 10^7 J. */
+/* An energy as an M-Bus entry, with what its unit byte means. */
 static void say_entry(const char *what, struct skarrowith_cjt_value energy)
 {
     struct skarrowith_entry entry;
+    struct skarrowith_meaning meaning;
     uint32_t said = skarrowith_cjt_energy_entry(energy.count, energy.code, &entry, sizeof entry);
     if (said >= SKARROWITH_REFUSED) {
         say_refusal(what, said);
         return;
     }
-    int joules = entry.unit >= 8, power = joules ? entry.unit - 8 : entry.unit - 3;
+    expect("meaning", skarrowith_entry_meaning(entry.unit, &meaning, sizeof meaning));
     printf("%s: structure %02X, unit byte %02X, %llu times 10^%d %s\n", what, (unsigned)entry.structure, (unsigned)entry.unit,
-           (unsigned long long)entry.value.count, power, joules ? "J" : "Wh");
+           (unsigned long long)entry.value.count, meaning.power, meaning.unit == SKARROWITH_J ? "J" : "Wh");
 }
 
 int main(void)

@@ -32,7 +32,7 @@
 #include <unistd.h>
 
 /* How long a driver or adapter holds characters back at most must be known, or assumed: here the time of six, 27.5 ms. */
-enum { CHARACTER = 11, WINDOW = 450, HELD_BACK = 6 * CHARACTER, MOST = 512 };
+enum { CHARACTER = SKARROWITH_BIT_TIMES_PER_CHARACTER, HELD_BACK = 6 * CHARACTER, MOST = 512 };
 
 /* What has come in: bytes that are not used yet, and the characters of one line with the time at which its first began. */
 struct port {
@@ -54,7 +54,7 @@ static uint64_t now_in_bits(void)
 {
     struct timespec t;
     clock_gettime(CLOCK_MONOTONIC, &t);
-    return (uint64_t)t.tv_sec * 2400 + (uint64_t)t.tv_nsec * 3 / 1250000;
+    return (uint64_t)t.tv_sec * SKARROWITH_BIT_TIMES_PER_SECOND + (uint64_t)t.tv_nsec * 3 / 1250000;
 }
 
 /* Waits for bytes until a time; says whether there are some. */
@@ -64,7 +64,7 @@ static int wait_for_bytes(int fd, uint64_t until)
     uint64_t now = now_in_bits();
     p.fd = fd;
     p.events = POLLIN;
-    return poll(&p, 1, now < until ? (int)((until - now) * 1000 / 2400) + 1 : 0) > 0;
+    return poll(&p, 1, now < until ? (int)((until - now) * 1000 / SKARROWITH_BIT_TIMES_PER_SECOND) + 1 : 0) > 0;
 }
 #endif
 
@@ -156,7 +156,7 @@ static uint32_t hear(struct port *p, size_t count, struct skarrowith_exchange *x
 {
     uint32_t answer = skarrowith_exchange_heard(x, sizeof *x, p->line, count, p->began, reply, sizeof *reply);
     drop_characters(p, count);
-    if (answer != SKARROWITH_REFUSED + 40)
+    if (answer != SKARROWITH_REFUSED + SKARROWITH_EXCHANGE_TIME_BACK)
         return answer;
     p->passed++;
     return x->state;
@@ -166,7 +166,7 @@ static uint32_t hear(struct port *p, size_t count, struct skarrowith_exchange *x
 static uint64_t wait_until(const struct port *p, size_t length, const struct skarrowith_exchange *x)
 {
     if (p->count == 0)
-        return x->began + WINDOW + 1 + p->held_back;
+        return x->began + SKARROWITH_REPLY_TIME + 1 + p->held_back;
     return (length > p->count ? p->began + CHARACTER * length : p->last) + p->held_back;
 }
 
@@ -216,7 +216,7 @@ int main(int argc, char **argv)
     static struct port p;
     struct skarrowith_exchange x;
     struct skarrowith_telegram reply;
-    unsigned address = argc > 2 ? (unsigned)strtoul(argv[2], NULL, 16) : 0xFE;
+    unsigned address = argc > 2 ? (unsigned)strtoul(argv[2], NULL, 16) : SKARROWITH_BROADCAST;
     const char *missing;
     if (argc < 2 || argc > 3 || address > 0xFF)
         return fprintf(stderr, "usage: serial PORT [ADDRESS]\n"), 2;

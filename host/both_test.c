@@ -12,7 +12,6 @@
 #include <string.h>
 
 #define OWN 5
-#define RETURN 4320000u
 #define WINDOW 450u
 
 /* Lines on their way in one direction, the oldest first. No run has more than this many events. */
@@ -98,7 +97,7 @@ static void send_request(struct run *r)
 static struct skarrowith_meter at(const struct skarrowith_meter *m, uint64_t t)
 {
     struct skarrowith_meter then = *m;
-    if (then.mode && t - then.since >= RETURN)
+    if (then.mode && t - then.since >= SKARROWITH_RETURN_TIME)
         then.mode = 0, then.method = 0, then.since = 0;
     then.last = 0;
     return then;
@@ -191,15 +190,15 @@ static void some_meter(struct run *r)
     skarrowith_meter_set_up(&r->meter, sizeof r->meter, OWN, &template, sizeof template);
     for (unsigned i = below(4); i; i--) {
         uint8_t kind = once_in(2) ? SKARROWITH_ENTER : once_in(2) ? SKARROWITH_LEAVE : SKARROWITH_READ;
-        uint8_t method = kind == SKARROWITH_ENTER ? (uint8_t)between(0x90, 0x92) : 0;
-        uint32_t count = skarrowith_write_request(kind, 0xFE, method, line, 10);
+        uint8_t method = kind == SKARROWITH_ENTER ? (uint8_t)between(SKARROWITH_START_STOP, SKARROWITH_REAL_TIME) : 0;
+        uint32_t count = skarrowith_write_request(kind, SKARROWITH_BROADCAST, method, line, 10);
         skarrowith_meter_heard(&r->meter, sizeof r->meter, line, count, t, &answer, sizeof answer);
         t += below(1000);
         unsigned volume = below(100);
         skarrowith_meter_measure(&r->meter, sizeof r->meter, volume, below(100), t);
         t += below(1000);
     }
-    r->first = t + (once_in(2) ? below(2000) : between(RETURN - 3000, RETURN));
+    r->first = t + (once_in(2) ? below(2000) : between(SKARROWITH_RETURN_TIME - 3000, SKARROWITH_RETURN_TIME));
 }
 
 static void one_event(struct run *r)
@@ -260,18 +259,18 @@ static void one_run(void)
     some_meter(&r);
     r.alone = r.meter;
     r.kind = once_in(3) ? SKARROWITH_LEAVE : SKARROWITH_ENTER;
-    r.method = r.kind == SKARROWITH_ENTER ? (uint8_t)between(0x90, 0x92) : 0;
-    r.address = once_in(8) ? (uint8_t)below(256) : once_in(2) ? OWN : 0xFE;
+    r.method = r.kind == SKARROWITH_ENTER ? (uint8_t)between(SKARROWITH_START_STOP, SKARROWITH_REAL_TIME) : 0;
+    r.address = once_in(8) ? (uint8_t)below(256) : once_in(2) ? OWN : SKARROWITH_BROADCAST;
     r.now = r.first;
     sent(&r);
     for (unsigned i = between(1, EVENTS - 1); i; i--) {
-        uint64_t later = r.now + (once_in(3) ? below(WINDOW) : once_in(200) ? below(RETURN) : below(80));
-        if (later - r.first >= RETURN)
+        uint64_t later = r.now + (once_in(3) ? below(WINDOW) : once_in(200) ? below(SKARROWITH_RETURN_TIME) : below(80));
+        if (later - r.first >= SKARROWITH_RETURN_TIME)
             break;
         r.now = later;
         one_event(&r);
     }
-    r.end = once_in(2) ? r.now : r.first + RETURN - 1;
+    r.end = once_in(2) ? r.now : r.first + SKARROWITH_RETURN_TIME - 1;
     hold(&r);
 }
 

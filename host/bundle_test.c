@@ -96,12 +96,12 @@ static void test_example(void)
     expect("its fields", memcmp(&lent.row, &same, sizeof same) != 0, 0);
     expect("its body", memcmp(example + lent.row.offset, ack, lent.row.length) != 0, 0);
     remember();
-    refused("no second row", row_at(example, sizeof example, 1), 39);
-    refused("no last row", row_at(example, sizeof example, SIZE_MAX), 39);
-    refused("a byte short", row_of_size(example, sizeof example, sizeof lent.row - 1), 21);
-    refused("the room before the bundle", row_of_size(example, 1, 0), 21);
-    refused("a place too few", skarrowith_bundle_list(example, sizeof example, lent.bytes, size - 1, &lent.number), 21);
-    refused("no place", skarrowith_bundle_list(example, sizeof example, NULL, 0, &lent.number), 21);
+    refused("no second row", row_at(example, sizeof example, 1), SKARROWITH_BUNDLE_NO_SUCH_ROW);
+    refused("no last row", row_at(example, sizeof example, SIZE_MAX), SKARROWITH_BUNDLE_NO_SUCH_ROW);
+    refused("a byte short", row_of_size(example, sizeof example, sizeof lent.row - 1), SKARROWITH_TOO_FEW_PLACES);
+    refused("the room before the bundle", row_of_size(example, 1, 0), SKARROWITH_TOO_FEW_PLACES);
+    refused("a place too few", skarrowith_bundle_list(example, sizeof example, lent.bytes, size - 1, &lent.number), SKARROWITH_TOO_FEW_PLACES);
+    refused("no place", skarrowith_bundle_list(example, sizeof example, NULL, 0, &lent.number), SKARROWITH_TOO_FEW_PLACES);
     expect("its listing", skarrowith_bundle_list(example, sizeof example, lent.bytes, size, &lent.number), 0);
     expect("its length", (uint32_t)lent.number, (uint32_t)size);
     expect("its text", memcmp(lent.bytes, listed, size) != 0, 0);
@@ -116,8 +116,8 @@ static void test_contents(void)
     size_t size = sizeof contents;
     expect("the columns' size", (uint32_t)size, 6152);
     begin(example, sizeof example);
-    refused("no room for the columns", skarrowith_contents_of(example, sizeof example, &contents, size - 1), 21);
-    refused("no bundle", skarrowith_contents_of(example, 1, &contents, size), 31);
+    refused("no room for the columns", skarrowith_contents_of(example, sizeof example, &contents, size - 1), SKARROWITH_TOO_FEW_PLACES);
+    refused("no bundle", skarrowith_contents_of(example, 1, &contents, size), SKARROWITH_BUNDLE_TOO_SHORT);
     expect("columns as they were", memcmp(&contents, &blank, size) != 0, 0);
     expect("the example's columns", skarrowith_contents_of(example, sizeof example, &contents, size), 0);
     expect("their count", (uint32_t)contents.count, 1);
@@ -132,13 +132,13 @@ static void test_contents(void)
     expect("position 7", skarrowith_contents_next(&contents, size, 7, 0, &lent.number), 0);
     expect("its row's number", (uint32_t)lent.number, 0);
     remember();
-    refused("no second row", skarrowith_contents_row(&contents, size, 1, &lent.row, sizeof lent.row), 39);
-    refused("a byte short", skarrowith_contents_row(&contents, size, 0, &lent.row, sizeof lent.row - 1), 21);
-    refused("no record before the room", skarrowith_contents_row(&contents, size - 1, 0, &lent.row, 0), 101);
-    refused("no second row of position 7", skarrowith_contents_next(&contents, size, 7, 1, &lent.number), 39);
-    refused("no row of position 0", skarrowith_contents_next(&contents, size, 0, 0, &lent.number), 39);
-    refused("from the last number", skarrowith_contents_next(&contents, size, 7, SIZE_MAX, &lent.number), 39);
-    refused("columns a byte longer", skarrowith_contents_next(&contents, size + 1, 7, 0, &lent.number), 101);
+    refused("no second row", skarrowith_contents_row(&contents, size, 1, &lent.row, sizeof lent.row), SKARROWITH_BUNDLE_NO_SUCH_ROW);
+    refused("a byte short", skarrowith_contents_row(&contents, size, 0, &lent.row, sizeof lent.row - 1), SKARROWITH_TOO_FEW_PLACES);
+    refused("no record before the room", skarrowith_contents_row(&contents, size - 1, 0, &lent.row, 0), SKARROWITH_NO_RECORD);
+    refused("no second row of position 7", skarrowith_contents_next(&contents, size, 7, 1, &lent.number), SKARROWITH_BUNDLE_NO_SUCH_ROW);
+    refused("no row of position 0", skarrowith_contents_next(&contents, size, 0, 0, &lent.number), SKARROWITH_BUNDLE_NO_SUCH_ROW);
+    refused("from the last number", skarrowith_contents_next(&contents, size, 7, SIZE_MAX, &lent.number), SKARROWITH_BUNDLE_NO_SUCH_ROW);
+    refused("columns a byte longer", skarrowith_contents_next(&contents, size + 1, 7, 0, &lent.number), SKARROWITH_NO_RECORD);
     memset(&contents, 0xFF, size);
     contents.count = 512;
     expect("512 rows of another's making", skarrowith_contents_row(&contents, size, 511, &lent.row, sizeof lent.row), 0);
@@ -147,8 +147,8 @@ static void test_contents(void)
     expect("its row's number", (uint32_t)lent.number, 511);
     contents.count = 513;
     remember();
-    refused("513 rows", skarrowith_contents_row(&contents, size, 0, &lent.row, sizeof lent.row), 101);
-    refused("513 rows scanned", skarrowith_contents_next(&contents, size, 255, 0, &lent.number), 101);
+    refused("513 rows", skarrowith_contents_row(&contents, size, 0, &lent.row, sizeof lent.row), SKARROWITH_NO_RECORD);
+    refused("513 rows scanned", skarrowith_contents_next(&contents, size, 255, 0, &lent.number), SKARROWITH_NO_RECORD);
 }
 
 static void test_refusals(void)
@@ -159,26 +159,26 @@ static void test_refusals(void)
         size_t len, at;
         uint8_t byte;
     } damaged[] = {
-        {"one byte", 31, 1, 0, 1},
-        {"count 513", 32, 16, 1, 2},
-        {"contents cut", 33, 13, 0, 1},
-        {"position 0", 34, 16, 2, 0},
-        {"position 49", 34, 16, 2, 49},
-        {"direction 2", 34, 16, 3, 2},
-        {"length 0", 34, 16, 12, 0},
-        {"length 3", 34, 16, 12, 3},
-        {"length 1,026", 34, 16, 13, 4},
-        {"offset 15", 35, 16, 8, 15},
-        {"offset 65,550", 35, 16, 10, 1},
-        {"a body past the end", 35, 16, 12, 4},
-        {"a byte left over", 36, 17, 16, 0},
-        {"a character over 511", 37, 16, 15, 2},
+        {"one byte", SKARROWITH_BUNDLE_TOO_SHORT, 1, 0, 1},
+        {"count 513", SKARROWITH_BUNDLE_WRONG_COUNT, 16, 1, 2},
+        {"contents cut", SKARROWITH_BUNDLE_CONTENTS_CUT, 13, 0, 1},
+        {"position 0", SKARROWITH_BUNDLE_WRONG_ROW, 16, 2, 0},
+        {"position 49", SKARROWITH_BUNDLE_WRONG_ROW, 16, 2, 49},
+        {"direction 2", SKARROWITH_BUNDLE_WRONG_ROW, 16, 3, 2},
+        {"length 0", SKARROWITH_BUNDLE_WRONG_ROW, 16, 12, 0},
+        {"length 3", SKARROWITH_BUNDLE_WRONG_ROW, 16, 12, 3},
+        {"length 1,026", SKARROWITH_BUNDLE_WRONG_ROW, 16, 13, 4},
+        {"offset 15", SKARROWITH_BUNDLE_WRONG_OFFSET, 16, 8, 15},
+        {"offset 65,550", SKARROWITH_BUNDLE_WRONG_OFFSET, 16, 10, 1},
+        {"a body past the end", SKARROWITH_BUNDLE_WRONG_OFFSET, 16, 12, 4},
+        {"a byte left over", SKARROWITH_BUNDLE_BYTES_LEFT, 17, 16, 0},
+        {"a character over 511", SKARROWITH_BUNDLE_WRONG_CHARACTER, 16, 15, 2},
     };
     static uint8_t bytes[SKARROWITH_BUNDLE_MOST + 1];
     memcpy(bytes, example, sizeof example);
-    refused_bundle("65,537 bytes", 30, bytes, sizeof bytes);
-    refused_bundle("65,536 bytes", 36, bytes, sizeof bytes - 1);
-    refused_bundle("no bytes", 31, bytes, 0);
+    refused_bundle("65,537 bytes", SKARROWITH_BUNDLE_TOO_LONG, bytes, sizeof bytes);
+    refused_bundle("65,536 bytes", SKARROWITH_BUNDLE_BYTES_LEFT, bytes, sizeof bytes - 1);
+    refused_bundle("no bytes", SKARROWITH_BUNDLE_TOO_SHORT, bytes, 0);
     for (size_t i = 0; i < sizeof damaged / sizeof damaged[0]; i++) {
         memcpy(bytes, example, sizeof example);
         bytes[damaged[i].at] = damaged[i].byte;
@@ -186,9 +186,9 @@ static void test_refusals(void)
         bytes[damaged[i].at] = 0;
     }
     begin(bytes, 0);
-    refused("no bytes at a null pointer", skarrowith_bundle_check(NULL, 0, &lent.number), 31);
-    refused("its row", row_at(NULL, 0, 0), 31);
-    refused("a buffer of no bytes", skarrowith_bundle_add(NULL, 0, &lent.number, 7, 1, 0, ack, sizeof ack), 31);
+    refused("no bytes at a null pointer", skarrowith_bundle_check(NULL, 0, &lent.number), SKARROWITH_BUNDLE_TOO_SHORT);
+    refused("its row", row_at(NULL, 0, 0), SKARROWITH_BUNDLE_TOO_SHORT);
+    refused("a buffer of no bytes", skarrowith_bundle_add(NULL, 0, &lent.number, 7, 1, 0, ack, sizeof ack), SKARROWITH_BUNDLE_TOO_SHORT);
 }
 
 /* Two rows cut short: what is kept stands in the second buffer, and nothing beyond is touched. */
@@ -202,7 +202,7 @@ static void test_salvage(void)
     expect("the last body missing", skarrowith_bundle_salvage(two, 28, lent.bytes, 16, &told, sizeof told), 0);
     expect("one row kept", (uint32_t)told.kept, 1);
     expect("one row dropped", (uint32_t)told.dropped, 1);
-    expect("its body past the end", (uint32_t)told.rule, 35);
+    expect("its body past the end", (uint32_t)told.rule, SKARROWITH_BUNDLE_WRONG_OFFSET);
     expect("the bytes of the new bundle", (uint32_t)told.filled, 16);
     expect("the example made", memcmp(lent.bytes, example, 16) != 0, 0);
     expect("nothing beyond", memcmp(lent.bytes + 16, before.bytes + 16, sizeof lent.bytes - 16) != 0, 0);
@@ -210,10 +210,10 @@ static void test_salvage(void)
     expect("itself", memcmp(lent.bytes, two, 30) != 0, 0);
     expect("no rule broken", (uint32_t)told.rule, 0);
     remember();
-    refused("a byte too few", skarrowith_bundle_salvage(two, 30, lent.bytes, 29, &told, sizeof told), 38);
-    refused("no room for what is told", skarrowith_bundle_salvage(two, 1, lent.bytes, 0, &told, sizeof told - 1), 21);
-    refused("one byte", skarrowith_bundle_salvage(two, 1, lent.bytes, sizeof lent.bytes, &told, sizeof told), 31);
-    refused("contents cut", skarrowith_bundle_salvage(two, 25, lent.bytes, sizeof lent.bytes, &told, sizeof told), 33);
+    refused("a byte too few", skarrowith_bundle_salvage(two, 30, lent.bytes, 29, &told, sizeof told), SKARROWITH_BUNDLE_FULL);
+    refused("no room for what is told", skarrowith_bundle_salvage(two, 1, lent.bytes, 0, &told, sizeof told - 1), SKARROWITH_TOO_FEW_PLACES);
+    refused("one byte", skarrowith_bundle_salvage(two, 1, lent.bytes, sizeof lent.bytes, &told, sizeof told), SKARROWITH_BUNDLE_TOO_SHORT);
+    refused("contents cut", skarrowith_bundle_salvage(two, 25, lent.bytes, sizeof lent.bytes, &told, sizeof told), SKARROWITH_BUNDLE_CONTENTS_CUT);
 }
 
 static void test_adding(void)
@@ -237,19 +237,19 @@ static void test_adding(void)
     expect("its offset", lent.row.offset, 28);
     expect("its position", lent.row.position, 48);
     remember();
-    refused("an earlier time", add_ack(sizeof lent.bytes, 7, 0x12345677), 34);
-    refused("position 0", add_ack(sizeof lent.bytes, 0, 0x12345678), 34);
-    refused("a field before a character", add(30, 2, 0x12345678, wide, 2), 34);
-    refused("no body", add(30, SKARROWITH_SENT, 0x12345678, NULL, 0), 34);
-    refused("a character before the room", add(30, SKARROWITH_SENT, 0x12345678, wide, 2), 37);
-    refused("a byte too few", add_ack(43, 7, 0x12345678), 38);
-    refused("more than the buffer has", add_ack(29, 7, 0x12345678), 30);
+    refused("an earlier time", add_ack(sizeof lent.bytes, 7, 0x12345677), SKARROWITH_BUNDLE_WRONG_ROW);
+    refused("position 0", add_ack(sizeof lent.bytes, 0, 0x12345678), SKARROWITH_BUNDLE_WRONG_ROW);
+    refused("a field before a character", add(30, 2, 0x12345678, wide, 2), SKARROWITH_BUNDLE_WRONG_ROW);
+    refused("no body", add(30, SKARROWITH_SENT, 0x12345678, NULL, 0), SKARROWITH_BUNDLE_WRONG_ROW);
+    refused("a character before the room", add(30, SKARROWITH_SENT, 0x12345678, wide, 2), SKARROWITH_BUNDLE_WRONG_CHARACTER);
+    refused("a byte too few", add_ack(43, 7, 0x12345678), SKARROWITH_BUNDLE_FULL);
+    refused("more than the buffer has", add_ack(29, 7, 0x12345678), SKARROWITH_BUNDLE_TOO_LONG);
     memcpy(falls, two, sizeof falls);
     falls[4] = 0x79;
     falls[5] = 0x56;
     falls[6] = 0x34;
     falls[7] = 0x12;
-    refused_bundle("a time that falls", 34, falls, sizeof falls);
+    refused_bundle("a time that falls", SKARROWITH_BUNDLE_WRONG_ROW, falls, sizeof falls);
 }
 
 /* 38 at 512 rows, and where the new bundle would have more than 65,536 bytes though the buffer has room. */
@@ -262,24 +262,24 @@ static void test_full(void)
         expect("one of 512 rows", add_ack(sizeof lent.bytes, 1, i), 0);
     expect("their bytes", (uint32_t)lent.number, 2 + 512 * 14);
     remember();
-    refused("513 rows", add_ack(sizeof lent.bytes, 1, 512), 38);
+    refused("513 rows", add_ack(sizeof lent.bytes, 1, 512), SKARROWITH_BUNDLE_FULL);
     expect("the last row", row_at(lent.bytes, 2 + 512 * 14, 511), 0);
     expect("its time", lent.row.time, 511);
     remember();
-    refused("no row 512", row_at(lent.bytes, 2 + 512 * 14, 512), 39);
+    refused("no row 512", row_at(lent.bytes, 2 + 512 * 14, 512), SKARROWITH_BUNDLE_NO_SUCH_ROW);
     begin(none, sizeof none);
     for (uint32_t i = 0; i < 64; i++)
         expect("one of 64 rows", add(sizeof lent.bytes, SKARROWITH_SENT, i, body, 1004), 0);
     expect("their bytes", (uint32_t)lent.number, 2 + 64 * 1016);
     remember();
-    refused("65,538 bytes", add(sizeof lent.bytes, SKARROWITH_SENT, 64, body, 500), 38);
+    refused("65,538 bytes", add(sizeof lent.bytes, SKARROWITH_SENT, 64, body, 500), SKARROWITH_BUNDLE_FULL);
     expect("65,536 bytes", add(sizeof lent.bytes, SKARROWITH_SENT, 64, body, 498), 0);
     expect("their bytes", (uint32_t)lent.number, SKARROWITH_BUNDLE_MOST);
     remember();
-    refused("one row more", add_ack(sizeof lent.bytes, 1, 64), 38);
+    refused("one row more", add_ack(sizeof lent.bytes, 1, 64), SKARROWITH_BUNDLE_FULL);
     lent.number = SKARROWITH_BUNDLE_MOST + 1;
     remember();
-    refused("65,537 bytes filled", add_ack(sizeof lent.bytes, 1, 64), 30);
+    refused("65,537 bytes filled", add_ack(sizeof lent.bytes, 1, 64), SKARROWITH_BUNDLE_TOO_LONG);
 }
 
 /* A long run: 48 positions are woken in turn and read until adding meets 38; swept, the run goes on where it stood. */
@@ -299,14 +299,14 @@ static void test_sweep(void)
         expect("a read", skarrowith_bundle_add(lent.bytes, room, &lent.number, position, 0, time++, request, 10), 0);
         answer = skarrowith_bundle_add(lent.bytes, room, &lent.number, position, direction, time++, wake, sizeof wake);
     }
-    expect("the run is full", answer, SKARROWITH_REFUSED + 38);
+    expect("the run is full", answer, SKARROWITH_REFUSED + SKARROWITH_BUNDLE_FULL);
     expect("its reads", woken, 69);
     full = lent.number;
     remember();
-    refused("position 49", skarrowith_bundle_sweep(lent.bytes, room, &lent.number, 49), 34);
+    refused("position 49", skarrowith_bundle_sweep(lent.bytes, room, &lent.number, 49), SKARROWITH_BUNDLE_WRONG_ROW);
     lent.number = room + 1;
     remember();
-    refused("more than the buffer has", skarrowith_bundle_sweep(lent.bytes, room, &lent.number, 0), 30);
+    refused("more than the buffer has", skarrowith_bundle_sweep(lent.bytes, room, &lent.number, 0), SKARROWITH_BUNDLE_TOO_LONG);
     lent.number = full;
     remember();
     expect("swept of wake-ups", skarrowith_bundle_sweep(lent.bytes, room, &lent.number, 0), 0);
@@ -318,7 +318,7 @@ static void test_sweep(void)
     expect("its offset", lent.row.offset, 2 + 69 * 12 + 68 * 10);
     expect("its body", memcmp(lent.bytes + lent.row.offset, request, sizeof request) != 0, 0);
     remember();
-    refused("an earlier time", add_ack(room, 1, lent.row.time - 1), 34);
+    refused("an earlier time", add_ack(room, 1, lent.row.time - 1), SKARROWITH_BUNDLE_WRONG_ROW);
     expect("the run goes on", add(room, SKARROWITH_HEARD, lent.row.time, wake, sizeof wake), 0);
     expect("swept of position 1", skarrowith_bundle_sweep(lent.bytes, room, &lent.number, 1), 0);
     expect("its two reads and the wake-up are gone", (uint32_t)lent.number, 2 + 67 * 22);

@@ -19,6 +19,7 @@ static const struct {
 } functions[FUNCTIONS] = {
     [CHECK_LINE] = {"skarrowith_check_line", "1 2 3 4 5", "1 2 3 4 5 6 7 8 9 10 11 12 13 14 16 17"},
     [REFUSAL_TEXT] = {"skarrowith_refusal_text", "14 17 83", "21 100"},
+    [ENTRY_MEANING] = {"skarrowith_entry_meaning", "0", "11 21"},
     [FIND_LINE] = {"skarrowith_find_line", "0", "18 21"},
     [FIND_EITHER] = {"skarrowith_find_either", "1 2", "18 21"},
     [UNMARK] = {"skarrowith_unmark", "0", ""},

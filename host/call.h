@@ -8,6 +8,7 @@
 enum function {
     CHECK_LINE,
     REFUSAL_TEXT,
+    ENTRY_MEANING,
     FIND_LINE,
     FIND_EITHER,
     UNMARK,

@@ -12,6 +12,7 @@
 #include "../second/cjt.h"
 #include "../second/example.h"
 #include "../second/line.h"
+#include "../second/meaning.h"
 #include "../second/number.h"
 #include "../second/replay.h"
 #include "../second/resistance.h"
@@ -39,11 +40,13 @@ static struct skarrowith_contents contents;
 static struct skarrowith_salvaged salvaged;
 static struct skarrowith_cjt_telegram cjt;
 static struct skarrowith_entry entry;
+static struct skarrowith_meaning meaning;
 
 /* ---- what is called */
 
 static uint32_t check(void) { return skarrowith_check_line(bytes, 2 * count); }
 static uint32_t words(void) { return skarrowith_refusal_text(9, (char *)text, sizeof text); }
+static uint32_t meaning_of(void) { return skarrowith_entry_meaning(0x11, &meaning, sizeof meaning); }
 static uint32_t read_line(void) { return skarrowith_read_line(characters, count, &telegram, sizeof telegram); }
 static uint32_t write_line(void) { return skarrowith_write_line(&telegram, sizeof telegram, characters, MOST); }
 static uint32_t find(void) { return skarrowith_find_line(characters, count, &found, sizeof found); }
@@ -71,7 +74,7 @@ static uint32_t unmark_by_second(void) { return (uint32_t)second_unmark(bytes, c
 static uint32_t exchange_resent(void)
 {
     exchange = waiting;
-    return skarrowith_exchange_send_ended(&exchange, sizeof exchange, SKARROWITH_READ, 0xFE, 0, 2000);
+    return skarrowith_exchange_send_ended(&exchange, sizeof exchange, SKARROWITH_READ, SKARROWITH_BROADCAST, 0, 2000);
 }
 
 static uint32_t exchange_heard(void)
@@ -168,6 +171,12 @@ static uint32_t read_cjt_by_second(void)
     return refusal == 0 ? (uint32_t)t.kind : 256 + (uint32_t)refusal;
 }
 
+static uint32_t meaning_by_second(void)
+{
+    struct second_meaning m;
+    return (uint32_t)second_entry_meaning(0x11, &m);
+}
+
 /* By the formula, without a table. */
 static uint32_t resistance_by_second(void) { return (uint32_t)second_resistance(5019, &number); }
 
@@ -227,7 +236,7 @@ static void put_binary(void)
 static void put_waiting(void)
 {
     put_data();
-    skarrowith_exchange_send_ended(&waiting, sizeof waiting, SKARROWITH_READ, 0xFE, 0, 1000);
+    skarrowith_exchange_send_ended(&waiting, sizeof waiting, SKARROWITH_READ, SKARROWITH_BROADCAST, 0, 1000);
 }
 
 /* A read that asks for a resend. */
@@ -282,7 +291,7 @@ static void put_noise(void)
 static void put_times(void)
 {
     for (size_t i = 0; i < count; i++)
-        times[i] = 1000 + 11 * i;
+        times[i] = 1000 + SKARROWITH_BIT_TIMES_PER_CHARACTER * i;
 }
 
 static void put_timed_data(void)
@@ -407,6 +416,7 @@ static const struct {
     {"odd-last", put_odd_last, check, read_by_second},
     {"noise-500", put_noise_500, check, read_by_second},
     {"words", put_ack, words, NULL},
+    {"meaning", put_ack, meaning_of, meaning_by_second},
     {"read-data", put_data, read_line, read_by_second},
     {"binary", put_binary, check, read_by_second},
     {"read-binary", put_binary, read_line, read_by_second},

@@ -11,6 +11,7 @@
 #include "../second/exchange.h"
 #include "../second/indication.h"
 #include "../second/line.h"
+#include "../second/meaning.h"
 #include "../second/meter.h"
 #include "../second/replay.h"
 #include "../second/resistance.h"
@@ -171,6 +172,15 @@ int second_gap(uint64_t wake_end, uint64_t command_begin)
 int second_error(uint64_t m1, uint64_t m2, uint64_t s1, uint64_t s2, int64_t *tenths)
 {
     return refusal_in(skarrowith_error(m1, m2, s1, s2, tenths, 1));
+}
+
+int second_entry_meaning(unsigned unit, struct second_meaning *meaning)
+{
+    struct skarrowith_meaning m;
+    int refusal = refusal_in(skarrowith_entry_meaning((uint8_t)unit, &m, sizeof m));
+    if (refusal == 0)
+        *meaning = (struct second_meaning){m.quantity, m.unit, m.power};
+    return refusal;
 }
 
 int second_resistance(uint32_t hundredths, uint32_t *milliohm)

@@ -62,33 +62,33 @@ static void test_lines(void)
     unsigned char b[SECOND_CJT_EXAMPLE];
     for (size_t front = 0; front < 8; front++) {
         put(request, sizeof request, front);
-        expect_line("001's request", front < 6 ? SKARROWITH_CJT_REQUEST : SKARROWITH_REFUSED + 80);
+        expect_line("001's request", front < 6 ? SKARROWITH_CJT_REQUEST : SKARROWITH_REFUSED + SKARROWITH_CJT_WRONG_FRAME);
         put(second_cjt_example, SECOND_CJT_EXAMPLE, front);
-        expect_line("the answer", front < 6 ? SKARROWITH_CJT_ANSWER : SKARROWITH_REFUSED + 80);
+        expect_line("the answer", front < 6 ? SKARROWITH_CJT_ANSWER : SKARROWITH_REFUSED + SKARROWITH_CJT_WRONG_FRAME);
     }
     put(broadcast, sizeof broadcast, 5);
-    expect_line("001's broadcast, control 33", SKARROWITH_REFUSED + 80);
+    expect_line("001's broadcast, control 33", SKARROWITH_REFUSED + SKARROWITH_CJT_WRONG_FRAME);
     memcpy(b, second_cjt_example, sizeof b);
     b[57] = (unsigned char)(b[57] - 0x68);
     put(b, sizeof b, 0);
-    expect_line("the sum from the type byte on", SKARROWITH_REFUSED + 81);
+    expect_line("the sum from the type byte on", SKARROWITH_REFUSED + SKARROWITH_CJT_WRONG_SUM);
     put(request, sizeof request, 1);
     line[0] ^= 0x100;
-    expect_line("an odd FE", SKARROWITH_REFUSED + 3);
+    expect_line("an odd FE", SKARROWITH_REFUSED + SKARROWITH_ODD_PARITY);
     line[count - 1] |= 0x200;
-    expect_line("a last character over 511", SKARROWITH_REFUSED + 2);
+    expect_line("a last character over 511", SKARROWITH_REFUSED + SKARROWITH_WRONG_CHARACTER);
     count = 0;
-    expect_line("no line", SKARROWITH_REFUSED + 1);
+    expect_line("no line", SKARROWITH_REFUSED + SKARROWITH_EMPTY_LINE);
 }
 
 static void test_bytes(void)
 {
     static const uint8_t fe[] = {0xFE, 1, 0xFE};
-    expect_refused("one byte", skarrowith_cjt_check_line(fe, 1), 17);
-    expect_refused("an odd number of bytes", skarrowith_cjt_check_line(fe, 3), 17);
-    expect_refused("FE alone", skarrowith_cjt_check_line(fe, 2), 80);
-    expect_refused("no bytes", skarrowith_cjt_check_line(NULL, 0), 1);
-    expect_refused("no characters", skarrowith_cjt_read_line(NULL, 0, NULL, 0), 1);
+    expect_refused("one byte", skarrowith_cjt_check_line(fe, 1), SKARROWITH_ODD_BYTES);
+    expect_refused("an odd number of bytes", skarrowith_cjt_check_line(fe, 3), SKARROWITH_ODD_BYTES);
+    expect_refused("FE alone", skarrowith_cjt_check_line(fe, 2), SKARROWITH_CJT_WRONG_FRAME);
+    expect_refused("no bytes", skarrowith_cjt_check_line(NULL, 0), SKARROWITH_EMPTY_LINE);
+    expect_refused("no characters", skarrowith_cjt_read_line(NULL, 0, NULL, 0), SKARROWITH_EMPTY_LINE);
 }
 
 static void expect_value(const char *name, struct skarrowith_cjt_value value, uint32_t number, uint8_t code)
@@ -133,10 +133,10 @@ static void test_room(void)
 {
     put(second_cjt_example, SECOND_CJT_EXAMPLE, 0);
     told = untouched;
-    expect_refused("79 bytes", skarrowith_cjt_read_line(line, count, &told, sizeof told - 1), 21);
+    expect_refused("79 bytes", skarrowith_cjt_read_line(line, count, &told, sizeof told - 1), SKARROWITH_TOO_FEW_PLACES);
     expect("79 bytes are not touched", memcmp(&told, &untouched, sizeof told) == 0, 1);
-    expect_refused("no room", skarrowith_cjt_read_line(line, count, NULL, 0), 21);
-    expect_refused("no room, and a line cut", skarrowith_cjt_read_line(line, count - 1, NULL, 0), 80);
+    expect_refused("no room", skarrowith_cjt_read_line(line, count, NULL, 0), SKARROWITH_TOO_FEW_PLACES);
+    expect_refused("no room, and a line cut", skarrowith_cjt_read_line(line, count - 1, NULL, 0), SKARROWITH_CJT_WRONG_FRAME);
 }
 
 /* The telegram of the example, written with so many places. */
@@ -155,17 +155,17 @@ static void test_writing(void)
     expect("without its FE bytes", memcmp(out, line + 5, SECOND_CJT_EXAMPLE * sizeof *out) == 0, 1);
     expect("nothing beyond", out[SECOND_CJT_EXAMPLE], 0xA5A5);
     expect("just enough places", written(sizeof told, out, SKARROWITH_CJT_LINE_MOST), SECOND_CJT_EXAMPLE);
-    expect_refused("58 places", written(sizeof told, out, 58), 21);
+    expect_refused("58 places", written(sizeof told, out, 58), SKARROWITH_TOO_FEW_PLACES);
     expect("58 places are not touched", out[0], 0xA5A5);
-    expect_refused("no places", written(sizeof told, out, 0), 21);
+    expect_refused("no places", written(sizeof told, out, 0), SKARROWITH_TOO_FEW_PLACES);
     told.type = 0x24;
-    expect_refused("type 24, and no places", written(sizeof told, out, 0), 20);
+    expect_refused("type 24, and no places", written(sizeof told, out, 0), SKARROWITH_UNWRITABLE);
     told = (struct skarrowith_cjt_telegram){.kind = SKARROWITH_CJT_REQUEST, .type = 0x20, .serial = 3, .broadcast = 1};
     expect("a request to all", written(sizeof told, out, MOST), REQUEST);
     expect("AA", out[8], second_character(0xAA));
     told.broadcast = 0;
     told.address = 100000000000000u;
-    expect_refused("fifteen digits", written(sizeof told, out, MOST), 20);
+    expect_refused("fifteen digits", written(sizeof told, out, MOST), SKARROWITH_UNWRITABLE);
 }
 
 /* A request with a 9 in one byte, and no places: a serial number and an address of 2^40 times 9 can be written, type 9 cannot. */
@@ -184,12 +184,12 @@ static void test_records(void)
     put(second_cjt_example, SECOND_CJT_EXAMPLE, 0);
     skarrowith_cjt_read_line(line, count, &answer, sizeof answer);
     told = answer;
-    expect_refused("79 bytes", written(sizeof told - 1, out, MOST), 101);
-    expect_refused("no bytes", skarrowith_cjt_write_line(NULL, 0, out, MOST), 101);
+    expect_refused("79 bytes", written(sizeof told - 1, out, MOST), SKARROWITH_NO_RECORD);
+    expect_refused("no bytes", skarrowith_cjt_write_line(NULL, 0, out, MOST), SKARROWITH_NO_RECORD);
     for (size_t i = 0; i < sizeof zeros; i++) {
         told = answer;
         ((uint8_t *)&told)[zeros[i]] = 1;
-        expect_refused("a byte that is not 0", written(sizeof told, out, 0), 101);
+        expect_refused("a byte that is not 0", written(sizeof told, out, 0), SKARROWITH_NO_RECORD);
     }
     for (size_t at = 0; at < sizeof asked; at++) {
         told = asked;
@@ -198,15 +198,15 @@ static void test_records(void)
     }
     told = answer;
     told.kind = 0;
-    expect_refused("kind 0", written(sizeof told, out, MOST), 101);
+    expect_refused("kind 0", written(sizeof told, out, MOST), SKARROWITH_NO_RECORD);
     told = answer;
     told.broadcast = 1;
-    expect_refused("an answer to all", written(sizeof told, out, MOST), 101);
+    expect_refused("an answer to all", written(sizeof told, out, MOST), SKARROWITH_NO_RECORD);
     told.address = 0;
-    expect_refused("an answer to all, address 0", written(sizeof told, out, MOST), 101);
+    expect_refused("an answer to all, address 0", written(sizeof told, out, MOST), SKARROWITH_NO_RECORD);
     told = asked;
     told.broadcast = told.address = 1;
-    expect_refused("a request to all with an address", written(sizeof told, out, MOST), 101);
+    expect_refused("a request to all with an address", written(sizeof told, out, MOST), SKARROWITH_NO_RECORD);
 }
 
 static void expect_entry(uint32_t number, uint8_t code, uint8_t unit, uint64_t digits)
@@ -249,11 +249,11 @@ static void test_energies(void)
     expect_entry(212234, SKARROWITH_CJT_GJ, 0x0F, 212234);
     expect_entry(99999999, SKARROWITH_CJT_100_GJ, 0x0F, 9999999900u);
     memset(&entry, 0xA5, sizeof entry);
-    expect_refused("decimals of J", skarrowith_cjt_energy_entry(212234, SKARROWITH_CJT_J, &entry, sizeof entry), 86);
-    expect_refused("power", skarrowith_cjt_energy_entry(1, SKARROWITH_CJT_KW, &entry, sizeof entry), 85);
-    expect_refused("nine digits", skarrowith_cjt_energy_entry(100000000, SKARROWITH_CJT_KW, &entry, sizeof entry), 84);
-    expect_refused("fifteen bytes", skarrowith_cjt_energy_entry(100000000, 0, &entry, sizeof entry - 1), 21);
-    expect_refused("no place", skarrowith_cjt_energy_entry(1, SKARROWITH_CJT_KWH, NULL, 0), 21);
+    expect_refused("decimals of J", skarrowith_cjt_energy_entry(212234, SKARROWITH_CJT_J, &entry, sizeof entry), SKARROWITH_CJT_NOT_EXACT);
+    expect_refused("power", skarrowith_cjt_energy_entry(1, SKARROWITH_CJT_KW, &entry, sizeof entry), SKARROWITH_CJT_WRONG_UNIT);
+    expect_refused("nine digits", skarrowith_cjt_energy_entry(100000000, SKARROWITH_CJT_KW, &entry, sizeof entry), SKARROWITH_CJT_WRONG_DIGITS);
+    expect_refused("fifteen bytes", skarrowith_cjt_energy_entry(100000000, 0, &entry, sizeof entry - 1), SKARROWITH_TOO_FEW_PLACES);
+    expect_refused("no place", skarrowith_cjt_energy_entry(1, SKARROWITH_CJT_KWH, NULL, 0), SKARROWITH_TOO_FEW_PLACES);
     for (size_t i = 0; i < sizeof entry; i++)
         expect("a refusal touches nothing", ((uint8_t *)&entry)[i], 0xA5);
 }

@@ -1,8 +1,8 @@
 /*
  * The archive against the second program, in one process: every function of the header on seeded calls, histories of
- * exchanges and meters with their records, and records that no step gives; first the resistance box on
- * every hundredth, and the example bundle cut at every length and swept of every position.
- * every hundredth, the example bundle cut at every length, and a CJ/T 188 answer with every byte at every place.
+ * exchanges and meters with their records, and records that no step gives; first every unit byte, the resistance box on every
+ * hundredth, the example bundle cut at every length and swept of every position, and a CJ/T 188 answer with every byte at every
+ * place. (skarrowith_version, which is asked nothing, is for host/test.c.)
  *   compare [SEED [COUNT]]
  * Makes COUNT calls, or a few more. Prints the first on which they differ in full, and fails; fails too where an answer
  * that a function can give was not seen, where no line had one, two or three flips, or where one that had is accepted.
@@ -40,7 +40,7 @@ static const struct {
     unsigned often;
 } parts[] = {
     {compare_check_line, 240}, {compare_read, 50},      {compare_write, 50},  {compare_request, 10},
-    {compare_find, 5},         {compare_words, 10},     {compare_wake, 10},   {compare_gap, 10},
+    {compare_find, 5},         {compare_words, 10},     {compare_meaning, 5},     {compare_wake, 10},   {compare_gap, 10},
     {compare_either, 5},       {compare_unmark, 20},       {compare_length, 10},    {compare_after, 5},
     {compare_error, 20},       {compare_exchange, 20},  {compare_meter, 12},  {compare_bundle, 15},
     {compare_resistance, 10},  {compare_temperature, 10}, {compare_replay, 20},
@@ -68,6 +68,7 @@ int main(int argc, char **argv)
     uint64_t seed = argc > 1 ? strtoull(argv[1], NULL, 10) : 1;
     int all;
     seed_calls(seed);
+    compare_all_meanings();
     compare_all_resistances();
     compare_all_cuts();
     compare_all_positions();

@@ -1,4 +1,4 @@
-/* Lines, search, words, wake-up, gap and error of indication: the archive against the second program. */
+/* Lines, search, words, unit bytes, wake-up, gap and error of indication: the archive against the second program. */
 #include "compare_line.h"
 
 #include "call.h"
@@ -9,6 +9,7 @@
 #include "../second/indication.h"
 #include "../second/make_line.h"
 #include "../second/make_telegram.h"
+#include "../second/meaning.h"
 #include "../second/number.h"
 #include "../second/record.h"
 #include "../second/wake.h"
@@ -77,14 +78,41 @@ void compare_words(void)
     if (once_in(2))
         number += SKARROWITH_REFUSED;
     const char *words = second_words(number < SKARROWITH_REFUSED ? number : number - SKARROWITH_REFUSED);
-    size_t length = words == NULL ? below(100) : strlen(words), places = some_places(length);
-    int refusal = words == NULL ? (int)SKARROWITH_NO_SUCH_NUMBER : places < length ? 21 : 0;
+    size_t length = words == NULL ? below(100) : strlen(words), places = some_places(length + 1);
+    int refusal = words == NULL ? (int)SKARROWITH_NO_SUCH_NUMBER : places < length + 1 ? 21 : 0;
     begin(REFUSAL_TEXT);
     struct lent *out = lend("out", places, NULL, 0);
     if (refusal == 0)
-        memcpy(out->second, words, length);
+        memcpy(out->second, words, length + 1);
     end(skarrowith_refusal_text((uint32_t)tell("number", number), out->to, places),
         refusal == 0 ? (uint32_t)length : answer_for(refusal));
+}
+
+static void hold_meaning(unsigned unit, size_t size)
+{
+    struct second_meaning m = {0, 0, 0};
+    int refusal = second_entry_meaning(unit, &m);
+    if (refusal == 0 && size < 4)
+        refusal = 21;
+    begin(ENTRY_MEANING);
+    struct lent *meaning = lend("meaning", size, NULL, 0);
+    if (refusal == 0) {
+        const uint8_t record[4] = {(uint8_t)m.quantity, (uint8_t)m.unit, (uint8_t)m.power, 0};
+        memcpy(meaning->second, record, sizeof record);
+    }
+    end(skarrowith_entry_meaning((uint8_t)tell("unit", unit), meaning->to, size), answer_for(refusal));
+}
+
+void compare_meaning(void)
+{
+    hold_meaning(below(256), some_places(4));
+}
+
+void compare_all_meanings(void)
+{
+    for (unsigned unit = 0; unit < 256; unit++)
+        for (size_t size = 0; size <= 8; size++)
+            hold_meaning(unit, size);
 }
 
 static struct lent *lend_line(const char *name, const struct line *l)

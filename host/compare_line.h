@@ -1,4 +1,4 @@
-/* Lines, search, words, wake-up, gap and error of indication: the archive against the second program. */
+/* Lines, search, words, unit bytes, wake-up, gap and error of indication: the archive against the second program. */
 #ifndef COMPARE_LINE_H
 #define COMPARE_LINE_H
 
@@ -7,6 +7,7 @@
 /* Each makes one call. */
 void compare_check_line(void);
 void compare_words(void);
+void compare_meaning(void);
 void compare_find(void);
 void compare_either(void);
 void compare_read(void);
@@ -15,6 +16,9 @@ void compare_request(void);
 void compare_wake(void);
 void compare_gap(void);
 void compare_error(void);
+
+/* Every unit byte, with memory of every size up to twice what is needed. */
+void compare_all_meanings(void);
 
 /* One to three different bits of the nine are turned over: no such line is accepted. */
 void flip_different(struct line *l);

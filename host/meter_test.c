@@ -8,8 +8,6 @@
 #include <string.h>
 
 #define OWN 5
-#define FE 0xFE
-#define RETURN 4320000u
 
 static unsigned tried, wrong;
 static struct skarrowith_telegram data, answer;
@@ -46,7 +44,7 @@ static void shows(const char *what, uint64_t t, uint64_t volume, uint64_t energy
 {
     uint16_t line[SKARROWITH_LINE_MOST];
     struct skarrowith_telegram again;
-    expect(what, hear(SKARROWITH_READ, FE, 0, t), SKARROWITH_DATA);
+    expect(what, hear(SKARROWITH_READ, SKARROWITH_BROADCAST, 0, t), SKARROWITH_DATA);
     expect(what, answer.entries[0].value.count, energy);
     expect(what, answer.entries[1].value.count, volume);
     expect(what, answer.access, access);
@@ -84,23 +82,23 @@ static void no_set_up(const char *what, const struct skarrowith_telegram *given,
 static void set_ups(void)
 {
     static const struct change changes[] = {
-        {"a template that is no data", offsetof(struct skarrowith_telegram, kind), 1, SKARROWITH_READ, 72},
-        {"a kind of 0", offsetof(struct skarrowith_telegram, kind), 1, 0, 101},
-        {"a kind of 6", offsetof(struct skarrowith_telegram, kind), 1, 6, 101},
-        {"a byte named zero that is not", offsetof(struct skarrowith_telegram, zero), 1, 1, 101},
-        {"an entry past the count", offsetof(struct skarrowith_telegram, count), 8, 6, 72},
-        {"a count of 9", offsetof(struct skarrowith_telegram, count), 8, 9, 72},
-        {"energy as a time's structure", offsetof(struct skarrowith_telegram, entries[0].structure), 1, 0x06, 72},
-        {"a sort of 3", offsetof(struct skarrowith_telegram, entries[6].sort), 1, 3, 101},
-        {"a time told as binary", offsetof(struct skarrowith_telegram, entries[6].sort), 1, 2, 72},
-        {"month 13", offsetof(struct skarrowith_telegram, entries[6].value.time.month), 1, 13, 72},
-        {"weekday 8", offsetof(struct skarrowith_telegram, entries[6].value.time.weekday), 1, 8, 72},
-        {"a time's last byte", offsetof(struct skarrowith_telegram, entries[6].value.time.zero), 1, 1, 101},
+        {"a template that is no data", offsetof(struct skarrowith_telegram, kind), 1, SKARROWITH_READ, SKARROWITH_METER_WRONG_TEMPLATE},
+        {"a kind of 0", offsetof(struct skarrowith_telegram, kind), 1, 0, SKARROWITH_NO_RECORD},
+        {"a kind of 6", offsetof(struct skarrowith_telegram, kind), 1, 6, SKARROWITH_NO_RECORD},
+        {"a byte named zero that is not", offsetof(struct skarrowith_telegram, zero), 1, 1, SKARROWITH_NO_RECORD},
+        {"an entry past the count", offsetof(struct skarrowith_telegram, count), 8, 6, SKARROWITH_METER_WRONG_TEMPLATE},
+        {"a count of 9", offsetof(struct skarrowith_telegram, count), 8, 9, SKARROWITH_METER_WRONG_TEMPLATE},
+        {"energy as a time's structure", offsetof(struct skarrowith_telegram, entries[0].structure), 1, 0x06, SKARROWITH_METER_WRONG_TEMPLATE},
+        {"a sort of 3", offsetof(struct skarrowith_telegram, entries[6].sort), 1, 3, SKARROWITH_NO_RECORD},
+        {"a time told as binary", offsetof(struct skarrowith_telegram, entries[6].sort), 1, 2, SKARROWITH_METER_WRONG_TEMPLATE},
+        {"month 13", offsetof(struct skarrowith_telegram, entries[6].value.time.month), 1, 13, SKARROWITH_METER_WRONG_TEMPLATE},
+        {"weekday 8", offsetof(struct skarrowith_telegram, entries[6].value.time.weekday), 1, 8, SKARROWITH_METER_WRONG_TEMPLATE},
+        {"a time's last byte", offsetof(struct skarrowith_telegram, entries[6].value.time.zero), 1, 1, SKARROWITH_NO_RECORD},
     };
     uint16_t line[SKARROWITH_LINE_MOST];
     struct skarrowith_telegram other;
     for (size_t i = 0; i < sizeof changes / sizeof changes[0]; i++) {
-        uint32_t written = SKARROWITH_REFUSED + (changes[i].number == 101 ? 101 : 20);
+        uint32_t written = SKARROWITH_REFUSED + (changes[i].number == SKARROWITH_NO_RECORD ? SKARROWITH_NO_RECORD : SKARROWITH_UNWRITABLE);
         other = data;
         make(&other, &changes[i]);
         expect(changes[i].what, skarrowith_write_line(&other, sizeof other, line, SKARROWITH_LINE_MOST), written);
@@ -108,13 +106,13 @@ static void set_ups(void)
     }
     other = data;
     other.entries[0].structure = 0x0E;
-    no_set_up("energy in structure 0E", &other, sizeof other, sizeof meter, 72);
+    no_set_up("energy in structure 0E", &other, sizeof other, sizeof meter, SKARROWITH_METER_WRONG_TEMPLATE);
     other.kind = SKARROWITH_ACK;
-    no_set_up("too few places before a template that is no data", &other, sizeof other, sizeof meter - 1, 21);
+    no_set_up("too few places before a template that is no data", &other, sizeof other, sizeof meter - 1, SKARROWITH_TOO_FEW_PLACES);
     other.kind = 0;
-    no_set_up("no record before too few places", &other, sizeof other, 0, 101);
-    no_set_up("a template of 135 bytes", &data, sizeof data - 1, sizeof meter, 101);
-    no_set_up("a meter of 191 bytes", &data, sizeof data, sizeof meter - 1, 21);
+    no_set_up("no record before too few places", &other, sizeof other, 0, SKARROWITH_NO_RECORD);
+    no_set_up("a template of 135 bytes", &data, sizeof data - 1, sizeof meter, SKARROWITH_NO_RECORD);
+    no_set_up("a meter of 191 bytes", &data, sizeof data, sizeof meter - 1, SKARROWITH_TOO_FEW_PLACES);
     other = data;
     other.address = 0x99;
     expect("set-up", skarrowith_meter_set_up(&meter, sizeof meter, OWN, &other, sizeof other), 0);
@@ -150,31 +148,31 @@ static void verification(void)
     shows("a read in use", 100, 12345678, 96712345, 4);
     expect("a measure in use", skarrowith_meter_measure(&meter, sizeof meter, 10, 20, 200), 0);
     shows("what was measured in use", 300, 12345688, 96712365, 5);
-    expect("enter", hear(SKARROWITH_ENTER, OWN, 0x91, 400), SKARROWITH_ACK);
+    expect("enter", hear(SKARROWITH_ENTER, OWN, SKARROWITH_SIMULATED_FLOW, 400), SKARROWITH_ACK);
     expect("the ack is a record", answer.kind, SKARROWITH_ACK);
     expect("it is in verification", meter.mode, 1);
-    expect("by simulated flow", meter.method, 0x91);
+    expect("by simulated flow", meter.method, SKARROWITH_SIMULATED_FLOW);
     expect("since the enter", meter.since, 400);
     shows("cleared totals", 500, 0, 0, 6);
     expect("a measure in verification", skarrowith_meter_measure(&meter, sizeof meter, 7, 8, 600), 0);
-    expect("a repeated enter", hear(SKARROWITH_ENTER, FE, 0x92, 700), SKARROWITH_ACK);
+    expect("a repeated enter", hear(SKARROWITH_ENTER, SKARROWITH_BROADCAST, SKARROWITH_REAL_TIME, 700), SKARROWITH_ACK);
     shows("totals that a repeated enter keeps", 800, 7, 8, 7);
     expect("another address gets silence", hear(SKARROWITH_LEAVE, OWN + 1, 0, 900), 0);
     expect("and no answer", answer_untouched(), 1);
     expect("but the time goes on", meter.last, 900);
-    expect("leave", hear(SKARROWITH_LEAVE, FE, 0, 1000), SKARROWITH_ACK);
+    expect("leave", hear(SKARROWITH_LEAVE, SKARROWITH_BROADCAST, 0, 1000), SKARROWITH_ACK);
     expect("it is in use", meter.mode, 0);
     expect("no method", meter.method, 0);
     expect("no last instruction", meter.since, 0);
     shows("the use pair again", 1100, 12345688, 96712365, 8);
     expect("the verification pair stays", meter.verified.volume, 7);
-    expect("enter from use", hear(SKARROWITH_ENTER, FE, 0x90, 1200), SKARROWITH_ACK);
+    expect("enter from use", hear(SKARROWITH_ENTER, SKARROWITH_BROADCAST, SKARROWITH_START_STOP, 1200), SKARROWITH_ACK);
     expect("clears it", meter.verified.volume + meter.verified.energy, 0);
-    expect("shortly before 30 minutes", skarrowith_meter_measure(&meter, sizeof meter, 1, 1, 1200 + RETURN - 1), 0);
+    expect("shortly before 30 minutes", skarrowith_meter_measure(&meter, sizeof meter, 1, 1, 1200 + SKARROWITH_RETURN_TIME - 1), 0);
     expect("it is in verification still", meter.mode, 1);
-    expect("30 minutes without an instruction", skarrowith_meter_measure(&meter, sizeof meter, 2, 3, 1200 + RETURN), 0);
+    expect("30 minutes without an instruction", skarrowith_meter_measure(&meter, sizeof meter, 2, 3, 1200 + SKARROWITH_RETURN_TIME), 0);
     expect("it has returned", meter.mode, 0);
-    shows("and measures in use", 1300 + RETURN, 12345690, 96712368, 9);
+    shows("and measures in use", 1300 + SKARROWITH_RETURN_TIME, 12345690, 96712368, 9);
 }
 
 /* A step that is refused leaves meter and answer as they were. */
@@ -197,34 +195,34 @@ static void no_measure(const char *what, uint64_t volume, uint64_t energy, uint6
 
 static void no_record(const char *what)
 {
-    no_step(what, sizeof meter, UINT64_MAX, sizeof answer, 101);
-    no_step(what, sizeof meter, 0, 0, 101);
-    no_measure(what, 1, 1, UINT64_MAX, 101);
+    no_step(what, sizeof meter, UINT64_MAX, sizeof answer, SKARROWITH_NO_RECORD);
+    no_step(what, sizeof meter, 0, 0, SKARROWITH_NO_RECORD);
+    no_measure(what, 1, 1, UINT64_MAX, SKARROWITH_NO_RECORD);
 }
 
 static void refusals(void)
 {
     static const struct change changes[] = {
-        {"a byte named zero that is not", offsetof(struct skarrowith_meter, zero[4]), 1, 1, 101},
-        {"a method in use", offsetof(struct skarrowith_meter, method), 1, 0x90, 101},
-        {"an instruction in use", offsetof(struct skarrowith_meter, since), 8, 1, 101},
-        {"mode 2", offsetof(struct skarrowith_meter, mode), 1, 2, 101},
-        {"an energy below the template's", offsetof(struct skarrowith_meter, used.energy), 8, 96712344, 101},
-        {"a total past the limit", offsetof(struct skarrowith_meter, used.volume), 8, 100000000, 101},
-        {"a verified total past the limit", offsetof(struct skarrowith_meter, verified.energy), 8, 100000000, 101},
-        {"a template that is not fit", offsetof(struct skarrowith_meter, data.entries[0].structure), 1, 0x0E, 101},
-        {"a template that is no record", offsetof(struct skarrowith_meter, data.entries[6].zero[0]), 1, 1, 101},
+        {"a byte named zero that is not", offsetof(struct skarrowith_meter, zero[4]), 1, 1, SKARROWITH_NO_RECORD},
+        {"a method in use", offsetof(struct skarrowith_meter, method), 1, SKARROWITH_START_STOP, SKARROWITH_NO_RECORD},
+        {"an instruction in use", offsetof(struct skarrowith_meter, since), 8, 1, SKARROWITH_NO_RECORD},
+        {"mode 2", offsetof(struct skarrowith_meter, mode), 1, 2, SKARROWITH_NO_RECORD},
+        {"an energy below the template's", offsetof(struct skarrowith_meter, used.energy), 8, 96712344, SKARROWITH_NO_RECORD},
+        {"a total past the limit", offsetof(struct skarrowith_meter, used.volume), 8, 100000000, SKARROWITH_NO_RECORD},
+        {"a verified total past the limit", offsetof(struct skarrowith_meter, verified.energy), 8, 100000000, SKARROWITH_NO_RECORD},
+        {"a template that is not fit", offsetof(struct skarrowith_meter, data.entries[0].structure), 1, 0x0E, SKARROWITH_NO_RECORD},
+        {"a template that is no record", offsetof(struct skarrowith_meter, data.entries[6].zero[0]), 1, 1, SKARROWITH_NO_RECORD},
     };
     const uint64_t t = meter.last;
-    no_step("a time that goes back", sizeof meter, t - 1, sizeof answer, 70);
-    no_measure("a measure whose time goes back", 1, 1, t - 1, 70);
-    no_measure("70 before 71", 99999999, 0, t - 1, 70);
-    no_measure("a volume past the limit", 99999999 - 12345690 + 1, 0, t, 71);
-    no_measure("an energy of 64 bits", 0, UINT64_MAX, t, 71);
-    no_step("an answer of 135 bytes", sizeof meter, t, sizeof answer - 1, 21);
-    no_step("21 before 70", sizeof meter, t - 1, sizeof answer - 1, 21);
-    no_step("a meter of 191 bytes", sizeof meter - 1, t, sizeof answer, 101);
-    no_step("no meter at all", 0, t, sizeof answer, 101);
+    no_step("a time that goes back", sizeof meter, t - 1, sizeof answer, SKARROWITH_METER_TIME_BACK);
+    no_measure("a measure whose time goes back", 1, 1, t - 1, SKARROWITH_METER_TIME_BACK);
+    no_measure("70 before 71", 99999999, 0, t - 1, SKARROWITH_METER_TIME_BACK);
+    no_measure("a volume past the limit", 99999999 - 12345690 + 1, 0, t, SKARROWITH_METER_TOTAL_TOO_LARGE);
+    no_measure("an energy of 64 bits", 0, UINT64_MAX, t, SKARROWITH_METER_TOTAL_TOO_LARGE);
+    no_step("an answer of 135 bytes", sizeof meter, t, sizeof answer - 1, SKARROWITH_TOO_FEW_PLACES);
+    no_step("21 before 70", sizeof meter, t - 1, sizeof answer - 1, SKARROWITH_TOO_FEW_PLACES);
+    no_step("a meter of 191 bytes", sizeof meter - 1, t, sizeof answer, SKARROWITH_NO_RECORD);
+    no_step("no meter at all", 0, t, sizeof answer, SKARROWITH_NO_RECORD);
 
     const struct skarrowith_meter good = meter;
     for (size_t i = 0; i < sizeof changes / sizeof changes[0]; i++) {
@@ -237,12 +235,12 @@ static void refusals(void)
     meter.method = 0x93;
     meter.since = meter.last;
     no_record("method 93");
-    meter.method = 0x92;
+    meter.method = SKARROWITH_REAL_TIME;
     meter.since = meter.last + 1;
     no_record("an instruction after the last step");
-    meter.since = meter.last - RETURN;
+    meter.since = meter.last - SKARROWITH_RETURN_TIME;
     no_record("a meter that has returned");
-    meter.since = meter.last - RETURN + 1;
+    meter.since = meter.last - SKARROWITH_RETURN_TIME + 1;
     expect("a meter that has not", skarrowith_meter_measure(&meter, sizeof meter, 0, 0, t), 0);
     expect("is in verification", meter.mode, 1);
 }

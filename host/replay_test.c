@@ -6,7 +6,7 @@
 #include <stdio.h>
 #include <string.h>
 
-enum { POSITION = 5, ASKED = 0xFE, CHARACTER = 11, WINDOW = 450, TIMES = 6 };
+enum { POSITION = 5, ASKED = SKARROWITH_BROADCAST, CHARACTER = SKARROWITH_BIT_TIMES_PER_CHARACTER, WINDOW = SKARROWITH_REPLY_TIME, TIMES = 6 };
 
 static uint8_t bundle[SKARROWITH_BUNDLE_MOST];
 static size_t filled;
@@ -113,25 +113,25 @@ static void test_refusals(void)
 {
     uint8_t byte = 0;
     talk(WINDOW + 1, 0, 1000, 1);
-    refused("answers that come too late", replay(POSITION, 0, 1000, 1000), 63);
+    refused("answers that come too late", replay(POSITION, 0, 1000, 1000), SKARROWITH_REPLAY_TOO_FEW_ANSWERS);
     talk(0, 5, 1005, 1);
-    refused("another position", replay(POSITION + 1, 0, 1000, 1000), 63);
-    refused("position 0", replay(0, 0, 1000, 1000), 34);
-    refused("position 49", replay(49, 0, 1000, 1000), 34);
-    refused("a standard over 10^9 ml", replay(POSITION, 0, 1000000001, 1000), 64);
-    refused("no time at all", replay(POSITION, 0, 1000, 0), 65);
-    refused("more than half an hour", replay(POSITION, 0, 1000, 1800001), 65);
-    refused("a standard that does not rise", replay(POSITION, 1000, 1000, 1000), 62);
+    refused("another position", replay(POSITION + 1, 0, 1000, 1000), SKARROWITH_REPLAY_TOO_FEW_ANSWERS);
+    refused("position 0", replay(0, 0, 1000, 1000), SKARROWITH_BUNDLE_WRONG_ROW);
+    refused("position 49", replay(49, 0, 1000, 1000), SKARROWITH_BUNDLE_WRONG_ROW);
+    refused("a standard over 10^9 ml", replay(POSITION, 0, 1000000001, 1000), SKARROWITH_REPLAY_VOLUME_TOO_LARGE);
+    refused("no time at all", replay(POSITION, 0, 1000, 0), SKARROWITH_REPLAY_WRONG_INTERVAL);
+    refused("more than half an hour", replay(POSITION, 0, 1000, 1800001), SKARROWITH_REPLAY_WRONG_INTERVAL);
+    refused("a standard that does not rise", replay(POSITION, 1000, 1000, 1000), SKARROWITH_STANDARD_COUNT_NOT_RISING);
     talk(0, 1005, 5, 1);
-    refused("a meter that falls", replay(POSITION, 0, 1000, 1000), 61);
+    refused("a meter that falls", replay(POSITION, 0, 1000, 1000), SKARROWITH_METER_COUNT_FALLS);
     talk(0, 5, 1005, 0);
-    refused("a clock that stands still", replay(POSITION, 0, 1000, 1000), 65);
+    refused("a clock that stands still", replay(POSITION, 0, 1000, 1000), SKARROWITH_REPLAY_WRONG_INTERVAL);
     filled--;
-    refused("a bundle cut", replay(0, 0, 1000, 1000), 35);
+    refused("a bundle cut", replay(0, 0, 1000, 1000), SKARROWITH_BUNDLE_WRONG_OFFSET);
     begin();
-    refused("an empty bundle", replay(POSITION, 0, 1000, 1000), 63);
-    expect("no place", skarrowith_replay_error(&byte, 1, 0, 0, 0, 0, NULL, 0), SKARROWITH_REFUSED + 21);
-    expect("no bytes", skarrowith_replay_error(NULL, 0, 0, 0, 0, 0, lent + 1, 1), SKARROWITH_REFUSED + 31);
+    refused("an empty bundle", replay(POSITION, 0, 1000, 1000), SKARROWITH_REPLAY_TOO_FEW_ANSWERS);
+    expect("no place", skarrowith_replay_error(&byte, 1, 0, 0, 0, 0, NULL, 0), SKARROWITH_REFUSED + SKARROWITH_TOO_FEW_PLACES);
+    expect("no bytes", skarrowith_replay_error(NULL, 0, 0, 0, 0, 0, lent + 1, 1), SKARROWITH_REFUSED + SKARROWITH_BUNDLE_TOO_SHORT);
 }
 
 int main(void)

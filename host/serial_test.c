@@ -198,7 +198,7 @@ static void run(uint8_t kind, uint32_t state, unsigned sends, unsigned cause)
 {
     struct skarrowith_exchange x;
     struct skarrowith_telegram reply;
-    uint32_t got = run_exchange(&t.port, kind, OWN, kind == SKARROWITH_ENTER ? 0x90 : 0, &x, &reply);
+    uint32_t got = run_exchange(&t.port, kind, OWN, kind == SKARROWITH_ENTER ? SKARROWITH_START_STOP : 0, &x, &reply);
     expect(got == state, "the exchange ends otherwise");
     expect(x.sends == sends && t.sends == sends, "another number of sends");
     expect(x.cause == cause, "another cause");

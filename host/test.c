@@ -28,6 +28,16 @@ static const uint8_t too_many[] = {0xE5, 1, 0xE5, 1};
 static int wrong;
 static unsigned long right;
 
+static void hold(const char *name, int64_t got, int64_t right_one)
+{
+    if (got != right_one) {
+        printf("test: %s: %lld, and not %lld\n", name, (long long)got, (long long)right_one);
+        wrong = 1;
+    } else {
+        right++;
+    }
+}
+
 static void expect(const char *name, uint32_t answer, const uint8_t *bytes, size_t len)
 {
     uint32_t got = skarrowith_check_line(bytes, len);
@@ -39,14 +49,14 @@ static void expect(const char *name, uint32_t answer, const uint8_t *bytes, size
     }
 }
 
-/* The words for a number, given so many places: what they hold, and nothing beyond. */
+/* The words for a number and their zero byte, given so many places: what they hold, and nothing beyond. */
 static void expect_words(uint32_t number, size_t places, uint32_t answer, const char *words)
 {
     char out[260], whole[260];
     uint32_t got;
     memset(out, '#', sizeof out);
     memset(whole, '#', sizeof whole);
-    memcpy(whole, words, strlen(words));
+    memcpy(whole, words, strlen(words) + (answer < SKARROWITH_REFUSED));
     got = skarrowith_refusal_text(number, places == 0 ? NULL : out, places);
     if (got != answer || memcmp(out, whole, sizeof out) != 0) {
         printf("test: words for %lu: %lu, and not %lu: %.40s\n", (unsigned long)number, (unsigned long)got, (unsigned long)answer, out);
@@ -65,16 +75,90 @@ static int has_words(uint32_t n)
 
 static void expect_all_words(void)
 {
-    char out[256];
+    char out[SKARROWITH_TEXT_MOST];
     for (uint32_t n = 0; n < 1000; n++) {
         uint32_t got = skarrowith_refusal_text(n, out, sizeof out), asked = n < SKARROWITH_REFUSED ? n : n - SKARROWITH_REFUSED;
-        int fine = has_words(asked) ? got > 0 && got < SKARROWITH_REFUSED && memchr(out, '\n', got) == NULL
+        int fine = has_words(asked) ? got > 0 && got < SKARROWITH_REFUSED && strlen(out) == got && strchr(out, '\n') == NULL
                                     : got == SKARROWITH_REFUSED + SKARROWITH_NO_SUCH_NUMBER;
         if (!fine) {
             printf("test: words for %lu: %lu\n", (unsigned long)n, (unsigned long)got);
             wrong = 1;
         }
     }
+}
+
+/* The version of the library that is linked is the header's, and the header's text says the same. */
+static void expect_version(void)
+{
+    char text[32];
+    snprintf(text, sizeof text, "%u.%u.%u", SKARROWITH_VERSION_MAJOR, SKARROWITH_VERSION_MINOR, SKARROWITH_VERSION_PATCH);
+    hold("the version", skarrowith_version(), SKARROWITH_VERSION);
+    hold("its number", SKARROWITH_VERSION, 65536 + 256);
+    hold("its text", strcmp(text, SKARROWITH_VERSION_TEXT), 0);
+}
+
+/* The header's limits, methods and address are those by which the library goes. (host/meter_test.c has the return to use.) */
+static void expect_names(void)
+{
+    static uint16_t line[SKARROWITH_WAKE_MOST + 1];
+    struct skarrowith_exchange x = {0};
+    const uint64_t end = 1000;
+    hold("the least gap", skarrowith_gap(end, end + SKARROWITH_GAP_LEAST), 0);
+    hold("less", skarrowith_gap(end, end + SKARROWITH_GAP_LEAST - 1), SKARROWITH_REFUSED + SKARROWITH_GAP_TOO_SHORT);
+    hold("the greatest gap", skarrowith_gap(end, end + SKARROWITH_GAP_MOST), 0);
+    hold("more", skarrowith_gap(end, end + SKARROWITH_GAP_MOST + 1), SKARROWITH_REFUSED + SKARROWITH_GAP_TOO_LONG);
+    for (size_t count = SKARROWITH_WAKE_LEAST - 1; count <= SKARROWITH_WAKE_MOST + 1; count++)
+        hold("a wake-up", skarrowith_write_wake(count, line, SKARROWITH_WAKE_MOST + 1),
+             count < SKARROWITH_WAKE_LEAST || count > SKARROWITH_WAKE_MOST ? SKARROWITH_REFUSED + SKARROWITH_WAKE_WRONG_COUNT : 0);
+    for (unsigned method = 0; method < 256; method++)
+        hold("an enter", skarrowith_write_request(SKARROWITH_ENTER, SKARROWITH_BROADCAST, (uint8_t)method, line, 10),
+             method == SKARROWITH_START_STOP || method == SKARROWITH_SIMULATED_FLOW || method == SKARROWITH_REAL_TIME
+                 ? 10 : SKARROWITH_REFUSED + SKARROWITH_UNWRITABLE);
+    hold("a read of all", skarrowith_exchange_send_ended(&x, sizeof x, SKARROWITH_READ, SKARROWITH_BROADCAST, 0, end), SKARROWITH_WAITING);
+    hold("the window", skarrowith_exchange_tick(&x, sizeof x, end + SKARROWITH_REPLY_TIME), SKARROWITH_WAITING);
+    hold("past it", skarrowith_exchange_tick(&x, sizeof x, end + SKARROWITH_REPLY_TIME + 1), SKARROWITH_RESEND);
+}
+
+/* What a unit byte means, in memory of so many bytes: what it then holds, and nothing beyond. */
+static void expect_meaning(unsigned unit, size_t size, uint32_t answer, const char *record)
+{
+    uint8_t out[8], whole[8];
+    memset(out, '#', sizeof out);
+    memset(whole, '#', sizeof whole);
+    if (answer == 0)
+        memcpy(whole, record, 4);
+    hold("a meaning", skarrowith_entry_meaning((uint8_t)unit, size == 0 ? NULL : (struct skarrowith_meaning *)out, size), answer);
+    hold("its record", memcmp(out, whole, sizeof out), 0);
+}
+
+/* The ends of each row of the table and what stands beside them, and the entries of 000's data line. */
+static void expect_meanings(void)
+{
+    static const struct {
+        unsigned first, last;
+        uint8_t quantity, unit;
+        int power;
+    } table[] = {
+        {0x00, 0x07, SKARROWITH_ENERGY, SKARROWITH_WH, -3},   {0x08, 0x0F, SKARROWITH_ENERGY, SKARROWITH_J, 0},
+        {0x10, 0x17, SKARROWITH_VOLUME, SKARROWITH_M3, -6},   {0x28, 0x2F, SKARROWITH_POWER, SKARROWITH_W, -3},
+        {0x38, 0x3F, SKARROWITH_FLOW, SKARROWITH_M3_H, -6},   {0x58, 0x5B, SKARROWITH_INLET, SKARROWITH_DEGREE, -3},
+        {0x5C, 0x5F, SKARROWITH_OUTLET, SKARROWITH_DEGREE, -3}, {0x6D, 0x6D, SKARROWITH_POINT_IN_TIME, SKARROWITH_NO_UNIT, 0},
+    };
+    static const unsigned none[] = {0x18, 0x27, 0x30, 0x37, 0x40, 0x57, 0x60, 0x6C, 0x6E, 0x7F, 0x80, 0xFF};
+    struct skarrowith_meaning m;
+    for (size_t i = 0; i < sizeof table / sizeof table[0]; i++)
+        for (unsigned unit = table[i].first; unit <= table[i].last; unit++) {
+            hold("a unit byte", skarrowith_entry_meaning((uint8_t)unit, &m, sizeof m), 0);
+            hold("its quantity", m.quantity, table[i].quantity);
+            hold("its unit", m.unit, table[i].unit);
+            hold("its power", m.power, table[i].power + (int)(unit - table[i].first));
+            hold("its last byte", m.zero, 0);
+        }
+    for (size_t i = 0; i < sizeof none / sizeof none[0]; i++)
+        for (size_t size = 0; size <= 8; size++)
+            expect_meaning(none[i], size, SKARROWITH_REFUSED + SKARROWITH_WRONG_ENTRY, NULL);
+    for (size_t size = 0; size <= 8; size++)
+        expect_meaning(0x11, size, size < 4 ? SKARROWITH_REFUSED + SKARROWITH_TOO_FEW_PLACES : 0, "\1\3\xFB\0");
 }
 
 /* Both interfaces of a position: which capture has the line, and where; what was lent for it where it is too short or neither has one. */
@@ -100,11 +184,11 @@ static void expect_both_interfaces(void)
     expect_either("optical alone", SKARROWITH_OPTICAL, noise, 3, late, 3, whole, 2, 1);
     expect_either("no M-Bus capture", SKARROWITH_OPTICAL, NULL, 0, at_once, 1, whole, 0, 1);
     expect_either("one capture for both", SKARROWITH_MBUS, late, 3, late, 3, whole, 2, 1);
-    expect_either("neither", SKARROWITH_REFUSED + 18, noise, 3, noise, 3, whole, 99, 99);
-    expect_either("no captures", SKARROWITH_REFUSED + 18, NULL, 0, NULL, 0, whole, 99, 99);
-    expect_either("neither, and no place for it", SKARROWITH_REFUSED + 18, noise, 3, noise, 3, 0, 99, 99);
-    expect_either("fifteen bytes", SKARROWITH_REFUSED + 21, late, 3, at_once, 1, whole - 1, 99, 99);
-    expect_either("no place", SKARROWITH_REFUSED + 21, noise, 3, at_once, 1, 0, 99, 99);
+    expect_either("neither", SKARROWITH_REFUSED + SKARROWITH_NO_LINE, noise, 3, noise, 3, whole, 99, 99);
+    expect_either("no captures", SKARROWITH_REFUSED + SKARROWITH_NO_LINE, NULL, 0, NULL, 0, whole, 99, 99);
+    expect_either("neither, and no place for it", SKARROWITH_REFUSED + SKARROWITH_NO_LINE, noise, 3, noise, 3, 0, 99, 99);
+    expect_either("fifteen bytes", SKARROWITH_REFUSED + SKARROWITH_TOO_FEW_PLACES, late, 3, at_once, 1, whole - 1, 99, 99);
+    expect_either("no place", SKARROWITH_REFUSED + SKARROWITH_TOO_FEW_PLACES, noise, 3, at_once, 1, 0, 99, 99);
 }
 
 static void expect_length(const char *name, uint32_t answer, const uint16_t *first, size_t count, size_t length)
@@ -129,13 +213,13 @@ static void expect_coming_in(void)
     line[SECOND_EXAMPLE + 1] = 0x0E5;
     line[SECOND_EXAMPLE + 2] = 0xFFFF;
     expect_length("nothing", SKARROWITH_NOT_YET, NULL, 0, 99);
-    expect_length("odd parity", SKARROWITH_REFUSED + 18, odd, 1, 99);
+    expect_length("odd parity", SKARROWITH_REFUSED + SKARROWITH_NO_LINE, odd, 1, 99);
     expect_length("the first of data", SKARROWITH_NOT_YET, line, 1, 99);
     for (size_t count = 2; count <= SECOND_EXAMPLE + 3; count++)
         expect_length("data", 0, line, count, SECOND_EXAMPLE);
     for (size_t i = 0; i < SECOND_EXAMPLE; i++) {
         line[i] ^= 256;
-        expect_length("data with an odd parity", SKARROWITH_REFUSED + 18, line, SECOND_EXAMPLE, 99);
+        expect_length("data with an odd parity", SKARROWITH_REFUSED + SKARROWITH_NO_LINE, line, SECOND_EXAMPLE, 99);
         line[i] ^= 256;
     }
 }
@@ -164,13 +248,13 @@ static void expect_after_a_time(void)
     expect_after("from the send's end on", 0, times, 4, 1000, whole, (struct skarrowith_found_after){2, 1, 1011});
     expect_after("from its beginning on", 0, times, 4, 1011, whole, (struct skarrowith_found_after){2, 1, 1011});
     expect_after("from one later on", 0, times, 4, 1012, whole, (struct skarrowith_found_after){3, 1, 1022});
-    expect_after("too late for all", SKARROWITH_REFUSED + 18, times, 5, 1023, whole, none);
+    expect_after("too late for all", SKARROWITH_REFUSED + SKARROWITH_NO_LINE, times, 5, 1023, whole, none);
     expect_after("a time that falls", 0, falling, 4, 1000, whole, (struct skarrowith_found_after){3, 1, 1000});
-    expect_after("two times", SKARROWITH_REFUSED + 18, times, 2, 1000, whole, none);
-    expect_after("no times", SKARROWITH_REFUSED + 18, NULL, 0, 0, whole, none);
-    expect_after("no times, and no place for it", SKARROWITH_REFUSED + 18, NULL, 0, 0, 0, none);
-    expect_after("23 bytes", SKARROWITH_REFUSED + 21, times, 4, 1000, whole - 1, none);
-    expect_after("no place", SKARROWITH_REFUSED + 21, times, 4, 0, 0, none);
+    expect_after("two times", SKARROWITH_REFUSED + SKARROWITH_NO_LINE, times, 2, 1000, whole, none);
+    expect_after("no times", SKARROWITH_REFUSED + SKARROWITH_NO_LINE, NULL, 0, 0, whole, none);
+    expect_after("no times, and no place for it", SKARROWITH_REFUSED + SKARROWITH_NO_LINE, NULL, 0, 0, 0, none);
+    expect_after("23 bytes", SKARROWITH_REFUSED + SKARROWITH_TOO_FEW_PLACES, times, 4, 1000, whole - 1, none);
+    expect_after("no place", SKARROWITH_REFUSED + SKARROWITH_TOO_FEW_PLACES, times, 4, 0, 0, none);
 }
 
 /* 2 and 3 at every place of lines of every count up to 300: a late odd parity comes before an early wrong first byte, and a late
@@ -182,27 +266,17 @@ static void expect_one_pass(void)
     for (size_t count = 1; count <= MOST; count++) {
         for (size_t i = 0; i < count; i++)
             second_put_number(bytes + 2 * i, 2, second_character((unsigned)(0x11 + 37 * i) & 0xFF));
-        expect("a wrong first byte", SKARROWITH_REFUSED + 4, bytes, 2 * count);
+        expect("a wrong first byte", SKARROWITH_REFUSED + SKARROWITH_WRONG_FIRST_BYTE, bytes, 2 * count);
         for (size_t i = 0; i < count; i++) {
             bytes[2 * i + 1] ^= 1;
-            expect("an odd parity and a wrong first byte", SKARROWITH_REFUSED + 3, bytes, 2 * count);
+            expect("an odd parity and a wrong first byte", SKARROWITH_REFUSED + SKARROWITH_ODD_PARITY, bytes, 2 * count);
             bytes[2 * i + 1] ^= 1;
             bytes[1] ^= 1;
             bytes[2 * i + 1] ^= 2;
-            expect("a character over 511 and an odd first", SKARROWITH_REFUSED + 2, bytes, 2 * count);
+            expect("a character over 511 and an odd first", SKARROWITH_REFUSED + SKARROWITH_WRONG_CHARACTER, bytes, 2 * count);
             bytes[2 * i + 1] ^= 2;
             bytes[1] ^= 1;
         }
-    }
-}
-
-static void hold(const char *name, int64_t got, int64_t right_one)
-{
-    if (got != right_one) {
-        printf("test: %s: %lld, and not %lld\n", name, (long long)got, (long long)right_one);
-        wrong = 1;
-    } else {
-        right++;
     }
 }
 
@@ -257,17 +331,17 @@ static void expect_signs(void)
     expect_minus("an inlet of -1.50", (const uint8_t[]){0x50, 0x01, 0xF0}, -150);
     expect_minus("the smallest inlet", (const uint8_t[]){0x99, 0x99, 0xF9}, -99999);
     expect_minus("the largest inlet", (const uint8_t[]){0x99, 0x99, 0x99}, 999999);
-    expect_no_minus("minus zero", INLET_AT, (const uint8_t[]){0x00, 0x00, 0xF0}, 3, 12);
-    expect_no_minus("F in the second digit", INLET_AT, (const uint8_t[]){0x50, 0x01, 0x0F}, 3, 12);
-    expect_no_minus("A in the highest place", INLET_AT, (const uint8_t[]){0x50, 0x01, 0xA0}, 3, 12);
-    expect_no_minus("an energy with a minus", ENERGY_AT, (const uint8_t[]){0x45, 0x23, 0x71, 0xF6}, 4, 12);
-    expect_no_minus("a meter number with a minus", NUMBER_AT, (const uint8_t[]){0x78, 0x56, 0x34, 0xF2}, 4, 10);
+    expect_no_minus("minus zero", INLET_AT, (const uint8_t[]){0x00, 0x00, 0xF0}, 3, SKARROWITH_WRONG_VALUE);
+    expect_no_minus("F in the second digit", INLET_AT, (const uint8_t[]){0x50, 0x01, 0x0F}, 3, SKARROWITH_WRONG_VALUE);
+    expect_no_minus("A in the highest place", INLET_AT, (const uint8_t[]){0x50, 0x01, 0xA0}, 3, SKARROWITH_WRONG_VALUE);
+    expect_no_minus("an energy with a minus", ENERGY_AT, (const uint8_t[]){0x45, 0x23, 0x71, 0xF6}, 4, SKARROWITH_WRONG_VALUE);
+    expect_no_minus("a meter number with a minus", NUMBER_AT, (const uint8_t[]){0x78, 0x56, 0x34, 0xF2}, 4, SKARROWITH_WRONG_HEADER);
     expect_count("-99999 beside a sign", INLET, -99999, SECOND_EXAMPLE);
-    expect_count("-100000 beside a sign", INLET, -100000, SKARROWITH_REFUSED + 20);
-    expect_count("the smallest of 64 bits", INLET, INT64_MIN, SKARROWITH_REFUSED + 20);
-    expect_count("the largest of 64 bits", INLET, INT64_MAX, SKARROWITH_REFUSED + 20);
+    expect_count("-100000 beside a sign", INLET, -100000, SKARROWITH_REFUSED + SKARROWITH_UNWRITABLE);
+    expect_count("the smallest of 64 bits", INLET, INT64_MIN, SKARROWITH_REFUSED + SKARROWITH_UNWRITABLE);
+    expect_count("the largest of 64 bits", INLET, INT64_MAX, SKARROWITH_REFUSED + SKARROWITH_UNWRITABLE);
     expect_count("an energy of 0", ENERGY, 0, SECOND_EXAMPLE);
-    expect_count("an energy below 0", ENERGY, -1, SKARROWITH_REFUSED + 20);
+    expect_count("an energy below 0", ENERGY, -1, SKARROWITH_REFUSED + SKARROWITH_UNWRITABLE);
 }
 
 /* All 512 characters as a serial port passes them on, in two pieces cut at every place: what is left of the first is lent again. */
@@ -350,13 +424,13 @@ static void expect_binaries(void)
     expect_binary("the largest in eight bytes", 0x07, (const uint8_t[]){255, 255, 255, 255, 255, 255, 255, 127}, 8, INT64_MAX);
     expect_sort("the longest line", 0x07, SKARROWITH_BINARY, INT64_MIN, SKARROWITH_LINE_MOST);
     expect_sort("one byte", 0x01, SKARROWITH_BINARY, -128, SKARROWITH_LINE_MOST - 7);
-    expect_sort("one byte, too small", 0x01, SKARROWITH_BINARY, -129, SKARROWITH_REFUSED + 20);
-    expect_sort("one byte, too large", 0x01, SKARROWITH_BINARY, 128, SKARROWITH_REFUSED + 20);
-    expect_sort("digits in a binary structure", 0x07, SKARROWITH_DECIMAL, 1, SKARROWITH_REFUSED + 20);
-    expect_sort("binary in digits", 0x0C, SKARROWITH_BINARY, 1, SKARROWITH_REFUSED + 20);
+    expect_sort("one byte, too small", 0x01, SKARROWITH_BINARY, -129, SKARROWITH_REFUSED + SKARROWITH_UNWRITABLE);
+    expect_sort("one byte, too large", 0x01, SKARROWITH_BINARY, 128, SKARROWITH_REFUSED + SKARROWITH_UNWRITABLE);
+    expect_sort("digits in a binary structure", 0x07, SKARROWITH_DECIMAL, 1, SKARROWITH_REFUSED + SKARROWITH_UNWRITABLE);
+    expect_sort("binary in digits", 0x0C, SKARROWITH_BINARY, 1, SKARROWITH_REFUSED + SKARROWITH_UNWRITABLE);
     expect_sort("digits among binary", 0x0C, SKARROWITH_DECIMAL, 1, SKARROWITH_LINE_MOST - 4);
-    expect_sort("a time in a measured unit", 0x06, SKARROWITH_TIME, 0, SKARROWITH_REFUSED + 20);
-    expect_sort("structure 05", 0x05, SKARROWITH_BINARY, 1, SKARROWITH_REFUSED + 20);
+    expect_sort("a time in a measured unit", 0x06, SKARROWITH_TIME, 0, SKARROWITH_REFUSED + SKARROWITH_UNWRITABLE);
+    expect_sort("structure 05", 0x05, SKARROWITH_BINARY, 1, SKARROWITH_REFUSED + SKARROWITH_UNWRITABLE);
     expect_sort("no sort", 0x07, 3, 1, SKARROWITH_REFUSED + SKARROWITH_NO_RECORD);
 }
 
@@ -364,17 +438,17 @@ int main(void)
 {
     static const struct value values[] = {
         {"ack", SKARROWITH_ACK, sizeof ack, ack},
-        {"odd parity", SKARROWITH_REFUSED + 3, sizeof odd_parity, odd_parity},
-        {"the empty line", SKARROWITH_REFUSED + 1, 0, NULL},
+        {"odd parity", SKARROWITH_REFUSED + SKARROWITH_ODD_PARITY, sizeof odd_parity, odd_parity},
+        {"the empty line", SKARROWITH_REFUSED + SKARROWITH_EMPTY_LINE, 0, NULL},
         {"read", SKARROWITH_READ, sizeof read_fe, read_fe},
-        {"wrong sum", SKARROWITH_REFUSED + 8, sizeof wrong_sum, wrong_sum},
+        {"wrong sum", SKARROWITH_REFUSED + SKARROWITH_WRONG_CHECKSUM, sizeof wrong_sum, wrong_sum},
         {"enter", SKARROWITH_ENTER, sizeof enter_90, enter_90},
         {"leave", SKARROWITH_LEAVE, sizeof leave, leave},
-        {"a character over 511", SKARROWITH_REFUSED + 2, sizeof too_high, too_high},
-        {"high byte first", SKARROWITH_REFUSED + 2, sizeof high_byte_first, high_byte_first},
-        {"two acks", SKARROWITH_REFUSED + 5, sizeof too_many, too_many},
-        {"one byte", SKARROWITH_REFUSED + 17, 1, ack},
-        {"an odd number of bytes", SKARROWITH_REFUSED + 17, 3, too_many},
+        {"a character over 511", SKARROWITH_REFUSED + SKARROWITH_WRONG_CHARACTER, sizeof too_high, too_high},
+        {"high byte first", SKARROWITH_REFUSED + SKARROWITH_WRONG_CHARACTER, sizeof high_byte_first, high_byte_first},
+        {"two acks", SKARROWITH_REFUSED + SKARROWITH_WRONG_COUNT, sizeof too_many, too_many},
+        {"one byte", SKARROWITH_REFUSED + SKARROWITH_ODD_BYTES, 1, ack},
+        {"an odd number of bytes", SKARROWITH_REFUSED + SKARROWITH_ODD_BYTES, 3, too_many},
     };
     uint16_t line[SECOND_EXAMPLE];
     uint8_t data[2 * SECOND_EXAMPLE];
@@ -389,7 +463,10 @@ int main(void)
     data[2 * 16] ^= 3;
     expect("the same, four flips", SKARROWITH_DATA, data, sizeof data);
     data[2 * 16] ^= 1;
-    expect("the same, five flips", SKARROWITH_REFUSED + 3, data, sizeof data);
+    expect("the same, five flips", SKARROWITH_REFUSED + SKARROWITH_ODD_PARITY, data, sizeof data);
+    expect_version();
+    expect_names();
+    expect_meanings();
     expect_both_interfaces();
     expect_signs();
     expect_unmarking();
@@ -398,10 +475,10 @@ int main(void)
     expect_binaries();
     expect_one_pass();
     expect_words(1, 260, 17, "the line is empty");
-    expect_words(8, 14, 14, "checksum wrong");
-    expect_words(SKARROWITH_REFUSED + 8, 14, 14, "checksum wrong");
-    expect_words(8, 13, SKARROWITH_REFUSED + 21, "");
-    expect_words(8, 0, SKARROWITH_REFUSED + 21, "");
+    expect_words(8, 15, 14, "checksum wrong");
+    expect_words(SKARROWITH_REFUSED + SKARROWITH_WRONG_CHECKSUM, 15, 14, "checksum wrong");
+    expect_words(8, 14, SKARROWITH_REFUSED + SKARROWITH_TOO_FEW_PLACES, "");
+    expect_words(8, 0, SKARROWITH_REFUSED + SKARROWITH_TOO_FEW_PLACES, "");
     expect_words(72, 260, 83, "meter: set up with data the writer refuses, or energy or volume not in structure 0C");
     expect_words(63, 260, 30, "replay: fewer than two answers");
     expect_words(80, 260, 45, "CJ/T 188: frame shape, or length not 03 or 2E");
@@ -410,7 +487,7 @@ int main(void)
     expect_words(87, 260, SKARROWITH_REFUSED + SKARROWITH_NO_SUCH_NUMBER, "");
     expect_words(90, 260, 34, "temperature over 20,000 hundredths");
     expect_words(91, 260, 44, "resistance below the first or above the last");
-    expect_words(21, 260, 32, "output: fewer places than needed");
+    expect_words(21, 260, 55, "output: fewer places, or bytes of a record, than needed");
     expect_words(SKARROWITH_REFUSED + SKARROWITH_NO_SUCH_NUMBER, 260, 24, "no words for this number");
     expect_words(SKARROWITH_REFUSED + 43, 260, 31, "a different request at a resend");
     expect_words(SKARROWITH_NO_RECORD, 260, 95,

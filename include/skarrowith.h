@@ -6,10 +6,10 @@
  * read and write only the memory that they are lent, keep no state, call nothing but memcpy and memset, and always return.
  * They may be called from any thread. What is lent to one call for writing must not overlap with anything else that it is lent.
  *
- * Answers. Every function answers one number. Below 256 it is the answer, 0 where there is nothing to say;
- * SKARROWITH_REFUSED plus n is refusal n. On a refusal nothing that was lent has changed, and otherwise only the places
- * that are named have. Where several refusals apply, the library's own (100, 101) go first and then the lowest number,
- * but for six rules:
+ * Answers. Every function answers one number, skarrowith_version the version and every other as follows. Below 256 it is the
+ * answer, 0 where there is nothing to say; SKARROWITH_REFUSED plus n is refusal n. On a refusal nothing that was lent has
+ * changed, and otherwise only the places that are named have. Where several refusals apply, the library's own (100, 101) go
+ * first and then the lowest number, but for six rules:
  *   - 17, an odd number of bytes, goes before 1 to 16, and before 80 to 85;
  *   - reading a CJ/T 188 line gives 80 to 85 before 21;
  *   - 11 to 14 are tried entry by entry from the left, in each entry the lowest first, and 16 after the last entry;
@@ -53,14 +53,99 @@
 extern "C" {
 #endif
 
-/* A refusal: this plus its number in the rules (docs/REFUSALS.md has them all), or plus one of the library's own, below. */
+/* The version of this header, as a number and as text. */
+#define SKARROWITH_VERSION_MAJOR 1u
+#define SKARROWITH_VERSION_MINOR 1u
+#define SKARROWITH_VERSION_PATCH 0u
+#define SKARROWITH_VERSION (SKARROWITH_VERSION_MAJOR * 65536u + SKARROWITH_VERSION_MINOR * 256u + SKARROWITH_VERSION_PATCH)
+#define SKARROWITH_VERSION_TEXT "1.1.0"
+
+/* Answers the version of the library that is linked: 65536 times major, 256 times minor, and patch. */
+uint32_t skarrowith_version(void);
+
+/*
+ * Refusals
+ *
+ * A refusal is answered as SKARROWITH_REFUSED plus its number: a test reads `answer == SKARROWITH_REFUSED + SKARROWITH_NO_LINE`.
+ * Beside each stand the words that skarrowith_refusal_text writes; docs/REFUSALS.md of the source says who gives it and when.
+ */
 #define SKARROWITH_REFUSED 256u
 
-/* There are no words for this number. (For 100 and 101 there are.) */
-#define SKARROWITH_NO_SUCH_NUMBER 100u
+/* A line. */
+#define SKARROWITH_EMPTY_LINE 1u /* the line is empty */
+#define SKARROWITH_WRONG_CHARACTER 2u /* a character is over 511 */
+#define SKARROWITH_ODD_PARITY 3u /* a parity is odd */
+#define SKARROWITH_WRONG_FIRST_BYTE 4u /* first byte not E5, 10 or 68 */
+#define SKARROWITH_WRONG_COUNT 5u /* count not 1 after E5, not 5 after 10, under 6 or not second byte + 6 after 68 */
+#define SKARROWITH_WRONG_LENGTHS 6u /* second and third byte differ, or fourth is not 68 */
+#define SKARROWITH_WRONG_END 7u /* read, enter, leave or data shape does not end in 16 */
+#define SKARROWITH_WRONG_CHECKSUM 8u /* checksum wrong */
+#define SKARROWITH_WRONG_FORM 9u /* short form: C not 5B. Long form: neither L = 4 with C 53, CI 50 and an S above,
+                                    nor L >= 15 with C 08 and CI 72 */
+#define SKARROWITH_WRONG_HEADER 10u /* header rule broken */
+#define SKARROWITH_WRONG_ENTRY 11u /* one byte left, unknown structure or unit, wrong pair, or value past the end */
+#define SKARROWITH_WRONG_VALUE 12u /* a BCD digit over 9 in an entry, or a negative value where none is allowed */
+#define SKARROWITH_WRONG_TIME 13u /* time rule broken */
+#define SKARROWITH_QUANTITY_TWICE 14u /* quantity already seen */
+#define SKARROWITH_QUANTITY_MISSING 16u /* a required quantity missing */
+#define SKARROWITH_ODD_BYTES 17u /* host form only, before 1: odd number of bytes */
+#define SKARROWITH_NO_LINE 18u /* search: no accepted line begins anywhere */
+#define SKARROWITH_UNWRITABLE 20u /* writer: no accepted line reads as this telegram */
+#define SKARROWITH_TOO_FEW_PLACES 21u /* output: fewer places, or bytes of a record, than needed */
 
-/* What is lent as a record is none: see Records, above. */
-#define SKARROWITH_NO_RECORD 101u
+/* The run bundle. */
+#define SKARROWITH_BUNDLE_TOO_LONG 30u /* bundle: too long */
+#define SKARROWITH_BUNDLE_TOO_SHORT 31u /* bundle: under two bytes */
+#define SKARROWITH_BUNDLE_WRONG_COUNT 32u /* bundle: count over 512 */
+#define SKARROWITH_BUNDLE_CONTENTS_CUT 33u /* bundle: contents cut */
+#define SKARROWITH_BUNDLE_WRONG_ROW 34u /* bundle: a position, direction or length out of its range,
+                                           or a time below the row before */
+#define SKARROWITH_BUNDLE_WRONG_OFFSET 35u /* bundle: an offset wrong or a body past the end */
+#define SKARROWITH_BUNDLE_BYTES_LEFT 36u /* bundle: bytes left over */
+#define SKARROWITH_BUNDLE_WRONG_CHARACTER 37u /* bundle: a character over 511 */
+#define SKARROWITH_BUNDLE_FULL 38u /* bundle: adding: 512 rows, or the new bundle exceeds the buffer or 65,536 */
+#define SKARROWITH_BUNDLE_NO_SUCH_ROW 39u /* bundle: no such row */
+
+/* The exchange, the wake-up and the gap after it. */
+#define SKARROWITH_EXCHANGE_TIME_BACK 40u /* exchange: time earlier than the last step's */
+#define SKARROWITH_EXCHANGE_NOT_CALLED_FOR 41u /* exchange: step not called for in this state */
+#define SKARROWITH_EXCHANGE_NO_REQUEST 42u /* start with ack or data */
+#define SKARROWITH_EXCHANGE_OTHER_REQUEST 43u /* a different request at a resend */
+#define SKARROWITH_GAP_TOO_SHORT 50u /* command begins less than 33 after the wake-up's end, or before it */
+#define SKARROWITH_GAP_TOO_LONG 51u /* command begins more than 330 after the wake-up's end */
+#define SKARROWITH_WAKE_WRONG_COUNT 52u /* wake-up count outside 459-502 */
+
+/* The error of indication, and the replay of a bundle. */
+#define SKARROWITH_COUNT_TOO_LARGE 60u /* a count over 10^12 */
+#define SKARROWITH_METER_COUNT_FALLS 61u /* meter count falls */
+#define SKARROWITH_STANDARD_COUNT_NOT_RISING 62u /* standard's count does not rise */
+#define SKARROWITH_REPLAY_TOO_FEW_ANSWERS 63u /* replay: fewer than two answers */
+#define SKARROWITH_REPLAY_VOLUME_TOO_LARGE 64u /* replay: any of the four volumes over 10^9 ml */
+#define SKARROWITH_REPLAY_WRONG_INTERVAL 65u /* replay: either interval not above 0 or over 1,800,000 ms */
+
+/* The simulated meter. */
+#define SKARROWITH_METER_TIME_BACK 70u /* meter: time goes back */
+#define SKARROWITH_METER_TOTAL_TOO_LARGE 71u /* meter: a total would pass 99,999,999 */
+#define SKARROWITH_METER_WRONG_TEMPLATE 72u /* meter: set up with data the writer refuses,
+                                               or energy or volume not in structure 0C */
+
+/* A CJ/T 188 line, and an energy of such a meter. */
+#define SKARROWITH_CJT_WRONG_FRAME 80u /* CJ/T 188: frame shape, or length not 03 or 2E */
+#define SKARROWITH_CJT_WRONG_SUM 81u /* CJ/T 188: sum */
+#define SKARROWITH_CJT_WRONG_ADDRESS 82u /* CJ/T 188: type or address, AA with 2E included */
+#define SKARROWITH_CJT_WRONG_MARK 83u /* CJ/T 188: data mark, or control not that length's */
+#define SKARROWITH_CJT_WRONG_DIGITS 84u /* CJ/T 188: digits or clock */
+#define SKARROWITH_CJT_WRONG_UNIT 85u /* CJ/T 188: unit */
+#define SKARROWITH_CJT_NOT_EXACT 86u /* CJ/T 188: conversion not exact */
+
+/* The resistance box. */
+#define SKARROWITH_TEMPERATURE_TOO_HIGH 90u /* temperature over 20,000 hundredths */
+#define SKARROWITH_RESISTANCE_OUTSIDE 91u /* resistance below the first or above the last */
+
+/* The library's own, which go before all others. What a record is stands above, under Records. */
+#define SKARROWITH_NO_SUCH_NUMBER 100u /* no words for this number */
+#define SKARROWITH_NO_RECORD 101u /* no record: another size, kind or sort, a byte that must be 0,
+                                     or a state to which no steps lead */
 
 /* The five telegrams: what checking and reading answer for a line that is accepted. */
 #define SKARROWITH_ACK 1u
@@ -81,13 +166,18 @@ extern "C" {
  */
 uint32_t skarrowith_check_line(const uint8_t *bytes, size_t len);
 
+/* Room that is enough for the words of every refusal and the zero byte behind them. */
+#define SKARROWITH_TEXT_MOST 256u
+
 /*
  * Writes the words for a refusal, for an operator to read.
  *
  * number: a refusal number, 1 to 91, 100 or 101, or SKARROWITH_REFUSED plus one, as it was answered.
- * out:    len places. The words are ASCII, in one piece, without a zero behind them, and shorter than 256 bytes.
+ * out:    len places. The words are ASCII, in one piece and shorter than 256 bytes, and a zero byte ends them. Places beyond it
+ *         stay as they were.
  *
- * Answers how many bytes were written, or SKARROWITH_REFUSED plus 21 (len is too small) or SKARROWITH_NO_SUCH_NUMBER.
+ * Answers how many bytes the words have, the zero byte not counted, or refuses by 100 (there are no words for this number) or
+ * 21 (there is no room for the words and their zero byte).
  */
 uint32_t skarrowith_refusal_text(uint32_t number, char *out, size_t len);
 
@@ -97,6 +187,30 @@ uint32_t skarrowith_refusal_text(uint32_t number, char *out, size_t len);
 
 /* The most characters of a line that is written. */
 #define SKARROWITH_LINE_MOST 89u
+
+/* The address that asks every meter. */
+#define SKARROWITH_BROADCAST 0xFEu
+
+/* The methods of an enter. */
+#define SKARROWITH_START_STOP 0x90u
+#define SKARROWITH_SIMULATED_FLOW 0x91u
+#define SKARROWITH_REAL_TIME 0x92u
+
+/*
+ * The line clock: the bit times of a second and of a character, and in bit times the least and the greatest gap between a
+ * wake-up's end and the command after it (13.75 and 137.5 ms), the window in which a reply to a send begins (187.5 ms), and how
+ * long a meter in verification stays there without an instruction (30 min).
+ */
+#define SKARROWITH_BIT_TIMES_PER_SECOND 2400u
+#define SKARROWITH_BIT_TIMES_PER_CHARACTER 11u
+#define SKARROWITH_GAP_LEAST 33u
+#define SKARROWITH_GAP_MOST 330u
+#define SKARROWITH_REPLY_TIME 450u
+#define SKARROWITH_RETURN_TIME 4320000u
+
+/* The least and the most characters of a wake-up. */
+#define SKARROWITH_WAKE_LEAST 459u
+#define SKARROWITH_WAKE_MOST 502u
 
 /*
  * A point in time. Year 0 to 99 means 2000 to 2099. weekday is the one the meter sends: 1 for Monday to 7 for Sunday, 0 for
@@ -135,8 +249,39 @@ struct skarrowith_entry {
     } value;
 };
 
+/* The quantities: the rows of the table by which an entry's unit byte is read. Energy in Wh and in J is one quantity. */
+#define SKARROWITH_ENERGY 0u
+#define SKARROWITH_VOLUME 1u
+#define SKARROWITH_POWER 2u
+#define SKARROWITH_FLOW 3u
+#define SKARROWITH_INLET 4u
+#define SKARROWITH_OUTLET 5u
+#define SKARROWITH_POINT_IN_TIME 6u
+
+/* Their units: none for a point in time, Wh or J, cubic metres, W, cubic metres in an hour, degrees Celsius. */
+#define SKARROWITH_NO_UNIT 0u
+#define SKARROWITH_WH 1u
+#define SKARROWITH_J 2u
+#define SKARROWITH_M3 3u
+#define SKARROWITH_W 4u
+#define SKARROWITH_M3_H 5u
+#define SKARROWITH_DEGREE 6u
+
 /*
- * A telegram, 136 bytes. kind is SKARROWITH_ACK to SKARROWITH_DATA; method is the byte S of an enter. What the kind does
+ * What a unit byte means, 4 bytes: an entry's value is its count times ten to the power, in the unit. So a count with the unit
+ * byte 11 hex is a volume in 10^-5 m3: SKARROWITH_VOLUME, SKARROWITH_M3 and -5. The power of a point in time is 0.
+ */
+struct skarrowith_meaning {
+    uint8_t quantity, unit;
+    int8_t power;
+    uint8_t zero;
+};
+
+/* Says what a unit byte means. Answers 0, or refuses by 11 where no quantity has this unit byte, or 21. */
+uint32_t skarrowith_entry_meaning(uint8_t unit, struct skarrowith_meaning *meaning, size_t size);
+
+/*
+ * A telegram, 136 bytes. kind is SKARROWITH_ACK to SKARROWITH_DATA; method is that of an enter. What the kind does
  * not use is 0, and so are the entries past the count: a telegram of other values is a record, and refused by 20 when it
  * is written as a line, as is one with a count over seven.
  */
@@ -209,8 +354,8 @@ uint32_t skarrowith_read_line(const uint16_t *line, size_t count, struct skarrow
 uint32_t skarrowith_write_line(const struct skarrowith_telegram *telegram, size_t size, uint16_t *line, size_t places);
 
 /*
- * Writes a request: SKARROWITH_READ, SKARROWITH_ENTER with its method, or SKARROWITH_LEAVE, to an address, FE for all.
- * method is 0 for a read and a leave. SKARROWITH_ACK with address and method 0 is written too. Answers the number of
+ * Writes a request: SKARROWITH_READ, SKARROWITH_ENTER with its method, or SKARROWITH_LEAVE, to an address, SKARROWITH_BROADCAST
+ * for all. method is 0 for a read and a leave. SKARROWITH_ACK with address and method 0 is written too. Answers the number of
  * characters, at most 10, or refuses by 20 or 21.
  */
 uint32_t skarrowith_write_request(uint8_t kind, uint8_t address, uint8_t method, uint16_t *line, size_t places);

@@ -135,6 +135,11 @@ static void generate_error(void)
     printf("error +%" PRIu64 " +%" PRIu64 " +%" PRIu64 " +%" PRIu64, c[0], c[1], c[2], c[3]);
 }
 
+static void generate_meaning(void)
+{
+    printf("meaning %02X", below(256));
+}
+
 static void generate_resistance(void)
 {
     printf("resistance +%" PRIu32, some_hundredths());
@@ -427,7 +432,7 @@ int main(int argc, char **argv)
         {"check", generate_check}, {"row", generate_row},     {"body", generate_body},         {"add", generate_add},
         {"list", generate_list},   {"kept", generate_kept},   {"next", generate_next},         {"salvage", generate_salvage},
         {"resistance", generate_resistance}, {"temperature", generate_temperature},
-        {"either", generate_either},
+        {"either", generate_either}, {"meaning", generate_meaning},
         {"unmark", generate_unmark},
         {"length", generate_length}, {"after", generate_after},
         {"replay", generate_replay},

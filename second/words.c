@@ -28,7 +28,7 @@ const char *second_words(unsigned long number)
         [17] = "host form only, before 1: odd number of bytes",
         [18] = "search: no accepted line begins anywhere",
         [20] = "writer: no accepted line reads as this telegram",
-        [21] = "output: fewer places than needed",
+        [21] = "output: fewer places, or bytes of a record, than needed",
         [30] = "bundle: too long",
         [31] = "bundle: under two bytes",
         [32] = "bundle: count over 512",

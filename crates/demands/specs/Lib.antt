@@ -29,6 +29,7 @@ pub mod Values
 pub mod Weekdays
 pub mod Signs
 pub mod Binary
+pub mod Meanings
 pub mod Cjt
 pub mod CjtValues
 pub mod CjtPromises

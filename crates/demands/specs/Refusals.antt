@@ -25,7 +25,7 @@ use Rattle.mbus_rules.specs.Characters.{over, odd, byteOf}
 use Rattle.mbus_rules.specs.Answers.{Answer, reads, refusal, refuse, within, follow}
 use Rattle.mbus_rules.specs.Headers.{headerOf, wrongHeader}
 use Rattle.mbus_rules.specs.Host.{chars, lineNumber, hostNumber}
-use Rattle.mbus_rules.specs.Quantities.{quantityOf, widthOf}
+use Rattle.mbus_rules.specs.Quantities.{quantityOf, unknown, widthOf}
 use Rattle.mbus_rules.specs.Entries.{entryOf, unfit, wrongDigit, wrongTime, seen, missing, readEntries}
 use Rattle.mbus_rules.specs.Telegrams.{ack, readOf, dataOf, bare}
 use Rattle.mbus_rules.specs.Lines.{isAck, isShort, field, isCommand, isData, commandOf, readBody, readLine}
@@ -69,7 +69,8 @@ use Rattle.replay_error.specs.Errors.{volumeOver, wrongInterval, errorByC1, err
 use Rattle.host_words.specs.Refusals as words
 use Rattle.host_words.specs.Refusals.{wordsIn, textOf}
 use Rattle.host_words.specs.Words.{text}
-use Rattle.host_words.specs.Saying.{fitted}
+use Rattle.host_words.specs.Saying.{ended, fitted}
+use Rattle.host_meaning.specs.Meanings.{meaningOf, meaningFor}
 use Rattle.host_records.specs.Recorded.{noRecord, recorded}
 use Rattle.host_records.specs.Telegrams.{telegramSize, telegramBytes, telegramIn, telegramFrom}
 use Rattle.exchange_record.specs.Exchanges.{exchangeBytes, exchangeIn, reached, exchangeFrom, noneBytes, benchFrom}
@@ -487,7 +488,7 @@ pub words-by : (n : ℕ) (out : List ℕ) → By (100 ∷ 21 ∷ []) (follow (te
 unfolding any textOf
 words-by n out =
     follow-by _ (textOf n) (fitted out) (more (100 ∷ []) _ _ refl (table-by words.refusalTexts n))
-    (λ w. refuse-by _ 21 (ltb (length out) (length w)) _ refl (reads-by _ _))
+    (λ w. refuse-by _ 21 (ltb (length out) (length (ended w))) _ refl (reads-by _ _))
 
 recorded-by : {A : Type 0} (written : A → List ℕ) (taken : List ℕ → A) (b : List ℕ) → By (noRecord ∷ []) (recorded written taken b)
 unfolding any
@@ -515,6 +516,10 @@ meter-record-by b =
 
 placed-by : {A B : Type 0} (ns : List ℕ) (n : ℕ) (out : List B) (a : Answer A) → among ns 21 → By ns a → By ns (placed n out a)
 placed-by ns n out a h k = follow-by ns a _ k (λ x. needs-by ns n out (reads x) h (reads-by ns x))
+
+pub meaning-for-by : (u : ℕ) (out : List ℕ) → By (11 ∷ 21 ∷ []) (meaningFor u out)
+unfolding any
+meaning-for-by u out = placed-by _ 4 out (meaningOf u) refl (refuse-by _ 11 (eqb (quantityOf u) unknown) _ refl (reads-by _ _))
 
 module _ (b out : List ℕ) where
   pub read-for-by : By (21 ∷ lineNumbers) (readFor b out)

@@ -37,7 +37,7 @@ refusalTexts =
     ∷ row 17 "host form only, before 1: odd number of bytes"
     ∷ row 18 "search: no accepted line begins anywhere"
     ∷ row 20 "writer: no accepted line reads as this telegram"
-    ∷ row 21 "output: fewer places than needed"
+    ∷ row 21 "output: fewer places, or bytes of a record, than needed"
     ∷ row 30 "bundle: too long"
     ∷ row 31 "bundle: under two bytes"
     ∷ row 32 "bundle: count over 512"

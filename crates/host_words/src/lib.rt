@@ -39,12 +39,13 @@ fn row_size(rest: &[u8]) -> usize
     i
 }
 
-// The words stand in the first places; the answer is how many bytes they have, or 256 + 21 where the places are too few.
+// The words stand in the first places with a zero byte behind them; the answer is how many bytes they have without it, or 256 + 21
+// where the places are too few.
 fn say(out: &mut [u8], words: &[u8]) -> u32
     requires { ⌜ length (now words) < 4096 ⌝ }
     ensures { λ r. ⌜ Says (reads (now (words .entry))) (now (out .entry)) r (now (out .exit)) ⌝ }
 {
-    let short = out.len() < words.len();
+    let short = out.len() < words.len() + 1;
     if short {
         return 256 + 21;
     }
@@ -53,6 +54,7 @@ fn say(out: &mut [u8], words: &[u8]) -> u32
         out[i] = words[i];
         i += 1;
     }
+    out[i] = 0;
     words.len() as u32
 }
 
@@ -99,7 +101,7 @@ fn say_of_lines(out: &mut [u8], number: u32) -> u32
         search: no accepted line begins anywhere\n\
         \n\
         writer: no accepted line reads as this telegram\n\
-        output: fewer places than needed\n",
+        output: fewer places, or bytes of a record, than needed\n",
         number,
     )
 }
@@ -184,7 +186,8 @@ fn say_number(out: &mut [u8], number: u32) -> u32
     256 + 100
 }
 
-// The words for a refusal number, or for 256 plus one; the answer is how many bytes they have, or 256 plus the refusal number.
+// The words for a refusal number, or for 256 plus one, and a zero byte; the answer is how many bytes the words have, or 256 plus the
+// refusal number.
 #[no_mangle]
 pub extern "C" fn skarrowith_refusal_text(number: u32, out: &mut [u8]) -> u32
     ensures { λ r. ⌜ Says (textOf (numberAsked number)) (now (out .entry)) r (now (out .exit)) ⌝ }

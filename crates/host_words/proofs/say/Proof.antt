@@ -1,5 +1,5 @@
 -- `host_words::say` meets its contract: the loop copies. Assumes nothing.
-use Prim.Native.Nat.{_-_}
+use Prim.Native.Nat.{_+_, _-_}
 use native.Mathlib.Omega.{arith}
 use lib.ListN.{length}
 use borrow.Author.Needs.{needs}
@@ -13,6 +13,9 @@ Inv-loop out₀ words short i₀ out i = Copied words out₀ i out
 
 abbrev μ-loop : tie.MeasureT-loop
 μ-loop out₀ words short i₀ out i = length words - i
+
+add-short : tie.Need-add-short Inv-loop μ-loop
+add-short c = search needs
 
 add-result : tie.Need-add-result Inv-loop μ-loop
 add-result c = search needs
@@ -29,7 +32,7 @@ shared-slice-read-out c = search needs
 slice-write-out : tie.Need-slice-write-out Inv-loop μ-loop
 slice-write-out c =
     let a = c .before .before .before .before .args in
-    omega (arith, ltb-false (length (a .out .now)) (length (a .words .now)) (c .before .before .loop .inv .room))
+    omega (arith, ltb-false (length (a .out .now)) (length (a .words .now) + 1) (c .before .before .loop .inv .room))
 
 add-i : tie.Need-add-i Inv-loop μ-loop
 add-i c = search needs
@@ -39,6 +42,11 @@ loop-less c = search needs
 
 loop-again : tie.Need-loop-again Inv-loop μ-loop
 loop-again c = copied-next (c .before .before .loop .inv) (omega arith)
+
+slice-write-out-2 : tie.Need-slice-write-out-2 Inv-loop μ-loop
+slice-write-out-2 c =
+    let a = c .before .before .before .args in
+    omega (arith, ltb-false (length (a .out .now)) (length (a .words .now) + 1) (c .before .loop .inv .room))
 
 cast-result : tie.Need-cast-result Inv-loop μ-loop
 cast-result c = search needs
@@ -55,6 +63,7 @@ say-spec =
     (tie.spec
     Inv-loop
     μ-loop
+    add-short
     add-result
     returns
     loop-holds
@@ -63,6 +72,7 @@ say-spec =
     add-i
     loop-less
     loop-again
+    slice-write-out-2
     cast-result
     same-length
     returns-2)
