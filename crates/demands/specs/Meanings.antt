@@ -16,9 +16,9 @@ meanings u zero = []
 meanings u (suc count) = meaningOf u ∷ meanings (suc u) count
 
 -- a row of the table, from its unit byte with the low bits n on: the power of ten is n less a number
-unfoldable pub rowFrom : ℕ → ℕ → ℕ → ℕ → ℕ → List (Answer Meaning)
-rowFrom n quantity unit less zero = []
-rowFrom n quantity unit less (suc count) = reads (meant quantity unit (subℕ n less)) ∷ rowFrom (suc n) quantity unit less count
+unfoldable pub tableRow : ℕ → ℕ → ℕ → ℕ → ℕ → List (Answer Meaning)
+tableRow n quantity unit less zero = []
+tableRow n quantity unit less (suc count) = reads (meant quantity unit (subℕ n less)) ∷ tableRow (suc n) quantity unit less count
 
 -- so many unit bytes that are in no row
 unfoldable pub noRow : ℕ → List (Answer Meaning)
@@ -28,20 +28,20 @@ noRow (suc count) = refusal 11 ∷ noRow count
 -- All 256 unit bytes, from 00 on.
 pub whole-table :
     meanings 0x00 256
-    ≡ rowFrom 0 energy wattHour 3 8
-    ++ (rowFrom 0 energy joule 0 8
-    ++ (rowFrom 0 volume cubicMetre 6 8
+    ≡ tableRow 0 energy wattHour 3 8
+    ++ (tableRow 0 energy joule 0 8
+    ++ (tableRow 0 volume cubicMetre 6 8
     ++ (noRow 16
-    ++ (rowFrom 0 power watt 3 8
+    ++ (tableRow 0 power watt 3 8
     ++ (noRow 8
-    ++ (rowFrom 0 flow cubicMetreAnHour 6 8
+    ++ (tableRow 0 flow cubicMetreAnHour 6 8
     ++ (noRow 24
-    ++ (rowFrom 0 inlet degreeCelsius 3 4
-    ++ (rowFrom 0 outlet degreeCelsius 3 4
+    ++ (tableRow 0 inlet degreeCelsius 3 4
+    ++ (tableRow 0 outlet degreeCelsius 3 4
     ++ (noRow 13
     ++ (reads (meant time noUnit (pos 0))
     ∷ noRow 146)))))))))))
-unfolding meanings rowFrom noRow quantityOf powerOf unitOf
+unfolding meanings tableRow noRow quantityOf powerOf unitOf
 whole-table = refl
 
 -- The power is read from its byte in the record as it was meant.
