@@ -51,8 +51,8 @@ $(PROGRAM): $(ARCHIVE) include/skarrowith.h $(wildcard program/*.[ch])
 	mkdir -p $(@D)
 	$(COMPILER) $(FLAGS) -static -o $@ program/*.c $(ARCHIVE)
 
-# 01's proved listing program.
-$(LISTER): crates.txt $(shell find crates -name '*.rt' -o -name '*.antt')
+# 01's proved listing program; after the archive, as two rt at a time are one too many.
+$(LISTER): crates.txt $(shell find crates -name '*.rt' -o -name '*.antt') | $(ARCHIVE)
 	bin/prove list
 	touch $@
 
