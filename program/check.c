@@ -3,5 +3,5 @@
 
 int run_check(const struct given *given)
 {
-    return tell_lines(given, print_kind);
+    return tell_lines(given, given->option['c'] != NULL ? tell_cjt_kind : tell_kind);
 }

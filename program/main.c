@@ -7,10 +7,10 @@
 #include <string.h>
 
 static const struct command {
-    const char *name, *letters, *words, *says;
+    const char *name, *options, *words, *says;
     int (*run)(const struct given *given);
 } commands[] = {
-#define COMMAND(name, letters, words, says) {#name, letters, words, says, run_##name},
+#define COMMAND(name, options, words, says) {#name, options, words, says, run_##name},
 #include "commands.h"
 #undef COMMAND
 };
@@ -31,35 +31,44 @@ static int print_usage(FILE *to)
     fputs(
         "       skarrowith -h | --help | --version\n"
         "FILE is a run bundle. For check and read it is text, in each line of which the characters of a line stand as words of\n"
-        "hexadecimal digits, the parity bit received as bit 8: 1E5, or 110 15B 1FE 059 116. Behind # stands a comment.\n"
+        "hexadecimal digits, the parity bit received as bit 8: 1E5, or 110 15B 1FE 059 116. Behind # stands a comment. Lines are\n"
+        "M-Bus lines, and with -c CJ/T 188 lines.\n"
         "Without FILE, or for -, standard input is read; without OUT, or for -, a bundle goes to standard output.\n"
         "Exit status: 0 done, 1 refused by the rules, 2 wrong usage, or a file that cannot be read or written.\n",
         to);
     return DONE;
 }
 
+/* Takes the option at words[*i], and the word that belongs to it, which stands in the same word or in the next. */
+static int take_option(const char *letters, int count, char **words, int *i, struct given *given)
+{
+    const char *word = words[*i], *letter = word[1] == ':' ? NULL : strchr(letters, word[1]);
+    if (letter == NULL || (letter[1] != ':' && word[2] != '\0'))
+        return misused(word, "no option of this command");
+    const char *value = word + 2;
+    if (letter[1] == ':' && *value == '\0') {
+        if (++*i == count)
+            return misused(word, "something is wanted behind it");
+        value = words[*i];
+    }
+    given->option[(unsigned char)*letter] = value;
+    return DONE;
+}
+
 /* Parts options from words, wherever they stand; behind `--` all are words. */
 static int part(const char *letters, int count, char **words, struct given *given)
 {
-    int options = 1;
+    int options = 1, status = DONE;
     given->words = words;
-    for (int i = 0; i < count; i++) {
-        char *word = words[i];
-        if (!options || word[0] != '-' || word[1] == '\0') {
-            given->words[given->count++] = word;
-        } else if (strcmp(word, "--") == 0) {
+    for (int i = 0; i < count && status == DONE; i++) {
+        if (!options || words[i][0] != '-' || words[i][1] == '\0')
+            given->words[given->count++] = words[i];
+        else if (strcmp(words[i], "--") == 0)
             options = 0;
-        } else if (strchr(letters, word[1]) == NULL) {
-            return misused(word, "no option of this command");
-        } else if (word[2] != '\0') {
-            given->option[(unsigned char)word[1]] = word + 2;
-        } else if (++i == count) {
-            return misused(word, "something is wanted behind it");
-        } else {
-            given->option[(unsigned char)word[1]] = words[i];
-        }
+        else
+            status = take_option(letters, count, words, &i, given);
     }
-    return DONE;
+    return status;
 }
 
 static int run(const char *name, int count, char **words)
@@ -67,7 +76,7 @@ static int run(const char *name, int count, char **words)
     struct given given = {{NULL}, 0, NULL};
     for (int i = 0; i < COMMANDS; i++)
         if (strcmp(commands[i].name, name) == 0) {
-            int status = part(commands[i].letters, count, words, &given);
+            int status = part(commands[i].options, count, words, &given);
             return status == DONE ? commands[i].run(&given) : status;
         }
     return misused(name, "no command");

@@ -9,15 +9,15 @@
 /* The exit status: done; refused by the rules; wrong usage, or a file that cannot be read or written. */
 enum { DONE = 0, REFUSED = 1, FAILED = 2 };
 
-/* What a command is given behind its name: its options, each by its letter, and its other words. */
+/* What a command is given behind its name: its options, each by its letter with its word or an empty one, and its other words. */
 struct given {
-    const char *option[128];
+    const char *option[128]; /* null where it was not given */
     int count;
     char **words;
 };
 
 /* Each command is run_NAME, and answers the exit status. */
-#define COMMAND(name, letters, words, says) int run_##name(const struct given *given);
+#define COMMAND(name, options, words, says) int run_##name(const struct given *given);
 #include "commands.h"
 #undef COMMAND
 
@@ -40,16 +40,19 @@ int read_bundle(const struct given *given, int words, struct bundle *bundle);
 int write_output(const char *name, const uint8_t *bytes, size_t count);
 int end_output(int status);
 
-/* numbers.c: a whole word in decimal, no larger than most; an error in tenths of a percent. */
+/* numbers.c: a whole word in decimal, no larger than most; an error in tenths of a percent; a count times a power of ten. */
 int number_in(const char *word, uint64_t most, uint64_t *number);
 int position_in(const struct given *given, uint8_t *position);
 void print_tenths(int64_t tenths);
+void print_scaled(int64_t count, int power);
 
-/* text.c: reads each line of a text, and prints its telegram by a function, or by which number it is refused. */
-int tell_lines(const struct given *given, void (*print)(const struct skarrowith_telegram *telegram));
+/* text.c: hands each line of a text to a function, which prints what it is and answers what the library does. */
+int tell_lines(const struct given *given, uint32_t (*tell)(const uint16_t *line, size_t count));
 
-/* telegrams.c */
-void print_kind(const struct skarrowith_telegram *telegram);
-void print_telegram(const struct skarrowith_telegram *telegram);
+/* telegrams.c and cjt.c: what an accepted line is, and all that it says. */
+uint32_t tell_kind(const uint16_t *line, size_t count);
+uint32_t tell_telegram(const uint16_t *line, size_t count);
+uint32_t tell_cjt_kind(const uint16_t *line, size_t count);
+uint32_t tell_cjt_telegram(const uint16_t *line, size_t count);
 
 #endif

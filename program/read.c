@@ -3,5 +3,5 @@
 
 int run_read(const struct given *given)
 {
-    return tell_lines(given, print_telegram);
+    return tell_lines(given, given->option['c'] != NULL ? tell_cjt_telegram : tell_telegram);
 }

@@ -9,29 +9,9 @@ static const char *const quantities[] = {"energy", "volume", "power", "flow", "i
 static const char *const units[] = {"", "Wh", "J", "m3", "W", "m3/h", "degrees Celsius"};
 static const char *const days[] = {"", "Monday ", "Tuesday ", "Wednesday ", "Thursday ", "Friday ", "Saturday ", "Sunday "};
 
-void print_kind(const struct skarrowith_telegram *telegram)
-{
-    puts(kinds[telegram->kind]);
-}
-
 static const char *method_in_words(uint8_t method)
 {
     return method == SKARROWITH_START_STOP ? "start-stop" : method == SKARROWITH_SIMULATED_FLOW ? "simulated flow" : "real time";
-}
-
-/* A count times a power of ten, exactly: zeros behind its digits, or a point among them. */
-static void print_scaled(int64_t count, int power)
-{
-    char digits[21];
-    uint64_t size = count < 0 ? -(uint64_t)count : (uint64_t)count;
-    int whole = snprintf(digits, sizeof digits, "%" PRIu64, size) + power;
-    fputs(count < 0 ? "-" : "", stdout);
-    if (power >= 0)
-        printf("%s%.*s", digits, size == 0 ? 0 : power, "0000000");
-    else if (whole <= 0)
-        printf("0.%.*s%s", -whole, "000000", digits);
-    else
-        printf("%.*s.%s", whole, digits, digits + whole);
 }
 
 static void print_entry(const struct skarrowith_entry *entry)
@@ -55,7 +35,7 @@ static void print_address(const char *from, uint8_t address)
     printf(" %s %02X%s", from, address, address == SKARROWITH_BROADCAST ? " (every meter)" : "");
 }
 
-void print_telegram(const struct skarrowith_telegram *t)
+static void print_telegram(const struct skarrowith_telegram *t)
 {
     fputs(kinds[t->kind], stdout);
     if (t->kind == SKARROWITH_DATA) {
@@ -71,4 +51,22 @@ void print_telegram(const struct skarrowith_telegram *t)
     putchar('\n');
     for (uint64_t i = 0; i < t->count; i++)
         print_entry(&t->entries[i]);
+}
+
+uint32_t tell_kind(const uint16_t *line, size_t count)
+{
+    struct skarrowith_telegram telegram;
+    uint32_t answer = skarrowith_read_line(line, count, &telegram, sizeof telegram);
+    if (answer < SKARROWITH_REFUSED)
+        puts(kinds[answer]);
+    return answer;
+}
+
+uint32_t tell_telegram(const uint16_t *line, size_t count)
+{
+    struct skarrowith_telegram telegram;
+    uint32_t answer = skarrowith_read_line(line, count, &telegram, sizeof telegram);
+    if (answer < SKARROWITH_REFUSED)
+        print_telegram(&telegram);
+    return answer;
 }

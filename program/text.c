@@ -51,19 +51,7 @@ static enum next next_line(FILE *stream, uint16_t *line, size_t *count)
     }
 }
 
-static int tell(const uint16_t *line, size_t count, void (*print)(const struct skarrowith_telegram *telegram))
-{
-    struct skarrowith_telegram telegram;
-    uint32_t answer = skarrowith_read_line(line, count, &telegram, sizeof telegram);
-    if (answer >= SKARROWITH_REFUSED) {
-        print_refusal(stdout, answer);
-        return REFUSED;
-    }
-    print(&telegram);
-    return DONE;
-}
-
-int tell_lines(const struct given *given, void (*print)(const struct skarrowith_telegram *telegram))
+int tell_lines(const struct given *given, uint32_t (*tell)(const uint16_t *line, size_t count))
 {
     static uint16_t line[CHARACTERS_MOST];
     size_t count;
@@ -74,9 +62,13 @@ int tell_lines(const struct given *given, void (*print)(const struct skarrowith_
         return status;
     enum next next;
     unsigned long number = 1;
-    for (; (next = next_line(stream, line, &count)) == A_LINE; number++)
-        if (count != 0 && tell(line, count, print) == REFUSED)
+    for (; (next = next_line(stream, line, &count)) == A_LINE; number++) {
+        uint32_t answer = count == 0 ? 0 : tell(line, count);
+        if (answer >= SKARROWITH_REFUSED) {
+            print_refusal(stdout, answer);
             status = REFUSED;
+        }
+    }
     if (ferror(stream))
         return fail_by_errno(name);
     if (next == NO_LINE) {
