@@ -93,7 +93,7 @@ check: try
 
 # What is built for bench software, tried as it is used; a part of .ci/run.
 try: all
-	bin/exports $(SHARED)
+	bin/exports $(ARCHIVE) $(SHARED)
 	bin/pages
 	program/test $(abspath $(PROGRAM)) $(shell bin/machine run)
 	python/test $(abspath $(SHARED))
