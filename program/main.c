@@ -82,13 +82,18 @@ static int run(const char *name, int count, char **words)
     return misused(name, "no command");
 }
 
+static int asks_for_help(const char *word)
+{
+    return strcmp(word, "-h") == 0 || strcmp(word, "--help") == 0;
+}
+
 int main(int argc, char **argv)
 {
     if (argc < 2) {
         print_usage(stderr);
         return FAILED;
     }
-    if (strcmp(argv[1], "-h") == 0 || strcmp(argv[1], "--help") == 0)
+    if (asks_for_help(argv[1]) || (argc > 2 && asks_for_help(argv[2])))
         return end_output(print_usage(stdout));
     if (strcmp(argv[1], "--version") == 0) {
         puts("skarrowith " SKARROWITH_VERSION_TEXT);

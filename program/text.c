@@ -72,7 +72,7 @@ int tell_lines(const struct given *given, uint32_t (*tell)(const uint16_t *line,
     if (ferror(stream))
         return fail_by_errno(name);
     if (next == NO_LINE) {
-        fprintf(stderr, "skarrowith: %s: line %lu: words of one to four hexadecimal digits are wanted\n", name, number);
+        fprintf(stderr, "skarrowith: %s: line %lu: up to 65,536 words of one to four hexadecimal digits are wanted\n", name, number);
         return FAILED;
     }
     return status;
