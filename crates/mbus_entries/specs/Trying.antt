@@ -1,32 +1,43 @@
 -- What 11 to 14 say of one entry.
-use Prim.Native.Nat.{ℕ, _≤_, _<_}
-use mathlib.Core.Bool.{Bool, true, false, _&&_}
+use Prim.Native.Nat.{ℕ, _≤_}
+use mathlib.Core.Bool.{Bool, true, false, cond, not, _&&_, _||_}
 use mathlib.Core.List.{List}
 use mathlib.Core.Path.{_≡_}
-use lib.Dec.{ltb}
 use lib.ListN.{length, getD}
 use Rattle.mbus_rules.specs.declared.Value.{Value}
-use Rattle.mbus_rules.specs.declared.Value.the-variants.{Binary}
+use Rattle.mbus_rules.specs.declared.Value.the-variants.{Number, Time, Binary}
 use Rattle.mbus_rules.specs.declared.Entry.{Entry}
 use Rattle.mbus_rules.specs.Lists.{at}
 use Rattle.mbus_rules.specs.Answers.{Answer, reads, refusal, refuse, within, follow}
-use Rattle.mbus_rules.specs.Quantities.{quantityOf, widthOf, isTime, isBinary}
+use Rattle.mbus_rules.specs.Quantities.{quantityOf, widthOf, isTime}
 use Rattle.mbus_rules.specs.Binary.{binaryOf}
-use Rattle.mbus_rules.specs.Moments.{wrongMoment}
-use Rattle.mbus_rules.specs.Entries.{valueBytes, valueOf, unfit, wrongBinary, wrongNumber}
+use Rattle.mbus_rules.specs.Moments.{wrongMoment, momentOf}
+use Rattle.mbus_rules.specs.Entries.{mayFall, valueBytes, valueOf, unfit, wrongBinary, wrongNumber}
+use Rattle.mbus_fields.specs.declared.digits.Signed.{Signed}
 use Rattle.mbus_entries.specs.declared.entry.Valued.{Valued}
 use Rattle.mbus_entries.specs.declared.entry.Tried.{Tried}
 
--- what a value needs to be read: six bytes for a point in time, at most eight for a number; a structure below 8 is a point in time's or binary
-pub record Long (st unit : ℕ) (value : List ℕ) : Type 0 where
+-- what a value in binary or a point in time needs to be read: at most eight bytes, and six for a point in time
+pub record Long (unit : ℕ) (value : List ℕ) : Type 0 where
   pub most : length value ≤ 8
   pub time : isTime unit ≡ true → length value ≡ 6
-  pub low : isTime unit ≡ true → st < 8
-  pub coded : isTime unit ≡ false → ltb st 8 ≡ isBinary st
+
+-- structure and unit are there, and the quantity is that of the unit
+pub record Led (s : List ℕ) (q : ℕ) : Type 0 where
+  pub two : 2 ≤ length s
+  pub quantity : q ≡ quantityOf (at s 1)
 
 -- the number that the bytes hold in binary, or what 12 says of it
 abbrev pub numbered : ℕ → List ℕ → Answer Value
 numbered unit b = refuse 12 (wrongBinary unit b) (reads (Binary (record { count = binaryOf b })))
+
+-- the number that digits are, or what 12 says of it
+abbrev pub digitsValued : ℕ → Signed → Answer Value
+digitsValued unit x = refuse 12 (x .wrong || x .falls && not (mayFall unit)) (reads (Number (record { count = x .count })))
+
+-- the value that the bytes hold in a structure below 8: a point in time, or a number in binary
+abbrev pub lowValued : ℕ → List ℕ → Answer Value
+lowValued unit b = cond (isTime unit) (refuse 13 (wrongMoment b) (reads (Time (momentOf b)))) (numbered unit b)
 
 -- the value that the bytes hold, or what 12 and 13 say of it
 abbrev pub valued : ℕ → ℕ → List ℕ → Answer Value
@@ -61,3 +72,8 @@ nextOf s marks = follow (tried s) (unseen marks)
 abbrev pub triedShown : Answer Taken → Tried
 triedShown (refusal n) = Tried.Refused n
 triedShown (reads t) = Tried.Passed (t .quantity) (t .width) (t .entry)
+
+-- An entry with its value, or what the value is refused by.
+abbrev pub withValue : ℕ → ℕ → ℕ → ℕ → Valued → Tried
+withValue st unit q w (Valued.Refused n) = Tried.Refused n
+withValue st unit q w (Valued.Holds v) = Tried.Passed q w (record { structure = st; unit = unit; value = v })

@@ -1,13 +1,15 @@
 // One entry: what 11 to 14 say of it.
 ghost use mathlib.Core.Path.{_≡_};
 ghost use mathlib.Core.Bool.{not, _&&_, _||_};
-ghost use Prim.Native.Nat.{_≤_};
+ghost use Prim.Native.Nat.{_≤_, _<_};
 ghost use lib.ListN.{length};
 ghost use Rattle.mbus_rules.specs.Entries.{mayFall};
-ghost use Rattle.mbus_entries.specs.Trying.{Long, numbered, valued, valuedShown, tried, triedShown, nextOf};
+ghost use Rattle.mbus_rules.specs.Lists.{at};
+ghost use Rattle.mbus_entries.specs.Trying.{Long, Led, numbered, lowValued, digitsValued, valuedShown, withValue, tried, triedShown, nextOf};
 use mbus_fields::binary::coded_of;
 use mbus_fields::digits::Signed;
-use mbus_fields::digits::signed_of;
+use mbus_fields::digits::digits_at;
+use mbus_fields::digits::signed_in;
 use mbus_fields::moments::timed_of;
 use mbus_fields::quantities::goes_with;
 use mbus_fields::quantities::low_width;
@@ -17,6 +19,7 @@ use mbus_rules::Decimal;
 use mbus_rules::Entry;
 use mbus_rules::Value;
 use mbus_rules::Whole;
+use mbus_telegrams::table::TIME;
 use mbus_telegrams::table::UNIT_OF_TIME;
 
 // The value of an entry, or what it is refused by.
@@ -57,24 +60,26 @@ fn wrong_number(unit: u8, number: Signed) -> bool
     number.wrong
 }
 
-// The value that the bytes hold, or what 12 and 13 say of it.
-fn value_of(structure: u8, unit: u8, value: &[u8]) -> Valued
-    requires { ⌜ Long structure unit (now value) ⌝ }
-    ensures { λ r. ⌜ r ≡ valuedShown (valued structure unit (now (value .entry))) ⌝ }
+// The value that the bytes hold in a structure below 8, which is binary or a point in time, or what 12 and 13 say of it.
+fn low_value(unit: u8, value: &[u8]) -> Valued
+    requires { ⌜ Long unit (now value) ⌝ }
+    ensures { λ r. ⌜ r ≡ valuedShown (lowValued unit (now (value .entry))) ⌝ }
 {
-    // a structure below 8 is binary or a point in time
-    if structure < 8 {
-        if unit == UNIT_OF_TIME {
-            let time = timed_of(&value[..6]);
-            if time.wrong {
-                return Valued::Refused(13);
-            }
-            let moment = time.moment;
-            return Valued::Holds(Value::Time(moment));
+    if unit == UNIT_OF_TIME {
+        let time = timed_of(&value[..6]);
+        if time.wrong {
+            return Valued::Refused(13);
         }
-        return binary_value(unit, value);
+        let moment = time.moment;
+        return Valued::Holds(Value::Time(moment));
     }
-    let number = signed_of(value);
+    binary_value(unit, value)
+}
+
+// The number that digits are, or what 12 says of it.
+fn digits_value(unit: u8, number: Signed) -> Valued
+    ensures { λ r. ⌜ r ≡ valuedShown (digitsValued unit number) ⌝ }
+{
     let wrong = wrong_number(unit, number);
     if wrong {
         return Valued::Refused(12);
@@ -84,22 +89,10 @@ fn value_of(structure: u8, unit: u8, value: &[u8]) -> Valued
     }))
 }
 
-// The entry that the rest begins with, or what 11, 12 and 13 say of it.
-pub fn try_entry(rest: &[u8]) -> Tried
-    ensures { λ r. ⌜ r ≡ triedShown (tried (now (rest .entry))) ⌝ }
+// The entry with its value, or what the value is refused by.
+fn entry_with(structure: u8, unit: u8, quantity: u8, width: usize, value: Valued) -> Tried
+    ensures { λ r. ⌜ r ≡ withValue structure unit quantity width value ⌝ }
 {
-    if rest.len() < 2 {
-        return Tried::Refused(11);
-    }
-    let structure = rest[0];
-    let unit = rest[1];
-    let quantity = quantity_of(unit);
-    let paired = goes_with(structure, quantity);
-    let width = low_width(structure);
-    if !paired | (rest.len() < 2 + width) {
-        return Tried::Refused(11);
-    }
-    let value = value_of(structure, unit, &rest[2..2 + width]);
     match value {
         Valued::Refused(n) => Tried::Refused(n),
         Valued::Holds(v) => Tried::Passed(
@@ -112,6 +105,53 @@ pub fn try_entry(rest: &[u8]) -> Tried
             },
         ),
     }
+}
+
+// The entry that the rest begins with, where its structure is below 8.
+fn try_low(rest: &[u8], quantity: u8) -> Tried
+    requires { ⌜ Led (now rest) quantity × (at (now rest) 0 < 8) ⌝ }
+    ensures { λ r. ⌜ r ≡ triedShown (tried (now (rest .entry))) ⌝ }
+{
+    let structure = rest[0];
+    let unit = rest[1];
+    let paired = goes_with(structure, quantity);
+    let width = low_width(structure);
+    if !paired | (rest.len() < 2 + width) {
+        return Tried::Refused(11);
+    }
+    let value = low_value(unit, &rest[2..2 + width]);
+    entry_with(structure, unit, quantity, width, value)
+}
+
+// The same from 8 on, where a structure is one of digits.
+fn try_digits(rest: &[u8], quantity: u8) -> Tried
+    requires { ⌜ Led (now rest) quantity × (8 ≤ at (now rest) 0) ⌝ }
+    ensures { λ r. ⌜ r ≡ triedShown (tried (now (rest .entry))) ⌝ }
+{
+    let structure = rest[0];
+    let unit = rest[1];
+    let wide = digits_at(structure, rest);
+    if (wide.width == 0) | (TIME <= quantity) {
+        return Tried::Refused(11);
+    }
+    let number = signed_in(wide.word, wide.width);
+    let value = digits_value(unit, number);
+    entry_with(structure, unit, quantity, wide.width, value)
+}
+
+// The entry that the rest begins with, or what 11, 12 and 13 say of it.
+pub fn try_entry(rest: &[u8]) -> Tried
+    ensures { λ r. ⌜ r ≡ triedShown (tried (now (rest .entry))) ⌝ }
+{
+    if rest.len() < 2 {
+        return Tried::Refused(11);
+    }
+    let structure = rest[0];
+    let quantity = quantity_of(rest[1]);
+    if structure < 8 {
+        return try_low(rest, quantity);
+    }
+    try_digits(rest, quantity)
 }
 
 // The entry that the rest begins with, after entries whose quantities are marked, or what it is refused by.

@@ -1,18 +1,20 @@
 -- The fields of a data telegram as they are read: packed digits and the point in time, each with whether its rule is broken; binary; and a pair.
-use Prim.Native.Nat.{ℕ, zero, suc, _-_, _*_, _%_}
+use Prim.Native.Nat.{ℕ, zero, suc, _+_, _-_, _*_, _%_, min}
 use mathlib.Core.Bool.{Bool, true, false, cond, _&&_, _||_}
 use mathlib.Core.List.{List}
 use lib.Dec.{ltb, leb, eqb}
 use lib.IntN.{pos, negℤ}
+use lib.ListN.{length, take, drop}
 use Rattle.mbus_rules.specs.Lists.{any}
 use Rattle.mbus_rules.specs.Digits.{overNine, digitsOf}
 use Rattle.mbus_rules.specs.Signs.{minus, signedOf, wrongSigned}
 use Rattle.mbus_rules.specs.Binary.{negative, binaryOf}
 use Rattle.mbus_rules.specs.Moments.{wrongMoment, momentOf}
-use Rattle.mbus_rules.specs.Quantities.{isPacked, isBinary, time, unknown}
-use Rattle.bytes_numbers.specs.Numbers.{bytesOf}
+use Rattle.mbus_rules.specs.Quantities.{isPacked, isBinary, widthOf, time, unknown}
+use Rattle.bytes_numbers.specs.Numbers.{number, bytesOf}
 use Rattle.mbus_fields.specs.declared.digits.Packed.{Packed}
 use Rattle.mbus_fields.specs.declared.digits.Signed.{Signed}
+use Rattle.mbus_fields.specs.declared.digits.Wide.{Wide}
 use Rattle.mbus_fields.specs.declared.binary.Coded.{Coded}
 use Rattle.mbus_fields.specs.declared.moments.Timed.{Timed}
 
@@ -38,6 +40,18 @@ signOn false size = record { wrong = size .wrong; falls = false; count = pos (si
 -- what a word holds: a sign where it reaches the mark, and the digits of what is left without it
 abbrev pub markedIn : ℕ → ℕ → Signed
 markedIn mark word = signOn (leb mark word) (packedOf (bytesOf 8 (cond (leb mark word) (word - mark) word)))
+
+-- what a word of so many bytes holds: a sign is looked for only where a digit is over nine
+abbrev pub signedBy : ℕ → ℕ → Signed
+signedBy width word = cond (any overNine (bytesOf 8 word)) (markedIn (markOf (min width 8)) word) (signOn false (packedOf (bytesOf 8 word)))
+
+-- the value of so many bytes behind structure and unit, as a word; past the end there is none
+abbrev pub wideBy : ℕ → List ℕ → Wide
+wideBy width s = cond (ltb (length s) (2 + width)) (record { width = 0; word = 0 }) (record { width = width; word = number (take width (drop 2 s)) })
+
+-- 01, "Entry": the value of packed BCD that the structure says
+abbrev pub wideOf : ℕ → List ℕ → Wide
+wideOf st s = cond (isPacked st) (wideBy (widthOf st) s) (record { width = 0; word = 0 })
 
 -- 02, 2026-06: binary, and whether it is negative.
 abbrev pub codedOf : List ℕ → Coded

@@ -1,16 +1,19 @@
 // Packed digits.
 ghost use mathlib.Core.Path.{_≡_};
 ghost use mathlib.Core.Bool.{cond};
-ghost use Prim.Native.Nat.{_-_, _^_, _<_, min};
+ghost use Prim.Native.Nat.{_-_, _^_, _<_, _≤_, min};
 ghost use lib.Dec.{leb};
 ghost use lib.IntN.{pos, negℤ, natAbs};
 ghost use Rattle.mbus_rules.specs.Signs.{belowZero};
-ghost use lib.ListN.{take};
 ghost use Rattle.mbus_rules.specs.Lists.{any};
 ghost use Rattle.mbus_rules.specs.Digits.{overNine, digitsOf};
-ghost use Rattle.bytes_numbers.specs.Numbers.{number, bytesOf};
-ghost use Rattle.mbus_fields.specs.Fields.{packedOf, markOf, signOn, markedIn, signedIn};
+ghost use Rattle.bytes_numbers.specs.Numbers.{bytesOf};
+ghost use Rattle.mbus_fields.specs.Fields.{packedOf, markOf, signOn, markedIn, signedBy, wideBy, wideOf};
 use bytes_numbers::number_at;
+use mbus_telegrams::table::EIGHT_DIGITS;
+use mbus_telegrams::table::FOUR_DIGITS;
+use mbus_telegrams::table::SIX_DIGITS;
+use mbus_telegrams::table::TWELVE_DIGITS;
 
 // What packed digits hold: a digit is over nine, and the number that they are.
 pub struct Packed {
@@ -23,6 +26,12 @@ pub struct Signed {
     pub wrong: bool,
     pub falls: bool,
     pub count: i64,
+}
+
+// The width of a value and the word that its bytes are; of no value no width.
+pub struct Wide {
+    pub width: usize,
+    pub word: u64,
 }
 
 // The 4 and the 2 of each digit, and its 8.
@@ -44,24 +53,35 @@ fn over_nine(word: u64) -> bool
     0 < word & ((word & SIXES) + SIXES) & EIGHTS
 }
 
-// The first eight bytes as a word, no value has more. A width that the code names is read without a loop.
-fn word_of(value: &[u8]) -> u64
-    ensures { λ r. ⌜ r ≡ number (take 8 (now (value .entry))) ⌝ }
+// The value of so many bytes that stands behind structure and unit, if it is not past the end.
+fn wide_at(rest: &[u8], width: usize) -> Wide
+    requires { ⌜ width ≤ 8 ⌝ }
+    ensures { λ r. ⌜ r ≡ wideBy width (now (rest .entry)) ⌝ }
 {
-    let width = value.len();
-    if width == 4 {
-        return number_at(value, 0, 4);
+    if rest.len() < 2 + width {
+        return Wide { width: 0, word: 0 };
     }
-    if width == 2 {
-        return number_at(value, 0, 2);
+    let word = number_at(rest, 2, width);
+    Wide { width, word }
+}
+
+// The value of packed digits that stands behind structure and unit. A structure that the code names is read without a loop.
+pub fn digits_at(structure: u8, rest: &[u8]) -> Wide
+    ensures { λ r. ⌜ r ≡ wideOf structure (now (rest .entry)) ⌝ }
+{
+    if structure == EIGHT_DIGITS {
+        return wide_at(rest, 4);
     }
-    if width == 3 {
-        return number_at(value, 0, 3);
+    if structure == FOUR_DIGITS {
+        return wide_at(rest, 2);
     }
-    if width == 6 {
-        return number_at(value, 0, 6);
+    if structure == SIX_DIGITS {
+        return wide_at(rest, 3);
     }
-    number_at(value, 0, 8)
+    if structure == TWELVE_DIGITS {
+        return wide_at(rest, 6);
+    }
+    Wide { width: 0, word: 0 }
 }
 
 // The number whose digits the eight bytes are. Digits are joined by twos, fours and eights in the whole word at once: of each 16 in the
@@ -177,14 +197,13 @@ fn marked_of(word: u64, mark: u64) -> Signed
     sign_on(falls, size)
 }
 
-// What the first eight bytes hold as digits with a sign. A sign is looked for only where a digit is over nine.
-pub fn signed_of(value: &[u8]) -> Signed
-    ensures { λ r. ⌜ r ≡ signedIn (take 8 (now (value .entry))) ⌝ }
+// What a word of so many bytes holds as digits with a sign. A sign is looked for only where a digit is over nine.
+pub fn signed_in(word: u64, width: usize) -> Signed
+    ensures { λ r. ⌜ r ≡ signedBy width word ⌝ }
 {
-    let word = word_of(value);
     let plain = packed_in(word);
     if plain.wrong {
-        let mark = mark_of(value.len());
+        let mark = mark_of(width);
         return marked_of(word, mark);
     }
     sign_on(false, plain)

@@ -69,23 +69,26 @@ pub fn find_line(capture: &[u16]) -> Found
     'places: while place < capture.len() {
         let rest = &capture[place..];
         let length = allowed_at(rest);
-        if length <= rest.len() {
-            let mut sum: u8 = 0;
-            let mut i: usize = 0;
-            while i < length {
-                let c = rest[i];
-                if (511 < c) | counts_odd(c) {
-                    break;
-                }
-                let b = (c % 256) as u8;
-                bytes[i] = b;
-                sum = std::num::wrapping_add_u8(sum, b);
-                i += 1;
-                if i == length {
-                    let accepted = is_accepted(&bytes[..length], sum);
-                    if accepted {
-                        found = Found::At { place, length };
-                        break 'places;
+        // asked by itself, so that the back end leaves a place of noise at its first byte
+        if 0 < length {
+            if length <= rest.len() {
+                let mut sum: u8 = 0;
+                let mut i: usize = 0;
+                while i < length {
+                    let c = rest[i];
+                    if (511 < c) | counts_odd(c) {
+                        break;
+                    }
+                    let b = (c % 256) as u8;
+                    bytes[i] = b;
+                    sum = std::num::wrapping_add_u8(sum, b);
+                    i += 1;
+                    if i == length {
+                        let accepted = is_accepted(&bytes[..length], sum);
+                        if accepted {
+                            found = Found::At { place, length };
+                            break 'places;
+                        }
                     }
                 }
             }

@@ -48,6 +48,10 @@ meterHead last own mode = bytesOf 8 last ++ (own ∷ modeNumber mode ∷ methodO
 abbrev pub coreWords : Core → List ℕ
 coreWords c = sinceOf (c .mode) ∷ c .used .volume ∷ c .used .energy ∷ c .verified .volume ∷ c .verified .energy ∷ []
 
+-- all but the template
+abbrev pub meterFront : Meter → List ℕ
+meterFront m = recordOf (meterHead (m .last .0) (m .core .address) (m .core .mode)) (coreWords (m .core)) []
+
 unfoldable pub meterBytes : Meter → List ℕ
 meterBytes m = recordOf (meterHead (m .last .0) (m .core .address) (m .core .mode)) (coreWords (m .core)) (telegramBytes (m .core .template))
 

@@ -1,14 +1,16 @@
 // The record of a simulated meter: bytes of a fixed size, numbers low byte first.
 ghost use mathlib.Core.Path.{_≡_};
-ghost use lib.ListN.{length};
+ghost use lib.ListN.{length, drop};
 ghost use Rattle.mbus_rules.specs.Answers.{refusal};
 ghost use Rattle.mbus_rules.specs.Lines.{isMethod};
 ghost use Rattle.meter_steps.specs.Meters.{shownSetup};
 ghost use Rattle.host_records.specs.Recorded.{noRecord};
-ghost use Rattle.meter_record.specs.MeterRecords.{modeNumber, methodOf, sinceOf, meterHead, meterBytes, modeIn, meterIn, wrongMode, wrongPair};
-ghost use Rattle.meter_record.specs.MeterRecords.{unreached, recalled, meterFrom};
+ghost use Rattle.host_records.specs.Telegrams.{telegramBytes};
+ghost use Rattle.meter_record.specs.MeterRecords.{modeNumber, methodOf, sinceOf, meterHead, meterFront, meterBytes, modeIn, meterIn};
+ghost use Rattle.meter_record.specs.MeterRecords.{wrongMode, wrongPair, unreached, recalled, meterFrom};
 use bench_clock::Clock;
 use bytes_lent::is_same;
+use bytes_lent::lay;
 use bytes_numbers::bytes_of;
 use bytes_numbers::number_at;
 use bytes_numbers::put_record;
@@ -91,9 +93,9 @@ fn mode_of(core: Core) -> Mode
     core.mode
 }
 
-// The record of a meter.
-pub fn meter_bytes(m: Meter) -> [u8; 192]
-    ensures { λ r. ⌜ r ≡ meterBytes m ⌝ }
+// All of the record but the template.
+fn front_bytes(m: Meter) -> [u8; 56]
+    ensures { λ r. ⌜ r ≡ meterFront m ⌝ }
 {
     let mode = mode_of(m.core);
     let head = head_bytes(m.last.0, m.core.address, mode);
@@ -104,9 +106,20 @@ pub fn meter_bytes(m: Meter) -> [u8; 192]
         m.core.verified.volume,
         m.core.verified.energy,
     ];
+    let mut bytes = [0u8; 56];
+    put_record(&mut bytes, &head, &words, b"");
+    bytes
+}
+
+// The record of a meter.
+pub fn meter_bytes(m: Meter) -> [u8; 192]
+    ensures { λ r. ⌜ r ≡ meterBytes m ⌝ }
+{
+    let front = front_bytes(m);
     let template = telegram_bytes(m.core.template);
     let mut bytes = [0u8; 192];
-    put_record(&mut bytes, &head, &words, &template);
+    lay(&mut bytes, 0, &front);
+    lay(&mut bytes, 56, &template);
     bytes
 }
 
@@ -202,14 +215,15 @@ fn no_meter() -> Setup
     }
 }
 
-// The meter that the bytes and a template give, if they are its record and some history leads to it.
+// The meter that the bytes and a template give, if they are its record and some history leads to it. The template's own bytes were held
+// against it when it was taken, and are not again.
 fn recalled(b: &[u8], template: Telegram) -> Setup
-    requires { ⌜ length (now b) ≡ 192 ⌝ }
+    requires { ⌜ (length (now b) ≡ 192) × (telegramBytes template ≡ drop 56 (now b)) ⌝ }
     ensures { λ r. ⌜ r ≡ shownSetup (recalled (now (b .entry)) (meterIn (now (b .entry)) template)) ⌝ }
 {
     let meter = meter_in(b, template);
-    let again = meter_bytes(meter);
-    let same = is_same(b, &again);
+    let again = front_bytes(meter);
+    let same = is_same(&b[..56], &again);
     let other = !same;
     if other {
         return no_meter();

@@ -1,43 +1,48 @@
 -- What the tests and calls about one entry tell of it.
 use Prim.Native.Nat.{ℕ, _+_, _-_, _≤_, _<_}
-use mathlib.Core.Bool.{Bool, true, false, not, _&&_, _||_, false≢true}
+use mathlib.Core.Bool.{Bool, true, false, cond, not, _&&_, _||_, false≢true, true≢false, or-true, or-false, and-false}
 use mathlib.Core.List.{List, [], _∷_}
 use mathlib.Core.Path.{_≡_, refl, sym, ap, _∙_}
 use native.Mathlib.Nat.{add-sub-cancel-left}
 use native.Mathlib.Omega.{arith}
-use borrow.Author.Tests.{eqb-true, eq-eqb, ne-eqb, le-ltb, lt-ltb, ltb-false, not-false}
-use lib.Dec.{ltb, eqb}
+use borrow.Author.Tests.{eqb-true, eqb-false, eq-eqb, ne-eqb, le-ltb, lt-ltb, ltb-false, leb-true, leb-false, not-false}
+use lib.Dec.{ltb, leb, eqb}
 use lib.ListN.{length, getD, take, drop, length-take, length-drop}
 use Rattle.mbus_rules.specs.declared.Value.{Value}
 use Rattle.mbus_rules.specs.declared.Value.the-variants.{Number, Time, Binary}
 use Rattle.mbus_rules.specs.declared.Entry.{Entry}
 use Rattle.mbus_rules.specs.Lists.{at}
 use Rattle.mbus_rules.specs.Answers.{Answer, reads, refusal, refuse, within, follow}
-use Rattle.mbus_rules.specs.Quantities.{quantityOf, widthOf, paired, isTime, isPacked, isBinary, unknown}
+use Rattle.mbus_rules.specs.Quantities.{quantityOf, widthOf, paired, isTime, isPacked, isBinary, time, unknown}
 use Rattle.mbus_rules.specs.Moments.{wrongMoment}
-use Rattle.mbus_rules.specs.Entries.{mayFall, valueBytes, unfit, wrongBinary, wrongNumber}
+use Rattle.mbus_rules.specs.Entries.{mayFall, valueBytes, unfit, wrongBinary}
+use Rattle.mbus_rules.specs.Bytes.{Bytes}
+use Rattle.mbus_rules.proofs.Laws.ByteLaws.{bytes-take, bytes-drop}
 use Rattle.mbus_rules.proofs.Laws.LengthLaws.{width-most}
 use Rattle.mbus_rules.proofs.Laws.Tests.{by-test, neither, passed}
 use Rattle.mbus_rules.proofs.Laws.TestLaws.{every, not-refused, within-reads}
+use Rattle.mbus_rules.specs.Numbers.{number}
 use Rattle.mbus_fields.specs.declared.binary.Coded.{Coded}
 use Rattle.mbus_fields.specs.declared.digits.Signed.{Signed}
 use Rattle.mbus_fields.specs.declared.moments.Timed.{Timed}
-use Rattle.mbus_fields.specs.Fields.{signedIn, codedOf, timedOf, goesWith, lowWidth}
-use Rattle.mbus_fields.proofs.Laws.TableLaws.{goes-paired, low-width, low-most, quantity-few}
+use Rattle.mbus_fields.specs.declared.digits.Wide.{Wide}
+use Rattle.mbus_fields.specs.Fields.{signedBy, signedIn, codedOf, timedOf, goesWith, lowWidth, wideOf}
+use Rattle.mbus_fields.proofs.Laws.MarkLaws.{signed-by}
+use Rattle.mbus_fields.proofs.Laws.TableLaws.{time-quantity, goes-paired, low-width, low-most, quantity-few}
 use Rattle.mbus_entries.specs.declared.entry.Valued.{Valued}
 use Rattle.mbus_entries.specs.declared.entry.Tried.{Tried}
-use Rattle.mbus_entries.specs.Trying.{Long, numbered, valued, valuedShown, Taken, takenOf, tried, triedShown, unseen, nextOf}
+use Rattle.mbus_entries.specs.Trying.{Long, Led, numbered, lowValued, digitsValued, valued, valuedShown, withValue, Taken, takenOf, tried, triedShown, unseen, nextOf}
 
 -- ---- the value
 
-module _ (st : ℕ) {unit : ℕ} (b : List ℕ) {x : Timed} (u : unit ≡ 0x6D) (e : x ≡ timedOf b) where
+module _ {unit : ℕ} (b : List ℕ) {x : Timed} (u : unit ≡ 0x6D) (e : x ≡ timedOf b) where
   rule-time : {t : Bool} → x .wrong ≡ t → wrongMoment b ≡ t
   rule-time w = sym (ap (λ (y : Timed). y .wrong) e) ∙ w
 
-  pub time-refused : x .wrong ≡ true → Valued.Refused 13 ≡ valuedShown (valued st unit b)
+  pub time-refused : x .wrong ≡ true → Valued.Refused 13 ≡ valuedShown (lowValued unit b)
   time-refused w = rw (eq-eqb unit 0x6D u, rule-time w)
 
-  pub time-holds : x .wrong ≡ false → Valued.Holds (Time (x .moment)) ≡ valuedShown (valued st unit b)
+  pub time-holds : x .wrong ≡ false → Valued.Holds (Time (x .moment)) ≡ valuedShown (lowValued unit b)
   time-holds w = rw (eq-eqb unit 0x6D u, rule-time w, ap (λ (y : Timed). y .moment) e)
 
 -- a number in binary
@@ -51,19 +56,16 @@ module _ (unit : ℕ) (b : List ℕ) {x : Coded} {may : Bool} (e : x ≡ codedOf
   pub binary-holds : (x .falls && not may) ≡ false → Valued.Holds (Binary (record { count = x .count })) ≡ valuedShown (numbered unit b)
   binary-holds w = rw (rule-binary w, ap (λ (y : Coded). y .count) e)
 
-pub binary-valued : (st unit : ℕ) (b : List ℕ) → (unit ≡ 0x6D → ⊥) → isBinary st ≡ true → numbered unit b ≡ valued st unit b
-binary-valued st unit b u n = rw (ne-eqb unit 0x6D u, n)
+pub binary-low : (unit : ℕ) (b : List ℕ) → (unit ≡ 0x6D → ⊥) → numbered unit b ≡ lowValued unit b
+binary-low unit b u = rw (ne-eqb unit 0x6D u)
 
-module _ (st unit : ℕ) (b : List ℕ) {x : Signed} {w : Bool} (u : unit ≡ 0x6D → ⊥) (n : isBinary st ≡ false) (e : x ≡ signedIn b)
-    (f : w ≡ (x .wrong || x .falls && not (mayFall unit))) where
-  rule-number : wrongNumber st unit b ≡ w
-  rule-number = rw (ne-eqb unit 0x6D u, n) (sym (f ∙ ap (λ (y : Signed). y .wrong || y .falls && not (mayFall unit)) e))
+-- a number in digits
+module _ (unit : ℕ) (x : Signed) {w : Bool} (f : w ≡ (x .wrong || x .falls && not (mayFall unit))) where
+  pub digits-refused : w ≡ true → Valued.Refused 12 ≡ valuedShown (digitsValued unit x)
+  digits-refused t = rw (sym f ∙ t)
 
-  pub number-refused : w ≡ true → Valued.Refused 12 ≡ valuedShown (valued st unit b)
-  number-refused t = rw (rule-number, t)
-
-  pub number-holds : w ≡ false → Valued.Holds (Number (record { count = x .count })) ≡ valuedShown (valued st unit b)
-  number-holds t = rw (rule-number, t, ne-eqb unit 0x6D u, n, ap (λ (y : Signed). y .count) e)
+  pub digits-held : w ≡ false → Valued.Holds (Number (record { count = x .count })) ≡ valuedShown (digitsValued unit x)
+  digits-held t = rw (sym f ∙ t)
 
 value-refused : {n : ℕ} (a : Answer Value) → valuedShown a ≡ Valued.Refused n → a ≡ refusal n
 value-refused (refusal m) e = cc
@@ -77,55 +79,93 @@ pub valuedShown-same : (a b : Answer Value) → valuedShown a ≡ valuedShown b 
 valuedShown-same a (refusal n) e = value-refused a e
 valuedShown-same a (reads v) e = value-held a e
 
--- of the structures that go with a measured unit those below 8 are binary
-low-coded : (st : ℕ) → (isPacked st || isBinary st) ≡ true → ltb st 8 ≡ isBinary st
-low-coded st e =
-    by-test (isPacked st) (λ p. packed p) λ p. by-test (isBinary st) (λ b. binary b) λ b. absurd (false≢true (rw (p, b) at e))
+-- ---- the structure
+
+-- the structures of digits stand from 8 on, and those of binary below
+packed-each : (P : ℕ → Type 0) → P 0x0A → P 0x0B → P 0x0C → P 0x0E → (st : ℕ) → isPacked st ≡ true → P st
+packed-each P pa pb pc pe st p =
+    by-test (eqb st 0x0A) (is 0x0A pa) λ a.
+    by-test (eqb st 0x0B) (is 0x0B pb) λ b.
+    by-test (eqb st 0x0C) (is 0x0C pc) λ c.
+    by-test (eqb st 0x0E) (is 0x0E pe) λ d. absurd (false≢true (rw (a, b, c, d) at p))
   where
-    is : (k : ℕ) → ltb k 8 ≡ isBinary k → eqb st k ≡ true → ltb st 8 ≡ isBinary st
+    is : (k : ℕ) → P k → eqb st k ≡ true → P st
     is k so h = rw (eqb-true st k h) so
 
-    packed : isPacked st ≡ true → ltb st 8 ≡ isBinary st
-    packed p =
-        by-test (eqb st 0x0A) (is 0x0A refl) λ a.
-        by-test (eqb st 0x0B) (is 0x0B refl) λ b.
-        by-test (eqb st 0x0C) (is 0x0C refl) λ c.
-        by-test (eqb st 0x0E) (is 0x0E refl) λ d. absurd (false≢true (rw (a, b, c, d) at p))
+low-packed : (st : ℕ) → st < 8 → isPacked st ≡ false
+low-packed st h = rw (ne-eqb st 0x0A (λ e. omega arith), ne-eqb st 0x0B (λ e. omega arith), ne-eqb st 0x0C (λ e. omega arith), ne-eqb st 0x0E (λ e. omega arith))
 
-    binary : isBinary st ≡ true → ltb st 8 ≡ isBinary st
-    binary p =
-        by-test (eqb st 0x01) (is 0x01 refl) λ a.
-        by-test (eqb st 0x02) (is 0x02 refl) λ b.
-        by-test (eqb st 0x03) (is 0x03 refl) λ c.
-        by-test (eqb st 0x04) (is 0x04 refl) λ d.
-        by-test (eqb st 0x06) (is 0x06 refl) λ f.
-        by-test (eqb st 0x07) (is 0x07 refl) λ g. absurd (false≢true (rw (a, b, c, d, f, g) at p))
+high-binary : (st : ℕ) → 8 ≤ st → isBinary st ≡ false
+high-binary st h = rw (
+  ne-eqb st 0x01 (λ e. omega arith),
+  ne-eqb st 0x02 (λ e. omega arith),
+  ne-eqb st 0x03 (λ e. omega arith),
+  ne-eqb st 0x04 (λ e. omega arith),
+  ne-eqb st 0x06 (λ e. omega arith),
+  ne-eqb st 0x07 (λ e. omega arith),
+)
 
-told-coded : (st u : ℕ) → paired st u ≡ true → isTime u ≡ false → ltb st 8 ≡ isBinary st
+packed-wide : (st : ℕ) → isPacked st ≡ true → eqb (widthOf st) 0 ≡ false
+unfolding widthOf
+packed-wide st p = packed-each (λ (k : ℕ). eqb (widthOf k) 0 ≡ false) refl refl refl refl st p
+
+-- what a structure below 8 is paired with is a point in time or binary
+low-valued : (st unit : ℕ) (b : List ℕ) → st < 8 → paired st unit ≡ true → lowValued unit b ≡ valued st unit b
 unfolding paired
-told-coded st u e i = low-coded st (every (isPacked st || isBinary st) (ltb (quantityOf u) unknown ∷ []) (rw i at e) .0)
+low-valued st unit b h p =
+    by-test (isTime unit) (λ i. rw i) λ i.
+    rw (i, every (isBinary st) (ltb (quantityOf unit) unknown ∷ []) (rw (i, low-packed st h) at p) .0)
+
+-- and from 8 on digits
+high-valued : (st unit : ℕ) (b : List ℕ) → 8 ≤ st → isTime unit ≡ false → digitsValued unit (signedIn b) ≡ valued st unit b
+high-valued st unit b h i = rw (i, high-binary st h)
+
+known-row : (q : ℕ) → eqb q time ≡ false → ltb q unknown ≡ not (leb time q)
+known-row q n =
+    by-test (leb time q) (λ t. rw t (le-ltb q unknown (omega (arith, leb-true time q t, eqb-false q time n))))
+    (λ t. rw t (lt-ltb q unknown (omega (arith, leb-false time q t))))
+
+high-paired : (st u : ℕ) → 8 ≤ st → paired st u ≡ (isPacked st && not (leb time (quantityOf u)))
+unfolding paired
+high-paired st u h =
+    by-test (isTime u)
+    (λ i. rw (i, ne-eqb st 0x06 (λ e. omega arith), eqb-true (quantityOf u) time (time-quantity u ∙ i)) (sym (and-false (isPacked st))))
+    (λ i. rw (i, high-binary st h, or-false, known-row (quantityOf u) (time-quantity u ∙ i)))
 
 -- ---- the entry
 
 pub one-left : (s : List ℕ) → length s < 2 → Tried.Refused 11 ≡ triedShown (tried s)
 one-left s h = rw (lt-ltb (length s) 2 h)
 
--- what was read of an entry of two bytes or more
+-- an entry with its value
+shown-within : (s : List ℕ) (a : Answer Value)
+    → withValue (at s 0) (at s 1) (quantityOf (at s 1)) (widthOf (at s 0)) (valuedShown a) ≡ triedShown (within (takenOf s) a)
+shown-within s (refusal n) = refl
+shown-within s (reads v) = refl
+
+module _ {s : List ℕ} {q w : ℕ} {x : Valued} (l : Led s q) (f : unfit s ≡ false) (e : w ≡ widthOf (at s 0))
+    (h : x ≡ valuedShown (valued (at s 0) (at s 1) (valueBytes s))) where
+  led-tried : withValue (at s 0) (at s 1) q w x ≡ triedShown (tried s)
+  led-tried = (λ i. withValue (at s 0) (at s 1) (l .quantity i) (e i) (h i))
+      ∙ shown-within s (valued (at s 0) (at s 1) (valueBytes s))
+      ∙ sym (ap (λ (r : Bool). triedShown (refuse 11 r (within (takenOf s) (valued (at s 0) (at s 1) (valueBytes s))))) f)
+
+-- what was read of an entry whose structure is below 8
 pub record Told (s : List ℕ) (q w : ℕ) (p : Bool) : Type 0 where
-  pub two : 2 ≤ length s
-  pub quantity : q ≡ quantityOf (at s 1)
+  pub led : Led s q
+  pub below : at s 0 < 8
   pub width : w ≡ lowWidth (at s 0)
   pub pair : p ≡ goesWith (at s 0) q
 
 module _ {s : List ℕ} {q w : ℕ} {p : Bool} (t : Told s q w p) where
   paired-told : paired (at s 0) (at s 1) ≡ p
-  paired-told = sym (t .pair ∙ ap (goesWith (at s 0)) (t .quantity) ∙ goes-paired (at s 0) (at s 1))
+  paired-told = sym (t .pair ∙ ap (goesWith (at s 0)) (t .led .quantity) ∙ goes-paired (at s 0) (at s 1))
 
   told-width : p ≡ true → w ≡ widthOf (at s 0)
   told-width e = t .width ∙ low-width (at s 0) q (sym (t .pair) ∙ e)
 
   unfit-told : unfit s ≡ (not p || ltb (length s) (2 + w))
-  unfit-told = rw (le-ltb (length s) 2 (t .two), paired-told) (by-test p (λ e. rw (e, told-width e)) (λ e. rw e))
+  unfit-told = rw (le-ltb (length s) 2 (t .led .two), paired-told) (by-test p (λ e. rw (e, told-width e)) (λ e. rw e))
 
   pub told-unfit : (not p || ltb (length s) (2 + w)) ≡ true → Tried.Refused 11 ≡ triedShown (tried s)
   told-unfit e = rw (unfit-told ∙ e)
@@ -153,37 +193,73 @@ module _ {s : List ℕ} {q w : ℕ} {p : Bool} (t : Told s q w p) where
         let pair : paired (at s 0) (at s 1) ≡ true = paired-told ∙ fit-pair in
         fit-width ∙ ap widthOf (eqb-true (at s 0) 0x06 (rw i at pair))
 
-    time-low : isTime (at s 1) ≡ true → at s 0 < 8
-    unfolding paired
-    time-low i =
-        let pair : paired (at s 0) (at s 1) ≡ true = paired-told ∙ fit-pair in
-        let six : at s 0 ≡ 0x06 = eqb-true (at s 0) 0x06 (rw i at pair) in
-        omega arith
-
-    pub told-long : Long (at s 0) (at s 1) (take (2 + w - 2) (drop 2 s))
+    pub told-long : Long (at s 1) (take (2 + w - 2) (drop 2 s))
     told-long = record {
       most = omega (arith, fit-width, width-most (at s 0), length-take (2 + w - 2) (drop 2 s));
       time = λ i. omega (arith, time-wide i, told-inside, length-take (2 + w - 2) (drop 2 s), length-drop 2 s);
-      low = λ i. time-low i;
-      coded = told-coded (at s 0) (at s 1) (paired-told ∙ fit-pair);
     }
 
-    module _ {x : Valued} (e : x ≡ valuedShown (valued (at s 0) (at s 1) (take (2 + w - 2) (drop 2 s)))) where
-      told-value : valuedShown (valued (at s 0) (at s 1) (valueBytes s)) ≡ x
-      told-value = sym (e ∙ ap (λ (b : List ℕ). valuedShown (valued (at s 0) (at s 1) b)) cut)
+    pub told-tried : {x : Valued} → x ≡ valuedShown (lowValued (at s 1) (take (2 + w - 2) (drop 2 s)))
+        → withValue (at s 0) (at s 1) q w x ≡ triedShown (tried s)
+    told-tried e =
+        led-tried (t .led) (unfit-told ∙ f) fit-width
+        (e ∙ ap (λ (b : List ℕ). valuedShown (lowValued (at s 1) b)) cut
+        ∙ ap valuedShown (low-valued (at s 0) (at s 1) (valueBytes s) (t .below) (paired-told ∙ fit-pair)))
 
-      tried-is : tried s ≡ within (takenOf s) (valued (at s 0) (at s 1) (valueBytes s))
-      tried-is = ap (λ (r : Bool). refuse 11 r (within (takenOf s) (valued (at s 0) (at s 1) (valueBytes s)))) (unfit-told ∙ f)
+-- what was read of an entry whose structure is 8 or more
+wide-test : (a b g : Bool) (w : ℕ) → (a ≡ true → eqb w 0 ≡ false) → (not (a && not g) || b) ≡ (eqb (cond a (cond b 0 w) 0) 0 || g)
+wide-test false b g w h = refl
+wide-test true true g w h = or-true (not (not g))
+wide-test true false true w h = rw (h refl)
+wide-test true false false w h = rw (h refl)
 
-      pub told-refused : {n : ℕ} → x ≡ Valued.Refused n → Tried.Refused n ≡ triedShown (tried s)
-      told-refused {n} h =
-          sym (ap triedShown (tried-is ∙ ap (within (takenOf s)) (value-refused (valued (at s 0) (at s 1) (valueBytes s)) (told-value ∙ h))))
+module _ {s : List ℕ} {q : ℕ} {x : Wide} (l : Led s q) (h : 8 ≤ at s 0) (e : x ≡ wideOf (at s 0) s) where
+  wide-width : x .width ≡ cond (isPacked (at s 0)) (cond (ltb (length s) (2 + widthOf (at s 0))) 0 (widthOf (at s 0))) 0
+  wide-width =
+      by-test (isPacked (at s 0)) (λ a. by-test (ltb (length s) (2 + widthOf (at s 0))) (λ b. rw (e, a, b)) (λ b. rw (e, a, b))) (λ a. rw (e, a))
 
-      pub told-passed : {v : Value} → x ≡ Valued.Holds v
-          → Tried.Passed q w (record { structure = at s 0; unit = at s 1; value = v }) ≡ triedShown (tried s)
-      told-passed {v} h =
-          (λ i. Tried.Passed (t .quantity i) (fit-width i) (record { structure = at s 0; unit = at s 1; value = v }))
-          ∙ sym (ap triedShown (tried-is ∙ ap (within (takenOf s)) (value-held (valued (at s 0) (at s 1) (valueBytes s)) (told-value ∙ h))))
+  unfit-wide : unfit s ≡ (eqb (x .width) 0 || leb time q)
+  unfit-wide =
+      rw (le-ltb (length s) 2 (l .two), high-paired (at s 0) (at s 1) h, wide-width, l .quantity)
+      (wide-test (isPacked (at s 0)) (ltb (length s) (2 + widthOf (at s 0))) (leb time (quantityOf (at s 1))) (widthOf (at s 0)) (packed-wide (at s 0)))
+
+  pub wide-unfit : (eqb (x .width) 0 || leb time q) ≡ true → Tried.Refused 11 ≡ triedShown (tried s)
+  wide-unfit f = rw (unfit-wide ∙ f)
+
+  -- 11 has let the entry pass
+  module _ (f : (eqb (x .width) 0 || leb time q) ≡ false) where
+    fit-wide : (isPacked (at s 0) ≡ true) × (ltb (length s) (2 + widthOf (at s 0)) ≡ false)
+    fit-wide =
+        by-test (isPacked (at s 0))
+        (λ a. by-test (ltb (length s) (2 + widthOf (at s 0))) (λ b. absurd (none (rw (a, b) at wide-width))) (λ b. (a, b)))
+        (λ a. absurd (none (rw a at wide-width)))
+      where
+        none : x .width ≡ 0 → ⊥
+        none z = true≢false (rw z at f)
+
+    wide-so : x ≡ record { width = widthOf (at s 0); word = number (valueBytes s) }
+    wide-so = rw (fit-wide .0, fit-wide .1) at e
+
+    no-time : isTime (at s 1) ≡ false
+    no-time = by-test (isTime (at s 1)) (λ i. absurd (true≢false (rw (row i) at (neither (eqb (x .width) 0) (leb time q) f .1)))) (λ i. i)
+      where
+        row : isTime (at s 1) ≡ true → q ≡ time
+        row i = l .quantity ∙ eqb-true (quantityOf (at s 1)) time (time-quantity (at s 1) ∙ i)
+
+    module _ (known : Bytes s) {n : Signed} (en : n ≡ signedBy (x .width) (x .word)) where
+      told-signed : n ≡ signedIn (valueBytes s)
+      told-signed =
+          let inside : 2 + widthOf (at s 0) ≤ length s = ltb-false (length s) (2 + widthOf (at s 0)) (fit-wide .1) in
+          let wide : length (valueBytes s) ≡ widthOf (at s 0) = omega (arith, length-take (widthOf (at s 0)) (drop 2 s), length-drop 2 s) in
+          en ∙ (λ i. signedBy (wide-so i .width) (wide-so i .word))
+          ∙ ap (λ (k : ℕ). signedBy k (number (valueBytes s))) (sym wide)
+          ∙ signed-by (valueBytes s) (bytes-take (widthOf (at s 0)) (drop 2 s) (bytes-drop 2 s known)) (omega (arith, width-most (at s 0)))
+
+      pub wide-tried : {v : Valued} → v ≡ valuedShown (digitsValued (at s 1) n) → withValue (at s 0) (at s 1) q (x .width) v ≡ triedShown (tried s)
+      wide-tried ev =
+          led-tried l (unfit-wide ∙ f) (ap (λ (y : Wide). y .width) wide-so)
+          (ev ∙ ap (λ (m : Signed). valuedShown (digitsValued (at s 1) m)) told-signed
+          ∙ ap valuedShown (high-valued (at s 0) (at s 1) (valueBytes s) h no-time))
 
 -- ---- the next entry
 

@@ -7,7 +7,6 @@ use native.Mathlib.Nat.{pow-suc, le-trans, pow-le-pow-right, mul-le-mul-left}
 use native.Mathlib.Omega.{arith}
 use lib.Dec.{lit<}
 use lib.ListN.{length, take, length-take}
-use lib.Seq.{take-all}
 use Rattle.mbus_rules.specs.Lists.{at, any}
 use Rattle.mbus_rules.specs.Bytes.{Bytes}
 use Rattle.mbus_rules.proofs.Laws.ByteLaws.{bytes-each, bytes-take}
@@ -16,10 +15,6 @@ use Rattle.bytes_numbers.specs.Numbers.{number, bytesOf}
 use Rattle.mbus_fields.specs.Fields.{packedOf}
 
 -- ---- the word
-
--- the first bytes of a list that has no more
-pub whole-word : (k : ℕ) (s : List ℕ) → length s ≤ k → length s ≤ 8 → number (take k s) ≡ number (take 8 s)
-whole-word k s h e = ap number (take-all k s h ∙ sym (take-all 8 s e))
 
 no-digits : (k : ℕ) → any overNine (bytesOf k 0) ≡ false
 unfolding any bytesOf

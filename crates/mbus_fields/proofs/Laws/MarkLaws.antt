@@ -1,6 +1,6 @@
 -- F in the highest place of bytes that were gathered in a word: the word reaches the mark of their number, and without it is their size.
-use Prim.Native.Nat.{ℕ, _+_, _-_, _*_, _/_, _%_, _^_, _≤_, _<_}
-use mathlib.Core.Bool.{true, false, cond}
+use Prim.Native.Nat.{ℕ, _+_, _-_, _*_, _/_, _%_, _^_, _≤_, _<_, min}
+use mathlib.Core.Bool.{Bool, true, false, cond}
 use mathlib.Core.List.{List, [], _∷_}
 use mathlib.Core.Path.{_≡_, refl, sym, ap, _∙_}
 use native.Mathlib.Omega.{arith}
@@ -8,7 +8,8 @@ use borrow.Author.Tests.{eqb-true, eqb-false, leb-true, leb-false, le-leb, lt-le
 use lib.Dec.{leb, eqb}
 use lib.ListN.{length}
 use Rattle.mbus_rules.specs.Bytes.{Bytes}
-use Rattle.mbus_rules.specs.Digits.{digitsOf}
+use Rattle.mbus_rules.specs.Lists.{any}
+use Rattle.mbus_rules.specs.Digits.{overNine, digitsOf}
 use Rattle.mbus_rules.specs.Signs.{minus, sizeBytes}
 use Rattle.mbus_rules.proofs.Laws.Tests.{by-test}
 use Rattle.mbus_rules.proofs.Laws.SignLaws.{size-length, plain}
@@ -16,7 +17,8 @@ use Rattle.mbus_rules.proofs.Laws.NumberLaws.{bytes-bytes}
 use Rattle.bytes_numbers.specs.Numbers.{number, bytesOf}
 use Rattle.bytes_numbers.proofs.Laws.Numbers.{length-bytes}
 use Rattle.mbus_fields.specs.declared.digits.Packed.{Packed}
-use Rattle.mbus_fields.specs.Fields.{packedOf, markOf, signOn, markedIn, signedIn}
+use Rattle.mbus_fields.specs.declared.digits.Signed.{Signed}
+use Rattle.mbus_fields.specs.Fields.{packedOf, markOf, signOn, markedIn, signedBy, signedIn}
 use Rattle.mbus_fields.proofs.Laws.GatherLaws.{word-whole, digits-most}
 
 one-byte : (b : ℕ) → b < 256 → eqb (b / 16) 0xF ≡ leb 0xF0 (b + 256 * 0)
@@ -68,7 +70,7 @@ word-small n =
     omega arith
 
 -- the sign, and the digits of the word without its mark, are what the bytes hold
-pub signed-word : (b : List ℕ) → Bytes b → length b ≤ 8 → markedIn (markOf (length b)) (number b) ≡ signedIn b
+signed-word : (b : List ℕ) → Bytes b → length b ≤ 8 → markedIn (markOf (length b)) (number b) ≡ signedIn b
 signed-word b h l =
     by-test (minus b)
     (λ m. rw (sym (minus-word b h) ∙ m, m, mark-off b h m)
@@ -76,9 +78,21 @@ signed-word b h l =
     (λ m. rw (sym (minus-word b h) ∙ m, m) (ap (signOn false) (word-whole b h l)))
 
 -- and where no digit of the word is over nine, its digits alone
-pub plain-word : (b : List ℕ) → Bytes b → length b ≤ 8 → {p : Packed} → p ≡ packedOf (bytesOf 8 (number b)) → p .wrong ≡ false
+plain-word : (b : List ℕ) → Bytes b → length b ≤ 8 → {p : Packed} → p ≡ packedOf (bytesOf 8 (number b)) → p .wrong ≡ false
     → signOn false p ≡ signedIn b
 plain-word b h l e w =
     let so = e ∙ word-whole b h l in
     let m : minus b ≡ false = plain b (sym (ap (λ (x : Packed). x .wrong) so) ∙ w) in
     rw m (ap (signOn false) so)
+
+-- so the word of bytes holds what they hold
+pub signed-by : (b : List ℕ) → Bytes b → length b ≤ 8 → signedBy (length b) (number b) ≡ signedIn b
+signed-by b h l =
+    by-test (any overNine (bytesOf 8 (number b))) (λ t. ap by t ∙ ap (λ (k : ℕ). markedIn (markOf k) (number b)) least ∙ signed-word b h l)
+    (λ t. ap by t ∙ plain-word b h l refl t)
+  where
+    by : Bool → Signed
+    by t = cond t (markedIn (markOf (min (length b) 8)) (number b)) (signOn false (packedOf (bytesOf 8 (number b))))
+
+    least : min (length b) 8 ≡ length b
+    least = omega arith

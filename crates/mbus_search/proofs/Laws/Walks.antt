@@ -236,6 +236,6 @@ module _ {rest : List ℕ} {length i : ℕ} {found : Found} {low : List ℕ} {su
   pub walked-unsound : {isOdd : Bool} → isOdd ≡ odd (at rest i) → (over (at rest i) || isOdd) ≡ true → lengthHere rest ≡ refusal 18
   walked-unsound o e = unsound-none rest i (omega (arith, w .allowed)) (ap (λ (t : Bool). over (at rest i) || t) (sym o) ∙ e)
 
--- a length past the capture's end: no line begins here
-pub walked-long : (rest : List ℕ) {length : ℕ} → length ≡ allowedAt rest → ListN.length rest < length → lengthHere rest ≡ refusal 18
-walked-long rest e h = here-none rest (λ l p. absurd (omega arith))
+-- no length, or one past the capture's end: no line begins here
+pub walked-no : (rest : List ℕ) {length : ℕ} → length ≡ allowedAt rest → (0 < length → length ≤ ListN.length rest → ⊥) → lengthHere rest ≡ refusal 18
+walked-no rest e n = here-none rest (λ l p. absurd (n (omega arith) (omega arith)))

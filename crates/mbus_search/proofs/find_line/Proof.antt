@@ -13,7 +13,7 @@ use Rattle.mbus_rules.specs.Answers.{refusal}
 use Rattle.mbus_search.specs.declared.Found.the-variants.{Refused}
 use Rattle.mbus_search.specs.Searching.{lengthHere}
 use Rattle.mbus_search.proofs.Laws.Walks.{Searched, searched-none, searched-next, searched-all, searched-hit, Walked, walked-none, walked-next}
-use Rattle.mbus_search.proofs.Laws.Walks.{walked-room, walked-refused, walked-unsound, walked-hit, walked-long, walked-places}
+use Rattle.mbus_search.proofs.Laws.Walks.{walked-room, walked-refused, walked-unsound, walked-hit, walked-no, walked-places}
 use Rattle.mbus_search.proofs.find_line.Statement.{statement}
 use Rattle.mbus_search.proofs.find_line.Tie as tie
 
@@ -29,7 +29,7 @@ Inv-places capture found₀ bytes₀ place₀ found bytes place = Searched captu
 abbrev μ-places : tie.MeasureT-places
 μ-places capture found₀ bytes₀ place₀ found bytes place = ListN.length capture - place
 
--- the three ways past a place at which no line begins
+-- the four ways past a place at which no line begins
 none-yet : (c : tie.Joined1 Inv-loop μ-loop Inv-places μ-places)
     → (c .if1 .found ≡ Refused 18)
     × (lengthHere
@@ -37,21 +37,30 @@ none-yet : (c : tie.Joined1 Inv-loop μ-loop Inv-places μ-places)
     (drop (c .before .before .before .before .places .place) (now (c .before .before .before .before .before .before .args .capture)))) ≡ refusal 18)
     × (ListN.length (c .if1 .bytes) ≡ 261)
 none-yet c =
-    ⊎-elim (λ w. (w .3 ∙ w .1 .inv .nothing, w .1 .inv .none (w .2 .left), ap ListN.length (w .4) ∙ w .1 .inv .gathers .places))
+    ⊎-elim (λ w. (w .4 ∙ w .2 .inv .nothing, w .2 .inv .none (w .3 .left), ap ListN.length (w .5) ∙ w .2 .inv .gathers .places))
     (λ w. ⊎-elim
     (λ v. (
-      v .6 ∙ v .1 .inv .nothing,
-      walked-unsound (v .1 .inv) (v .2 .taken) (v .4 .ensures) (v .5 .taken),
-      ap ListN.length (v .7) ∙ v .1 .inv .gathers .places,
+      v .7 ∙ v .2 .inv .nothing,
+      walked-unsound (v .2 .inv) (v .3 .taken) (v .5 .ensures) (v .6 .taken),
+      ap ListN.length (v .8) ∙ v .2 .inv .gathers .places,
     ))
-    (λ v. (
-      v .1 ∙ c .before .before .before .before .places .inv .0 .nothing,
-      walked-long
+    (λ v. ⊎-elim
+    (λ x. (
+      x .2 ∙ c .before .before .before .before .places .inv .0 .nothing,
+      walked-no
           (take (ListN.length (now (c .before .before .before .before .before .before .args .capture)) - c .before .before .before .before .places .place)
           (drop (c .before .before .before .before .places .place) (now (c .before .before .before .before .before .before .args .capture))))
-          (c .before .allowed-at .ensures) (v .0 .left),
-      ap ListN.length (v .2) ∙ c .before .before .before .before .places .inv .1,
-    )) w)
+          (c .before .allowed-at .ensures) (λ p l. omega (arith, x .1 .left)),
+      ap ListN.length (x .3) ∙ c .before .before .before .before .places .inv .1,
+    ))
+    (λ x. (
+      x .1 ∙ c .before .before .before .before .places .inv .0 .nothing,
+      walked-no
+          (take (ListN.length (now (c .before .before .before .before .before .before .args .capture)) - c .before .before .before .before .places .place)
+          (drop (c .before .before .before .before .places .place) (now (c .before .before .before .before .before .before .args .capture))))
+          (c .before .allowed-at .ensures) (λ p l. omega (arith, x .0 .left)),
+      ap ListN.length (x .2) ∙ c .before .before .before .before .places .inv .1,
+    )) v) w)
     (c .if1 .came)
 
 places-holds : tie.Need-places-holds Inv-loop μ-loop Inv-places μ-places
@@ -73,8 +82,8 @@ allowed-at-requires : tie.Need-allowed-at-requires Inv-loop μ-loop Inv-places �
 allowed-at-requires c κs = search needs
 
 loop-holds : tie.Need-loop-holds Inv-loop μ-loop Inv-places μ-places
-loop-holds c = walked-none (c .before .allowed-at .ensures) (c .if1 .taken) (c .before .before .before .before .places .inv .0 .nothing)
-    (c .before .before .before .before .places .inv .1)
+loop-holds c = walked-none (c .before .before .allowed-at .ensures) (c .if2 .taken) (c .before .before .before .before .before .places .inv .0 .nothing)
+    (c .before .before .before .before .before .places .inv .1)
 
 mul-c : tie.Need-mul-c Inv-loop μ-loop Inv-places μ-places
 mul-c c = search needs
@@ -115,9 +124,9 @@ loop-again c =
     rw (c .before .before .before .before .wrapping-add-u8 .ensures)
     (walked-refused (c .before .before .before .before .before .before .before .before .before .loop .inv)
     (c .before .before .before .before .before .before .before .before .loop-test .taken) refl
-    (c .before .before .before .before .before .before .counts-odd .ensures) (c .before .before .before .before .before .if2 .left)
-    (c .before .before .before .if3 .taken)
-    (rw (c .before .before .before .before .wrapping-add-u8 .ensures) at (c .before .is-accepted .ensures)) (c .if4 .left))
+    (c .before .before .before .before .before .before .counts-odd .ensures) (c .before .before .before .before .before .if3 .left)
+    (c .before .before .before .if4 .taken)
+    (rw (c .before .before .before .before .wrapping-add-u8 .ensures) at (c .before .is-accepted .ensures)) (c .if5 .left))
 
 loop-less-2 : tie.Need-loop-less-2 Inv-loop μ-loop Inv-places μ-places
 loop-less-2 c = search needs
@@ -126,7 +135,7 @@ loop-again-2 : tie.Need-loop-again-2 Inv-loop μ-loop Inv-places μ-places
 loop-again-2 c =
     rw (c .before .wrapping-add-u8 .ensures)
     (walked-next (c .before .before .before .before .before .before .loop .inv) (c .before .before .before .before .before .loop-test .taken) refl
-    (c .before .before .before .counts-odd .ensures) (c .before .before .if2 .left) (c .if3 .left))
+    (c .before .before .before .counts-odd .ensures) (c .before .before .if3 .left) (c .if4 .left))
 
 add-place : tie.Need-add-place Inv-loop μ-loop Inv-places μ-places
 add-place c = search needs
@@ -146,13 +155,13 @@ returns c = searched-all (c .before .places .inv .0) (c .places-test .left)
 
 returns-2 : tie.Need-returns-2 Inv-loop μ-loop Inv-places μ-places
 returns-2 c =
-    searched-hit (c .before .before .before .before .before .before .before .before .before .before .before .before .before .before .places .inv .0)
-    (c .before .before .before .before .before .before .before .before .before .before .before .before .before .places-test .taken) _
+    searched-hit (c .before .before .before .before .before .before .before .before .before .before .before .before .before .before .before .places .inv .0)
+    (c .before .before .before .before .before .before .before .before .before .before .before .before .before .before .places-test .taken) _
     (walked-hit (c .before .before .before .before .before .before .before .before .before .loop .inv)
     (c .before .before .before .before .before .before .before .before .loop-test .taken) refl
-    (c .before .before .before .before .before .before .counts-odd .ensures) (c .before .before .before .before .before .if2 .left)
-    (c .before .before .before .if3 .taken)
-    (rw (c .before .before .before .before .wrapping-add-u8 .ensures) at (c .before .is-accepted .ensures)) (c .if4 .taken))
+    (c .before .before .before .before .before .before .counts-odd .ensures) (c .before .before .before .before .before .if3 .left)
+    (c .before .before .before .if4 .taken)
+    (rw (c .before .before .before .before .wrapping-add-u8 .ensures) at (c .before .is-accepted .ensures)) (c .if5 .taken))
 
 pub find-line-spec : {M : Type 1} → statement M
 find-line-spec =

@@ -1,13 +1,13 @@
 -- The laws by which the code reads a record.
-use Prim.Native.Nat.{ℕ}
-use mathlib.Core.Bool.{Bool, true, false, not}
-use mathlib.Core.List.{List}
-use mathlib.Core.Path.{_≡_, refl, sym, ap, _∙_}
+use Prim.Native.Nat.{ℕ, _+_}
+use mathlib.Core.Bool.{Bool, true, false, not, true≢false}
+use mathlib.Core.List.{List, [], _++_, append-assoc}
+use mathlib.Core.Path.{_≡_, refl, sym, ap, ap₂, _∙_}
 use native.Mathlib.Omega.{arith}
 use borrow.Author.Tests.{eqb-true, eqb-false}
 use lib.Dec.{eqb}
-use lib.ListN.{length, take, drop, length-drop}
-use lib.Seq.{take-all}
+use lib.ListN.{length, take, drop, length-drop, length-append, take-append-drop}
+use lib.Seq.{take-all, take-at}
 use Rattle.mbus_rules.specs.declared.Outcome.the-variants.{Accepted, Refused}
 use Rattle.mbus_rules.specs.declared.Reading.{Reading}
 use Rattle.mbus_rules.specs.declared.Telegram.{Telegram}
@@ -17,14 +17,61 @@ use Rattle.mbus_rules.proofs.Laws.Tests.{by-test}
 use Rattle.meter_steps.specs.declared.Meter.{Meter}
 use Rattle.host_records.specs.Recorded.{noRecord}
 use Rattle.bytes_lent.specs.Same.{same}
+use Rattle.bytes_lent.proofs.Laws.Same.{same-equal, same-itself, same-not}
+use Rattle.bytes_lent.specs.Copying.{copied}
+use Rattle.bytes_lent.proofs.Laws.Copying.{copied-on, copied-full}
+use Rattle.bytes_numbers.specs.Numbers.{bytesOf}
+use Rattle.bytes_numbers.proofs.Laws.Numbers.{length-bytes}
+use Rattle.bytes_numbers.proofs.Laws.RecordLaws.{record-length}
 use Rattle.host_records.specs.Telegrams.{telegramBytes, telegramIn, telegramFrom}
-use Rattle.host_records.proofs.Laws.TelegramLaws.{telegram-size}
-use Rattle.meter_record.specs.MeterRecords.{meterBytes, meterIn, unreached, recalled, meterFrom}
+use Rattle.host_records.proofs.Laws.TelegramLaws.{telegram-size, telegram-written}
+use Rattle.meter_record.specs.MeterRecords.{meterHead, coreWords, meterFront, meterBytes, meterIn, unreached, recalled, meterFrom}
 
--- by the bytes that were written for the meter, and whether they are the same
-module _ (b : List ℕ) (m : Meter) {w : List ℕ} {s : Bool} (n : w ≡ meterBytes m) (e : s ≡ same b w) where
+-- ---- the front, and the template behind it
+
+front-whole : (m : Meter) → meterFront m ++ telegramBytes (m .core .template) ≡ meterBytes m
+unfolding meterBytes
+front-whole m = simp append-assoc
+
+front-length : (m : Meter) → length (meterFront m) ≡ 56
+front-length m =
+    record-length (meterHead (m .last .0) (m .core .address) (m .core .mode)) (coreWords (m .core)) []
+    ∙ ap (λ (n : ℕ). n + 40) (length-append (bytesOf 8 (m .last .0)) _ ∙ ap (λ (n : ℕ). n + 8) (length-bytes 8 (m .last .0)))
+
+-- laid one behind the other they are the record
+pub front-laid : (d : List ℕ) (m : Meter) {f t a z : List ℕ} → length d ≡ 192 → length f ≡ 56 → length t ≡ 136 → f ≡ meterFront m
+    → t ≡ telegramBytes (m .core .template) → a ≡ copied d 0 f → z ≡ copied a 56 t → z ≡ meterBytes m
+front-laid d m {f} {t} {a} {z} ld lf lt ef et ea ez =
+    ez ∙ ap (λ (x : List ℕ). copied x 56 t) ea
+    ∙ copied-on d f t 56 lf (omega arith)
+    ∙ copied-full d (f ++ t) (omega (arith, length-append f t))
+    ∙ ap₂ (λ (x y : List ℕ). x ++ y) ef et
+    ∙ front-whole m
+
+-- where the end is known, the front tells whether all is the same
+same-front : (b front rest : List ℕ) (k : ℕ) → length front ≡ k → rest ≡ drop k b → same b (front ++ rest) ≡ same (take k b) front
+same-front b front rest k l e =
+    by-test (same (take k b) front) (λ t. rw (t, ← whole (same-equal (take k b) front t)) (same-itself b))
+    (λ f. same-not b (front ++ rest) (λ w. true≢false (sym (rw (fore w) (same-itself front)) ∙ f)) ∙ sym f)
+  where
+    whole : take k b ≡ front → b ≡ front ++ rest
+    whole t = sym (take-append-drop k b) ∙ ap₂ (λ (x y : List ℕ). x ++ y) t (sym e)
+
+    fore : b ≡ front ++ rest → take k b ≡ front
+    fore w = ap (take k) w ∙ take-at front rest k l
+
+pub template-in : (b : List ℕ) (t : Telegram) → meterIn b t .core .template ≡ t
+unfolding meterIn
+template-in b t = refl
+
+-- by the front that was written for the meter, and whether it is the same
+module _ (b : List ℕ) (m : Meter) {w : List ℕ} {s : Bool} (behind : telegramBytes (m .core .template) ≡ drop 56 b) (n : w ≡ meterFront m)
+    (e : s ≡ same (take 56 b) w) where
   tested : not (same b (meterBytes m)) ≡ not s
-  tested = ap not (sym (e ∙ ap (same b) n))
+  tested =
+      ap not (ap (same b) (sym (front-whole m))
+      ∙ same-front b (meterFront m) (telegramBytes (m .core .template)) 56 (front-length m) behind
+      ∙ sym (e ∙ ap (same (take 56 b)) n))
 
   pub recalled-other : not s ≡ true → recalled b m ≡ refusal noRecord
   recalled-other h = rw (tested, h)
@@ -72,3 +119,9 @@ module _ (b : List ℕ) (size : length b ≡ 192) {r : Reading} (e : r ≡ shown
       let taken : telegramFrom (drop 56 b) ≡ reads (shown (telegramFrom (drop 56 b)) .telegram) = told-accepted (telegramFrom (drop 56 b))
       (sym (ap (λ (x : Reading). x .outcome) whole) ∙ h) in
       ap (λ (a : Answer Telegram). follow a (λ (x : Telegram). recalled b (meterIn b x))) (taken ∙ ap (λ (x : Reading). reads (x .telegram)) (sym whole))
+
+  -- and the template's own bytes are those of the record
+  pub from-known : r .outcome ≡ Accepted → telegramBytes (r .telegram) ≡ drop 56 b
+  from-known h =
+      telegram-written (drop 56 b) (r .telegram)
+      (told-accepted (telegramFrom (drop 56 b)) (sym (ap (λ (x : Reading). x .outcome) whole) ∙ h) ∙ ap (λ (x : Reading). reads (x .telegram)) (sym whole))

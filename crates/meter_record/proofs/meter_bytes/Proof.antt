@@ -1,65 +1,50 @@
--- `meter_record::meter_bytes` meets its contract: one record of its parts. Assumes nothing.
-use Prim.Native.Nat.{ℕ}
-use mathlib.Core.Path.{ap, _∙_}
-use mathlib.Core.List.{[], _∷_}
+-- `meter_record::meter_bytes` meets its contract: the template behind the front. Assumes nothing.
 use lib.ListN.{replicate}
-use Rattle.bytes_numbers.proofs.Laws.RecordLaws.{record-made}
-use Rattle.host_records.specs.Telegrams.{telegramBytes}
-use Rattle.meter_record.specs.MeterRecords.{sinceOf, meterHead, coreWords, meterBytes}
+use Rattle.meter_record.proofs.Laws.Recalling.{front-laid}
 use borrow.Author.Needs.{needs}
 use Rattle.meter_record.proofs.meter_bytes.Statement.{statement}
 use Rattle.meter_record.proofs.meter_bytes.Tie as tie
 
-mode-of-requires : tie.Need-mode-of-requires
-mode-of-requires c κs = search needs
-
-head-bytes-requires : tie.Need-head-bytes-requires
-head-bytes-requires c κs = search needs
-
-since-of-requires : tie.Need-since-of-requires
-since-of-requires c κs = search needs
+front-bytes-requires : tie.Need-front-bytes-requires
+front-bytes-requires c κs = search needs
 
 telegram-bytes-requires : tie.Need-telegram-bytes-requires
 telegram-bytes-requires c κs = search needs
 
-slice-aggregate-put-record : tie.Need-slice-aggregate-put-record
-slice-aggregate-put-record c = search needs
+slice-aggregate-lay : tie.Need-slice-aggregate-lay
+slice-aggregate-lay c = search needs
 
-slice-aggregate-put-record-2 : tie.Need-slice-aggregate-put-record-2
-slice-aggregate-put-record-2 c = search needs
+slice-aggregate-lay-2 : tie.Need-slice-aggregate-lay-2
+slice-aggregate-lay-2 c = search needs
 
-slice-aggregate-put-record-3 : tie.Need-slice-aggregate-put-record-3
-slice-aggregate-put-record-3 c = search needs
+lay-requires : tie.Need-lay-requires
+lay-requires c κs = search needs
 
-slice-aggregate-put-record-4 : tie.Need-slice-aggregate-put-record-4
-slice-aggregate-put-record-4 c = search needs
+slice-aggregate-lay-3 : tie.Need-slice-aggregate-lay-3
+slice-aggregate-lay-3 c = search needs
 
-put-record-requires : tie.Need-put-record-requires
-put-record-requires c κs = search needs
+slice-aggregate-lay-4 : tie.Need-slice-aggregate-lay-4
+slice-aggregate-lay-4 c = search needs
+
+lay-requires-2 : tie.Need-lay-requires-2
+lay-requires-2 c κs = search needs
 
 returns : tie.Need-returns
-unfolding meterBytes
 returns c =
-    let m = c .before .before .before .before .before .before .before .before .before .before .args .m in
-    let k = m .core in
-    let mode = c .before .before .before .before .before .before .before .before .before .mode-of .ensures in
-    record-made (replicate 192 0) (meterHead (m .last .0) (k .address) (k .mode)) (coreWords k) (telegramBytes (k .template)) (search needs)
-    (c .before .before .before .before .before .before .before .before .head-bytes .ensures ∙ ap (meterHead (m .last .0) (k .address)) mode)
-    (ap (λ (n : ℕ). n ∷ k .used .volume ∷ k .used .energy ∷ k .verified .volume ∷ k .verified .energy ∷ [])
-    (c .before .before .before .before .before .before .before .since-of .ensures ∙ ap sinceOf mode))
-    (c .before .before .before .before .before .before .telegram-bytes .ensures) (c .before .put-record .ensures)
+    front-laid (replicate 192 0) (c .before .before .before .before .before .before .before .before .before .before .args .m) (search needs) (search needs) (search needs)
+    (c .before .before .before .before .before .before .before .before .before .front-bytes .ensures) (c .before .before .before .before .before .before .before .before .telegram-bytes .ensures)
+    (c .before .before .before .before .before .lay .ensures) (c .before .lay2 .ensures)
 
 pub meter-bytes-spec : {M : Type 1} → statement M
 meter-bytes-spec =
     tie.close
     (tie.spec
-    mode-of-requires
-    head-bytes-requires
-    since-of-requires
+    front-bytes-requires
     telegram-bytes-requires
-    slice-aggregate-put-record
-    slice-aggregate-put-record-2
-    slice-aggregate-put-record-3
-    slice-aggregate-put-record-4
-    put-record-requires
+    slice-aggregate-lay
+    slice-aggregate-lay-2
+    lay-requires
+    slice-aggregate-lay-3
+    slice-aggregate-lay-4
+    lay-requires-2
     returns)

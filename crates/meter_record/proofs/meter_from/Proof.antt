@@ -2,7 +2,7 @@
 use denote.Ref.{now}
 use mathlib.Core.Path.{sym, ap, _∙_}
 use Rattle.meter_steps.specs.Meters.{shownSetup}
-use Rattle.meter_record.proofs.Laws.Recalling.{meter-size, from-refused, from-accepted}
+use Rattle.meter_record.proofs.Laws.Recalling.{meter-size, from-refused, from-accepted, from-known}
 use borrow.Author.Needs.{needs}
 use Rattle.meter_record.proofs.meter_from.Statement.{statement}
 use Rattle.meter_record.proofs.meter_from.Tie as tie
@@ -39,7 +39,10 @@ enum-told-2 : tie.Need-enum-told-2
 enum-told-2 c = search needs
 
 recalled-requires : tie.Need-recalled-requires
-recalled-requires c κs = search needs
+recalled-requires c κs = (
+  c .before .before .before .before .if1 .left,
+  from-known (now (c .before .before .before .before .before .before .args .b)) (c .before .before .before .before .if1 .left) (c .before .before .telegram-from .ensures) (c .enum-told2 .given .1),
+)
 
 returns-3 : tie.Need-returns-3
 returns-3 c = c .recalled .ensures ∙ sym (ap shownSetup (from-accepted (now (c .before .before .before .before .before .before .before .args .b))

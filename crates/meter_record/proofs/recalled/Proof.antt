@@ -1,22 +1,35 @@
 -- `meter_record::recalled` meets its contract. Assumes nothing.
 use denote.Ref.{now}
-use mathlib.Core.Path.{sym, ap, _∙_}
+use lib.ListN.{drop, length-take}
+use mathlib.Core.Path.{_≡_, sym, ap, _∙_}
+use native.Mathlib.Omega.{arith}
 use Rattle.meter_steps.specs.declared.Meter.{Meter}
 use Rattle.meter_steps.specs.Meters.{shownSetup}
+use Rattle.host_records.specs.Telegrams.{telegramBytes}
 use Rattle.meter_record.specs.MeterRecords.{recalled}
-use Rattle.meter_record.proofs.Laws.Recalling.{recalled-other, recalled-unreached, recalled-same}
+use Rattle.meter_record.proofs.Laws.Recalling.{template-in, recalled-other, recalled-unreached, recalled-same}
 use borrow.Author.Needs.{needs}
 use Rattle.meter_record.proofs.recalled.Statement.{statement}
 use Rattle.meter_record.proofs.recalled.Tie as tie
 
+-- the template is the one that was taken, and so its bytes are known
+behind : (c : tie.After-meter-in) → telegramBytes (c .meter-in .result .core .template) ≡ drop 56 (now (c .before .before .args .b))
+behind c =
+    ap (λ (m : Meter). telegramBytes (m .core .template)) (c .meter-in .ensures)
+    ∙ ap telegramBytes (template-in (now (c .before .before .args .b)) (c .before .before .args .template))
+    ∙ c .before .before .pre .1
+
 meter-in-requires : tie.Need-meter-in-requires
 meter-in-requires c κs = search needs
 
-meter-bytes-requires : tie.Need-meter-bytes-requires
-meter-bytes-requires c κs = search needs
+front-bytes-requires : tie.Need-front-bytes-requires
+front-bytes-requires c κs = search needs
 
 slice-aggregate-is-same : tie.Need-slice-aggregate-is-same
-slice-aggregate-is-same c = search needs
+slice-aggregate-is-same c = omega (arith, c .before .before .before .before .pre .0, length-take 56 (now (c .before .before .before .before .args .b)))
+
+slice-aggregate-is-same-2 : tie.Need-slice-aggregate-is-same-2
+slice-aggregate-is-same-2 c = search needs
 
 is-same-requires : tie.Need-is-same-requires
 is-same-requires c κs = search needs
@@ -26,10 +39,10 @@ no-meter-requires c κs = search needs
 
 returns : tie.Need-returns
 returns c =
-    let b = now (c .before .before .before .before .before .before .before .args .b) in
-    c .no-meter .ensures ∙ sym (ap shownSetup (recalled-other b (c .before .before .before .before .before .meter-in .result)
-    (c .before .before .before .before .meter-bytes .ensures) (c .before .before .is-same .ensures) (c .before .if1 .taken)))
-    ∙ ap (λ (m : Meter). shownSetup (recalled b m)) (c .before .before .before .before .before .meter-in .ensures)
+    let b = now (c .before .before .before .before .before .before .before .before .args .b) in
+    c .no-meter .ensures ∙ sym (ap shownSetup (recalled-other b (c .before .before .before .before .before .before .meter-in .result) (behind (c .before .before .before .before .before .before))
+    (c .before .before .before .before .before .front-bytes .ensures) (c .before .before .is-same .ensures) (c .before .if1 .taken)))
+    ∙ ap (λ (m : Meter). shownSetup (recalled b m)) (c .before .before .before .before .before .before .meter-in .ensures)
 
 is-unreached-requires : tie.Need-is-unreached-requires
 is-unreached-requires c κs = search needs
@@ -39,27 +52,29 @@ no-meter-requires-2 c κs = search needs
 
 returns-2 : tie.Need-returns-2
 returns-2 c =
-    let b = now (c .before .before .before .before .before .before .before .before .before .args .b) in
-    c .no-meter2 .ensures ∙ sym (ap shownSetup (recalled-unreached b (c .before .before .before .before .before .before .before .meter-in .result)
-    (c .before .before .before .before .before .before .meter-bytes .ensures) (c .before .before .before .before .is-same .ensures)
+    let b = now (c .before .before .before .before .before .before .before .before .before .before .args .b) in
+    c .no-meter2 .ensures ∙ sym (ap shownSetup (recalled-unreached b (c .before .before .before .before .before .before .before .before .meter-in .result)
+    (behind (c .before .before .before .before .before .before .before .before))
+    (c .before .before .before .before .before .before .before .front-bytes .ensures) (c .before .before .before .before .is-same .ensures)
     (c .before .before .is-unreached .ensures) (c .before .before .before .if1 .left) (c .before .if2 .taken)))
-    ∙ ap (λ (m : Meter). shownSetup (recalled b m)) (c .before .before .before .before .before .before .before .meter-in .ensures)
+    ∙ ap (λ (m : Meter). shownSetup (recalled b m)) (c .before .before .before .before .before .before .before .before .meter-in .ensures)
 
 returns-3 : tie.Need-returns-3
 returns-3 c =
-    let b = now (c .before .before .before .before .before .before .before .before .args .b) in
-    sym (ap shownSetup (recalled-same b (c .before .before .before .before .before .before .meter-in .result)
-    (c .before .before .before .before .before .meter-bytes .ensures) (c .before .before .before .is-same .ensures) (c .before .is-unreached .ensures)
+    let b = now (c .before .before .before .before .before .before .before .before .before .args .b) in
+    sym (ap shownSetup (recalled-same b (c .before .before .before .before .before .before .before .meter-in .result) (behind (c .before .before .before .before .before .before .before))
+    (c .before .before .before .before .before .before .front-bytes .ensures) (c .before .before .before .is-same .ensures) (c .before .is-unreached .ensures)
     (c .before .before .if1 .left) (c .if2 .left)))
-    ∙ ap (λ (m : Meter). shownSetup (recalled b m)) (c .before .before .before .before .before .before .meter-in .ensures)
+    ∙ ap (λ (m : Meter). shownSetup (recalled b m)) (c .before .before .before .before .before .before .before .meter-in .ensures)
 
 pub recalled-spec : {M : Type 1} → statement M
 recalled-spec =
     tie.close
     (tie.spec
     meter-in-requires
-    meter-bytes-requires
+    front-bytes-requires
     slice-aggregate-is-same
+    slice-aggregate-is-same-2
     is-same-requires
     no-meter-requires
     returns

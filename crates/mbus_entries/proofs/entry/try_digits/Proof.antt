@@ -1,0 +1,52 @@
+-- `mbus_entries::entry::try_digits` meets its contract: the width and the quantity, then the digits. Assumes nothing.
+use borrow.Author.Needs.{needs}
+use mathlib.Core.Path.{_∙_}
+use native.Mathlib.Omega.{arith}
+use denote.Ref.{now}
+use Rattle.mbus_rules.proofs.Laws.ByteLaws.{bytes-each}
+use Rattle.mbus_entries.proofs.Laws.TryLaws.{wide-unfit, wide-tried}
+use Rattle.mbus_entries.proofs.entry.try_digits.Statement.{statement}
+use Rattle.mbus_entries.proofs.entry.try_digits.Tie as tie
+
+shared-slice-read-structure : tie.Need-shared-slice-read-structure
+shared-slice-read-structure c = search needs
+
+shared-slice-read-unit : tie.Need-shared-slice-read-unit
+shared-slice-read-unit c = search needs
+
+digits-at-requires : tie.Need-digits-at-requires
+digits-at-requires c κs = search needs
+
+returns : tie.Need-returns
+returns c = wide-unfit (c .before .before .before .before .before .before .pre .0) (c .before .before .before .before .before .before .pre .1) (c .before .before .digits-at .ensures) (c .if1 .taken)
+
+signed-in-requires : tie.Need-signed-in-requires
+signed-in-requires c κs = search needs
+
+digits-value-requires : tie.Need-digits-value-requires
+digits-value-requires c κs = search needs
+
+entry-with-requires : tie.Need-entry-with-requires
+entry-with-requires c κs = search needs
+
+returns-2 : tie.Need-returns-2
+returns-2 c =
+    c .entry-with .ensures
+    ∙ wide-tried (c .before .before .before .before .before .before .before .before .before .pre .0) (c .before .before .before .before .before .before .before .before .before .pre .1) (c .before .before .before .before .before .digits-at .ensures)
+    (c .before .before .before .if1 .left)
+    (bytes-each (now (c .before .before .before .before .before .before .before .before .before .args .rest))
+    (λ i. omega (arith, c .before .before .before .before .before .before .before .before .shared-slice-known .given i)))
+    (c .before .before .signed-in .ensures) (c .before .digits-value .ensures)
+
+pub try-digits-spec : {M : Type 1} → statement M
+try-digits-spec =
+    tie.close
+    (tie.spec
+    shared-slice-read-structure
+    shared-slice-read-unit
+    digits-at-requires
+    returns
+    signed-in-requires
+    digits-value-requires
+    entry-with-requires
+    returns-2)

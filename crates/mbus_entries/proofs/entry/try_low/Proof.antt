@@ -1,0 +1,76 @@
+-- `mbus_entries::entry::try_low` meets its contract: the pair and the width, then the value. Assumes nothing.
+use borrow.Author.Needs.{needs}
+use mathlib.Core.Path.{_∙_}
+use native.Mathlib.Omega.{arith}
+use denote.Ref.{now}
+use Rattle.mbus_entries.proofs.Laws.TryLaws.{Told, told-narrow, told-unfit, told-inside, told-long, told-tried}
+use Rattle.mbus_entries.proofs.entry.try_low.Statement.{statement}
+use Rattle.mbus_entries.proofs.entry.try_low.Tie as tie
+
+-- what was read of the entry
+told : (c : tie.After-low-width)
+    → Told (now (c .before .before .before .before .before .args .rest)) (c .before .before .before .before .before .args .quantity)
+    (c .low-width .result) (c .before .goes-with .result)
+told c = record {
+  led = c .before .before .before .before .before .pre .0;
+  below = c .before .before .before .before .before .pre .1;
+  width = c .low-width .ensures;
+  pair = c .before .goes-with .ensures;
+}
+
+shared-slice-read-structure : tie.Need-shared-slice-read-structure
+shared-slice-read-structure c = search needs
+
+shared-slice-read-unit : tie.Need-shared-slice-read-unit
+shared-slice-read-unit c = search needs
+
+goes-with-requires : tie.Need-goes-with-requires
+goes-with-requires c κs = search needs
+
+low-width-requires : tie.Need-low-width-requires
+low-width-requires c κs = search needs
+
+add-if1 : tie.Need-add-if1
+add-if1 c = omega (arith, told-narrow (told c))
+
+returns : tie.Need-returns
+returns c = told-unfit (told (c .before)) (c .if1 .taken)
+
+add-low-value : tie.Need-add-low-value
+add-low-value c = omega (arith, told-narrow (told (c .before)))
+
+sub-low-value : tie.Need-sub-low-value
+sub-low-value c = search needs
+
+part-low-value-start : tie.Need-part-low-value-start
+part-low-value-start c = search needs
+
+part-low-value-end : tie.Need-part-low-value-end
+part-low-value-end c = told-inside (told (c .before)) (c .if1 .left)
+
+low-value-requires : tie.Need-low-value-requires
+low-value-requires c κs = told-long (told (c .before .before)) (c .before .if1 .left)
+
+entry-with-requires : tie.Need-entry-with-requires
+entry-with-requires c κs = search needs
+
+returns-2 : tie.Need-returns-2
+returns-2 c = c .entry-with .ensures ∙ told-tried (told (c .before .before .before .before)) (c .before .before .before .if1 .left) (c .before .low-value .ensures)
+
+pub try-low-spec : {M : Type 1} → statement M
+try-low-spec =
+    tie.close
+    (tie.spec
+    shared-slice-read-structure
+    shared-slice-read-unit
+    goes-with-requires
+    low-width-requires
+    add-if1
+    returns
+    add-low-value
+    sub-low-value
+    part-low-value-start
+    part-low-value-end
+    low-value-requires
+    entry-with-requires
+    returns-2)

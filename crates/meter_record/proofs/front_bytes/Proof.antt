@@ -1,0 +1,59 @@
+-- `meter_record::front_bytes` meets its contract: one record of its parts. Assumes nothing.
+use Prim.Native.Nat.{ℕ}
+use mathlib.Core.Path.{refl, ap, _∙_}
+use mathlib.Core.List.{[], _∷_}
+use lib.ListN.{replicate}
+use Rattle.bytes_numbers.proofs.Laws.RecordLaws.{record-made}
+use Rattle.meter_record.specs.MeterRecords.{sinceOf, meterHead, coreWords}
+use borrow.Author.Needs.{needs}
+use Rattle.meter_record.proofs.front_bytes.Statement.{statement}
+use Rattle.meter_record.proofs.front_bytes.Tie as tie
+
+mode-of-requires : tie.Need-mode-of-requires
+mode-of-requires c κs = search needs
+
+head-bytes-requires : tie.Need-head-bytes-requires
+head-bytes-requires c κs = search needs
+
+since-of-requires : tie.Need-since-of-requires
+since-of-requires c κs = search needs
+
+slice-aggregate-put-record : tie.Need-slice-aggregate-put-record
+slice-aggregate-put-record c = search needs
+
+slice-aggregate-put-record-2 : tie.Need-slice-aggregate-put-record-2
+slice-aggregate-put-record-2 c = search needs
+
+slice-aggregate-put-record-3 : tie.Need-slice-aggregate-put-record-3
+slice-aggregate-put-record-3 c = search needs
+
+slice-aggregate-put-record-4 : tie.Need-slice-aggregate-put-record-4
+slice-aggregate-put-record-4 c = search needs
+
+put-record-requires : tie.Need-put-record-requires
+put-record-requires c κs = search needs
+
+returns : tie.Need-returns
+returns c =
+    let m = c .before .before .before .before .before .before .before .before .before .args .m in
+    let k = m .core in
+    let mode = c .before .before .before .before .before .before .before .before .mode-of .ensures in
+    record-made (replicate 56 0) (meterHead (m .last .0) (k .address) (k .mode)) (coreWords k) [] (search needs)
+    (c .before .before .before .before .before .before .before .head-bytes .ensures ∙ ap (meterHead (m .last .0) (k .address)) mode)
+    (ap (λ (n : ℕ). n ∷ k .used .volume ∷ k .used .energy ∷ k .verified .volume ∷ k .verified .energy ∷ [])
+    (c .before .before .before .before .before .before .since-of .ensures ∙ ap sinceOf mode))
+    refl (c .before .put-record .ensures)
+
+pub front-bytes-spec : {M : Type 1} → statement M
+front-bytes-spec =
+    tie.close
+    (tie.spec
+    mode-of-requires
+    head-bytes-requires
+    since-of-requires
+    slice-aggregate-put-record
+    slice-aggregate-put-record-2
+    slice-aggregate-put-record-3
+    slice-aggregate-put-record-4
+    put-record-requires
+    returns)
