@@ -22,9 +22,9 @@ static const char *unit_in_words(uint8_t code)
 
 static void print_value(const char *quantity, uint32_t count, int power, const char *unit)
 {
-    printf("  %s ", quantity);
-    print_scaled(count, power);
-    printf(" %s\n", unit);
+    char words[WORDS_MOST];
+    put_power(words, count, power);
+    printf("  %s %s %s\n", quantity, words, unit);
 }
 
 static void print_values(const struct skarrowith_cjt_telegram *t)

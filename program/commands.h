@@ -3,6 +3,7 @@
  * prints). An option is a letter, with a colon where a word belongs to it.
  */
 COMMAND(list, "", "[FILE]", "the rows of a run bundle")
+COMMAND(show, "ct", "[-c] [-t] [FILE]", "what happened in a run: rows with verdicts, positions, warnings")
 COMMAND(check, "c", "[-c] [FILE]", "what each line is")
 COMMAND(read, "c", "[-c] [FILE]", "what each line is, and all that it says")
 COMMAND(sweep, "p:o:", "[-p POSITION] [-o OUT] [FILE]", "a bundle without wake-ups and the rows of a position")

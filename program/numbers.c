@@ -36,17 +36,16 @@ void print_tenths(int64_t tenths)
     printf("%c%" PRIu64 ".%" PRIu64 " %%\n", tenths < 0 ? '-' : '+', size / 10, size % 10);
 }
 
-/* A count times a power of ten, exactly: zeros behind its digits, or a point among them. */
-void print_scaled(int64_t count, int power)
+/* A count times a power of ten, exactly: zeros behind its digits, or a point among them. Answers how many characters it has. */
+int put_power(char *out, int64_t count, int power)
 {
     char digits[21];
+    const char *minus = count < 0 ? "-" : "";
     uint64_t size = count < 0 ? -(uint64_t)count : (uint64_t)count;
     int whole = snprintf(digits, sizeof digits, "%" PRIu64, size) + power;
-    fputs(count < 0 ? "-" : "", stdout);
     if (power >= 0)
-        printf("%s%.*s", digits, size == 0 ? 0 : power, "0000000");
-    else if (whole <= 0)
-        printf("0.%.*s%s", -whole, "000000", digits);
-    else
-        printf("%.*s.%s", whole, digits, digits + whole);
+        return snprintf(out, WORDS_MOST, "%s%s%.*s", minus, digits, size == 0 ? 0 : power, "0000000");
+    if (whole <= 0)
+        return snprintf(out, WORDS_MOST, "%s0.%.*s%s", minus, -whole, "000000", digits);
+    return snprintf(out, WORDS_MOST, "%s%.*s.%s", minus, whole, digits, digits + whole);
 }

@@ -40,14 +40,23 @@ int read_bundle(const struct given *given, int words, struct bundle *bundle);
 int write_output(const char *name, const uint8_t *bytes, size_t count);
 int end_output(int status);
 
+/* Room for a few words; the longest are a number of 64 bits times a power of ten, with its unit. */
+enum { WORDS_MOST = 64 };
+
 /* numbers.c: a whole word in decimal, no larger than most; an error in tenths of a percent; a count times a power of ten. */
 int number_in(const char *word, uint64_t most, uint64_t *number);
 int position_in(const struct given *given, uint8_t *position);
 void print_tenths(int64_t tenths);
-void print_scaled(int64_t count, int power);
+int put_power(char *out, int64_t count, int power);
 
 /* text.c: hands each line of a text to a function, which prints what it is and answers what the library does. */
 int tell_lines(const struct given *given, uint32_t (*tell)(const uint16_t *line, size_t count));
+
+/* telegrams.c: the words of kinds and methods; a value with its unit, and a point in time. */
+const char *kind_in_words(uint8_t kind);
+const char *method_in_words(uint8_t method);
+int put_scaled(char *out, int64_t count, const struct skarrowith_meaning *meaning);
+int put_moment(char *out, const struct skarrowith_moment *t);
 
 /* telegrams.c and cjt.c: what an accepted line is, and all that it says. */
 uint32_t tell_kind(const uint16_t *line, size_t count);

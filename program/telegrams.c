@@ -9,24 +9,42 @@ static const char *const quantities[] = {"energy", "volume", "power", "flow", "i
 static const char *const units[] = {"", "Wh", "J", "m3", "W", "m3/h", "degrees Celsius"};
 static const char *const days[] = {"", "Monday ", "Tuesday ", "Wednesday ", "Thursday ", "Friday ", "Saturday ", "Sunday "};
 
-static const char *method_in_words(uint8_t method)
+const char *kind_in_words(uint8_t kind)
+{
+    return kinds[kind];
+}
+
+const char *method_in_words(uint8_t method)
 {
     return method == SKARROWITH_START_STOP ? "start-stop" : method == SKARROWITH_SIMULATED_FLOW ? "simulated flow" : "real time";
+}
+
+int put_scaled(char *out, int64_t count, const struct skarrowith_meaning *meaning)
+{
+    int size = put_power(out, count, meaning->power);
+    return size + snprintf(out + size, (size_t)(WORDS_MOST - size), " %s", units[meaning->unit]);
+}
+
+/* The weekday where it was said. */
+int put_moment(char *out, const struct skarrowith_moment *t)
+{
+    return snprintf(out, WORDS_MOST, "%s%04u-%02u-%02u %02u:%02u:%02u", days[t->weekday], 2000u + t->year, t->month, t->day, t->hour,
+                    t->minute, t->second);
 }
 
 static void print_entry(const struct skarrowith_entry *entry)
 {
     struct skarrowith_meaning meaning;
+    char words[WORDS_MOST];
     if (skarrowith_entry_meaning(entry->unit, &meaning, sizeof meaning) != 0)
         return;
-    printf("  %s ", quantities[meaning.quantity]);
     if (entry->sort == SKARROWITH_TIME) {
-        const struct skarrowith_moment *t = &entry->value.time;
-        printf("%s%04u-%02u-%02u %02u:%02u:%02u\n", days[t->weekday], 2000u + t->year, t->month, t->day, t->hour, t->minute, t->second);
+        put_moment(words, &entry->value.time);
+        printf("  %s %s\n", quantities[meaning.quantity], words);
         return;
     }
-    print_scaled(entry->value.count, meaning.power);
-    printf(" %s (%" PRId64 " x 10^%d%s)\n", units[meaning.unit], entry->value.count, meaning.power,
+    put_scaled(words, entry->value.count, &meaning);
+    printf("  %s %s (%" PRId64 " x 10^%d%s)\n", quantities[meaning.quantity], words, entry->value.count, meaning.power,
            entry->sort == SKARROWITH_BINARY ? ", binary" : "");
 }
 
