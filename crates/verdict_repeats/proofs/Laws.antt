@@ -4,3 +4,7 @@ pub mod Marking
 pub mod Looking
 pub mod Putting
 pub mod Answering
+pub mod Pairs
+pub mod Parts
+pub mod Meaning
+pub mod Naming
