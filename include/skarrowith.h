@@ -636,6 +636,20 @@ uint32_t skarrowith_bundle_list(const uint8_t *bundle, size_t len, uint8_t *out,
 uint32_t skarrowith_replay_error(const uint8_t *bundle, size_t len, uint8_t position, uint64_t s1, uint64_t s2,
                                  uint64_t elapsed, int64_t *tenths, size_t places);
 
+/*
+ * Finds rows that repeat a reading: two positions, or two times of one position, that gave the same meter number and the
+ * same entries. So one finds an answer that was taken twice, and a meter that answers in another's place. The rest of the
+ * header, which a meter changes by itself, is not compared; nor are position and time, or whether a row counts.
+ *
+ * rows, places: place i takes 0, or 1 + the number of the lowest row before row i that was heard and is data with the meter
+ *               number and the entries of row i, which is such a row too; places is the number of uint16_t lent, of which
+ *               512 are always enough. Places past the count of rows stay.
+ * count:        takes the count of rows, 0 to 512; not null.
+ *
+ * Answers 0, or refuses by 30 to 37 as the check does, and then by 21 if there are fewer places than rows.
+ */
+uint32_t skarrowith_repeats(const uint8_t *bundle, size_t len, uint16_t *rows, size_t places, size_t *count);
+
 #ifdef __cplusplus
 }
 #endif
