@@ -1,5 +1,6 @@
 -- What follows from the definitions, invariants of loops among it.
 pub mod DataLines
+pub mod Summing
 pub mod Marking
 pub mod Looking
 pub mod Putting

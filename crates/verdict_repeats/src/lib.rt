@@ -1,6 +1,5 @@
 // Rows of a run bundle that repeat a reading: for each row the lowest earlier one with the same meter number and the same entries.
 ghost use mathlib.Core.Path.{_≡_};
-ghost use mathlib.Core.Bool.{true, false};
 ghost use Prim.Native.Nat.{_≤_, _<_};
 ghost use lib.ListN.{length, getD, replicate, take};
 ghost use Rattle.mbus_rules.specs.Answers.{reads};
@@ -14,46 +13,47 @@ ghost use Rattle.verdict_repeats.specs.Marks.{Marked};
 use bundle_check::Checked;
 use bundle_check::check;
 use bundle_rows::MOST_ROWS;
-use reading::gives_at;
+use reading::mark_at;
 use reading::same_at;
 
 mod reading;
 
-// Marks each row that gives a reading, so that its line is read once.
-fn mark_rows(bundle: &[u8], count: usize, marks: &mut [bool; MOST_ROWS])
-    requires { ⌜ (checkOf (now bundle) ≡ reads count) × (now marks ≡ replicate mostRows false) ⌝ }
+// Gives each row its mark, so that its line is read once.
+fn mark_rows(bundle: &[u8], count: usize, marks: &mut [u32; MOST_ROWS])
+    requires { ⌜ (checkOf (now bundle) ≡ reads count) × (now marks ≡ replicate mostRows 0) ⌝ }
     ensures { λ _. ⌜ Marked (now (bundle .entry)) count (now (marks .exit)) ⌝ }
 {
     for i in 0..count {
-        marks[i] = gives_at(bundle, i);
+        marks[i] = mark_at(bundle, i);
     }
 }
 
-// Row j gives the same reading as row i, which gives one.
+// Row j gives the same reading as row i, which gives one. Rows with other marks are not held against each other.
 fn is_same_reading(
     bundle: &[u8],
     count: usize,
-    marks: &[bool; MOST_ROWS],
+    marks: &[u32; MOST_ROWS],
     j: usize,
     i: usize,
 ) -> bool
-    requires { ⌜ Marked (now bundle) count (now marks) × (j < count) × (i < count) × (getD (now marks) i false ≡ true) ⌝ }
+    requires { ⌜ Marked (now bundle) count (now marks) × (j < count) × (i < count) × (getD (now marks) i 0 ≡ 0 → ⊥) ⌝ }
     ensures { λ r. ⌜ r ≡ sameReading (rowIn (now (bundle .entry)) j) (rowIn (now (bundle .entry)) i) ⌝ }
 {
-    let marked = marks[j];
-    if !marked {
+    let mark = marks[i];
+    let other = marks[j];
+    if other != mark {
         return false;
     }
     same_at(bundle, j, i)
 }
 
 // 1 + the number of the lowest row before row i that gives the same reading, or 0.
-fn earlier_of(bundle: &[u8], count: usize, marks: &[bool; MOST_ROWS], i: usize) -> u16
+fn earlier_of(bundle: &[u8], count: usize, marks: &[u32; MOST_ROWS], i: usize) -> u16
     requires { ⌜ Marked (now bundle) count (now marks) × (i < count) ⌝ }
     ensures { λ r. ⌜ r ≡ firstSame 0 (take i (recordsOf (now (bundle .entry)))) (rowIn (now (bundle .entry)) i) ⌝ }
 {
-    let marked = marks[i];
-    if !marked {
+    let mark = marks[i];
+    if mark == 0 {
         return 0;
     }
     for j in 0..i {
@@ -66,7 +66,7 @@ fn earlier_of(bundle: &[u8], count: usize, marks: &[bool; MOST_ROWS], i: usize) 
 }
 
 // Writes the number for each row into its place.
-fn put_earlier(bundle: &[u8], count: usize, marks: &[bool; MOST_ROWS], rows: &mut [u16])
+fn put_earlier(bundle: &[u8], count: usize, marks: &[u32; MOST_ROWS], rows: &mut [u16])
     requires { ⌜ Marked (now bundle) count (now marks) × (count ≤ length (now rows)) ⌝ }
     ensures { λ _. ⌜ now (rows .exit) ≡ stored (λ numbers. numbers) (now (rows .entry)) (reads (earlierRows (recordsOf (now (bundle .entry))))) ⌝ }
 {
@@ -86,7 +86,7 @@ pub fn earlier_rows(bundle: &[u8], rows: &mut [u16]) -> Checked
             if short {
                 return Checked::Refused(21);
             }
-            let mut marks = [false; MOST_ROWS];
+            let mut marks = [0u32; MOST_ROWS];
             mark_rows(bundle, count, &mut marks);
             put_earlier(bundle, count, &marks, rows);
             Checked::Rows(count)

@@ -1,11 +1,12 @@
 // Whether a row gives a reading, and whether two rows give the same.
 ghost use mathlib.Core.Path.{_≡_};
-ghost use Prim.Native.Nat.{_+_, _≤_};
+ghost use Prim.Native.Nat.{_+_, _*_, _≤_};
 ghost use lib.ListN.{length};
+ghost use Rattle.mbus_rules.specs.Lists.{total};
 ghost use Rattle.bundle_rows.specs.Rows.{uncheckedRow};
 ghost use Rattle.replay_counting.specs.Ears.{rowWith, rowIn};
 ghost use Rattle.verdict_repeats.specs.Repeats.{tellsData, givesReading, sameParts};
-ghost use Rattle.verdict_repeats.specs.Marks.{DataAt};
+ghost use Rattle.verdict_repeats.specs.Marks.{markOf, DataAt};
 use bundle_rows::Row;
 use bundle_rows::unchecked_row;
 use bytes_lent::is_same;
@@ -35,15 +36,42 @@ fn gives_reading(row: Row, body: &[u8]) -> bool
     tells_data(outline_of(body))
 }
 
+// The sum of some bytes.
+fn sum_of(bytes: &[u8]) -> u32
+    requires { ⌜ length (now bytes) ≤ 65535 ⌝ }
+    ensures { λ r. ⌜ (r ≡ total (now (bytes .entry))) × (r ≤ 255 * 65535) ⌝ }
+{
+    let mut sum: u32 = 0;
+    let mut i = 0;
+    while i < bytes.len() {
+        sum += bytes[i] as u32;
+        i += 1;
+    }
+    sum
+}
+
+// A row's mark, by which most rows that give another reading differ at once.
+fn mark_of(row: Row, body: &[u8]) -> u32
+    requires { ⌜ length (now body) ≤ 65535 ⌝ }
+    ensures { λ r. ⌜ r ≡ markOf (rowWith row (now (body .entry))) ⌝ }
+{
+    let gives = gives_reading(row, body);
+    if !gives {
+        return 0;
+    }
+    let end = body.len() - 4;
+    1 + sum_of(&body[38..end])
+}
+
 // The same of row i of a bundle, whose body lies in it.
-pub(crate) fn gives_at(bundle: &[u8], i: usize) -> bool
+pub(crate) fn mark_at(bundle: &[u8], i: usize) -> u32
     requires { ⌜ uncheckedRow (now bundle) i .offset + uncheckedRow (now bundle) i .length ≤ length (now bundle) ⌝ }
-    ensures { λ r. ⌜ r ≡ givesReading (rowIn (now (bundle .entry)) i) ⌝ }
+    ensures { λ r. ⌜ r ≡ markOf (rowIn (now (bundle .entry)) i) ⌝ }
 {
     let row = unchecked_row(bundle, i);
     let at = row.offset as usize;
     let end = at + row.length as usize;
-    gives_reading(row, &bundle[at..end])
+    mark_of(row, &bundle[at..end])
 }
 
 // Two lines of data have the same meter number and the same entries.

@@ -8,13 +8,18 @@ use native.Mathlib.Omega.{arith}
 use lib.ListN.{length, getD, take, drop, drop-of-length-le}
 use lib.Seq.{drop-cons, getD-take, length-take-le}
 use Rattle.mbus_rules.specs.Answers.{reads}
+use Rattle.mbus_rules.specs.Lists.{total}
+use Rattle.mbus_rules.proofs.Laws.Tests.{by-test}
+use Rattle.mbus_rules.proofs.Laws.TestLaws.{every}
+use Rattle.bytes_lent.specs.Same.{same}
+use Rattle.bytes_lent.proofs.Laws.Same.{same-equal}
 use Rattle.bundle_check.specs.Bundles.{checkOf}
 use Rattle.bundle_check.specs.Records.{Recorded, recordsOf}
 use Rattle.bundle_check.proofs.Laws.HoldingLaws.{blankRecord}
 use Rattle.replay_counting.specs.Ears.{rowIn}
 use Rattle.replay_counting.proofs.Laws.Walking.{record-there, length-records}
-use Rattle.verdict_repeats.specs.Repeats.{givesReading, sameParts, sameReading, firstSame}
-use Rattle.verdict_repeats.specs.Marks.{Marked, DataAt}
+use Rattle.verdict_repeats.specs.Repeats.{givesReading, numberPart, entriesPart, sameParts, sameReading, firstSame}
+use Rattle.verdict_repeats.specs.Marks.{markOf, Marked, DataAt}
 use Rattle.verdict_repeats.proofs.Laws.DataLines.{gives-at}
 
 -- a row that gives no reading has no earlier one
@@ -31,23 +36,46 @@ pub record Looking (b : List ℕ) (i j : ℕ) : Type 0 where
 pub looking-none : {b : List ℕ} {i : ℕ} → Looking b i 0
 looking-none = record { inside = zero-le; so = refl }
 
-module _ {b : List ℕ} {n i : ℕ} {marks : List Bool} (m : Marked b n marks) (inside : i < n) where
-  -- a marked row lies in the bundle and is long enough
-  pub marked-data : (j : ℕ) → j < n → getD marks j false ≡ true → DataAt b j
-  marked-data j h e = gives-at b j n (m .accepted) h (sym (m .so j h) ∙ e)
+-- ---- what marks tell
 
-  pub looking-unmarked : getD marks i false ≡ false → 0 ≡ firstSame 0 (take i (recordsOf b)) (rowIn b i)
-  looking-unmarked e = sym (none-gives 0 (take i (recordsOf b)) (rowIn b i) (sym (m .so i inside) ∙ e))
+-- a row whose mark is not 0 gives a reading
+mark-gives : (k : Recorded) → (markOf k ≡ 0 → ⊥) → givesReading k ≡ true
+unfolding markOf
+mark-gives k f = by-test (givesReading k) (λ e. e) (λ e. absurd (f (rw e)))
+
+mark-none : (k : Recorded) → markOf k ≡ 0 → givesReading k ≡ false
+unfolding markOf
+mark-none k f = by-test (givesReading k) (λ e. let z : 1 + total (entriesPart (k .body)) ≡ 0 = rw e at f in absurd (omega arith)) (λ e. e)
+
+-- rows that give the same reading have the same mark
+same-marks : (j k : Recorded) → sameReading j k ≡ true → markOf j ≡ markOf k
+unfolding markOf sameReading sameParts
+same-marks j k e =
+    let p = every (givesReading j) (givesReading k ∷ sameParts (j .body) (k .body) ∷ []) e in
+    let q = every (same (numberPart (j .body)) (numberPart (k .body))) (same (entriesPart (j .body)) (entriesPart (k .body)) ∷ []) (p .1 .1 .0) in
+    rw (p .0, p .1 .0, same-equal (entriesPart (j .body)) (entriesPart (k .body)) (q .1 .0))
+
+module _ {b : List ℕ} {n i : ℕ} {marks : List ℕ} (m : Marked b n marks) (inside : i < n) where
+  marked-gives : (j : ℕ) → j < n → (getD marks j 0 ≡ 0 → ⊥) → givesReading (rowIn b j) ≡ true
+  marked-gives j h f = mark-gives (rowIn b j) (λ e. f (m .so j h ∙ e))
+
+  -- a marked row lies in the bundle and is long enough
+  pub marked-data : (j : ℕ) → j < n → (getD marks j 0 ≡ 0 → ⊥) → DataAt b j
+  marked-data j h f = gives-at b j n (m .accepted) h (marked-gives j h f)
+
+  pub looking-unmarked : getD marks i 0 ≡ 0 → 0 ≡ firstSame 0 (take i (recordsOf b)) (rowIn b i)
+  looking-unmarked e = sym (none-gives 0 (take i (recordsOf b)) (rowIn b i) (mark-none (rowIn b i) (sym (m .so i inside) ∙ e)))
 
   -- one row held against row i, by its mark
-  pub same-unmarked : {j : ℕ} → j < n → getD marks j false ≡ false → false ≡ sameReading (rowIn b j) (rowIn b i)
-  unfolding sameReading
-  same-unmarked {j} h e = rw (sym (m .so j h) ∙ e)
+  pub same-unlike : {j : ℕ} → j < n → (getD marks j 0 ≡ getD marks i 0 → ⊥) → false ≡ sameReading (rowIn b j) (rowIn b i)
+  same-unlike {j} h f =
+      sym (by-test (sameReading (rowIn b j) (rowIn b i))
+      (λ e. absurd (f (m .so j h ∙ same-marks (rowIn b j) (rowIn b i) e ∙ sym (m .so i inside)))) (λ e. e))
 
-  pub same-marked : {j : ℕ} → j < n → getD marks j false ≡ true → getD marks i false ≡ true → {alike : Bool}
+  pub same-marked : {j : ℕ} → j < n → (getD marks j 0 ≡ 0 → ⊥) → (getD marks i 0 ≡ 0 → ⊥) → {alike : Bool}
       → alike ≡ sameParts (rowIn b j .body) (rowIn b i .body) → alike ≡ sameReading (rowIn b j) (rowIn b i)
   unfolding sameReading
-  same-marked {j} h e f a = rw (sym (m .so j h) ∙ e, sym (m .so i inside) ∙ f) a
+  same-marked {j} h e f a = rw (marked-gives j h e, marked-gives i inside f) a
 
   module _ {j : ℕ} (g : Looking b i j) (h : j < i) where
     next-row : drop j (take i (recordsOf b)) ≡ rowIn b j ∷ drop (suc j) (take i (recordsOf b))

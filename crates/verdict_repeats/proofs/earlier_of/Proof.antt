@@ -2,7 +2,6 @@
 use Prim.Native.Nat.{_-_}
 use native.Mathlib.Omega.{arith}
 use borrow.Author.Needs.{needs}
-use borrow.Author.Tests.{not-true, not-false}
 use Rattle.bundle_check.proofs.Laws.BodyLaws.{few-rows}
 use Rattle.verdict_repeats.proofs.Laws.Looking.{Looking, looking-none, looking-unmarked, looking-hit, looking-miss, looking-all}
 use Rattle.verdict_repeats.proofs.earlier_of.Statement.{statement}
@@ -16,15 +15,20 @@ abbrev μ-loop : tie.MeasureT-loop
 μ-loop bundle count marks i marked j₀ j =
     i - j
 
-element-copy-out-marked : tie.Need-element-copy-out-marked Inv-loop μ-loop
-element-copy-out-marked c =
+mul-mark : tie.Need-mul-mark Inv-loop μ-loop
+mul-mark c =
+    let back = c .before in
+    omega (arith, back .pre .1, few-rows (back .args .bundle .now) (back .args .count) (back .pre .0 .accepted))
+
+element-copy-out-mark : tie.Need-element-copy-out-mark Inv-loop μ-loop
+element-copy-out-mark c =
     let back = c .before in
     omega (arith, back .pre .1, few-rows (back .args .bundle .now) (back .args .count) (back .pre .0 .accepted))
 
 returns : tie.Need-returns Inv-loop μ-loop
 returns c =
     let back3 = c .before .before .before in
-    looking-unmarked (back3 .pre .0) (back3 .pre .1) (not-true _ (c .if1 .taken))
+    looking-unmarked (back3 .pre .0) (back3 .pre .1) (c .if1 .taken)
 
 loop-holds : tie.Need-loop-holds Inv-loop μ-loop
 loop-holds c =
@@ -33,7 +37,7 @@ loop-holds c =
 is-same-reading-requires : tie.Need-is-same-reading-requires Inv-loop μ-loop
 is-same-reading-requires c κs =
     let back5 = c .before .before .before .before .before in
-    (back5 .pre .0, omega (arith, c .loop-test .taken, back5 .pre .1), back5 .pre .1, not-false _ (c .before .before .if1 .left))
+    (back5 .pre .0, omega (arith, c .loop-test .taken, back5 .pre .1), back5 .pre .1, c .before .before .if1 .left)
 
 cast-result : tie.Need-cast-result Inv-loop μ-loop
 cast-result c =
@@ -76,7 +80,8 @@ earlier-of-spec =
     (tie.spec
     Inv-loop
     μ-loop
-    element-copy-out-marked
+    mul-mark
+    element-copy-out-mark
     returns
     loop-holds
     is-same-reading-requires

@@ -20,10 +20,13 @@ loop-holds c =
     let back = c .before in
     rw (back .pre .1) (marking-none (back .pre .0))
 
-gives-at-requires : tie.Need-gives-at-requires Inv-loop μ-loop
-gives-at-requires c κs =
+mark-at-requires : tie.Need-mark-at-requires Inv-loop μ-loop
+mark-at-requires c κs =
     let back3 = c .before .before .before in
     unchecked-inside (back3 .args .bundle .now) (c .before .loop .i) (back3 .args .count) (back3 .pre .0) (c .loop-test .taken)
+
+mul-marks : tie.Need-mul-marks Inv-loop μ-loop
+mul-marks c = omega (arith, marking-room (c .before .before .loop .inv) (c .before .loop-test .taken))
 
 element-write-marks : tie.Need-element-write-marks Inv-loop μ-loop
 element-write-marks c =
@@ -39,7 +42,7 @@ loop-less c =
 
 loop-again : tie.Need-loop-again Inv-loop μ-loop
 loop-again c =
-    marking-next (c .before .before .loop .inv) (c .before .loop-test .taken) (c .gives-at .ensures)
+    marking-next (c .before .before .loop .inv) (c .before .loop-test .taken) (c .mark-at .ensures)
 
 returns : tie.Need-returns Inv-loop μ-loop
 returns c =
@@ -52,7 +55,8 @@ mark-rows-spec =
     Inv-loop
     μ-loop
     loop-holds
-    gives-at-requires
+    mark-at-requires
+    mul-marks
     element-write-marks
     add-i
     loop-less
