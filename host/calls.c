@@ -370,24 +370,32 @@ static void put_talk(void)
     second_put_number(last + 2 * 61, 2, second_character(0x03));
 }
 
+/* A character of a body that carries a byte. */
+static void put_byte(uint8_t *body, size_t place, unsigned byte) { second_put_number(body + 2 * place, 2, second_character(byte % 256)); }
+
 /* 512 answers of one meter without power and flow, each with another energy: every row is held against all before it. */
 static void put_readings(void)
 {
-    size_t at = 2 + 12 * ROWS;
+    static uint8_t line[2 * SECOND_EXAMPLE];
+    size_t at = 2 + 12 * ROWS, length;
     put_data();
     read_line();
     telegram.count = 5;
+    telegram.entries[0].value.count = 0;
     telegram.entries[4] = telegram.entries[6];
     memset(telegram.entries + 5, 0, 2 * sizeof telegram.entries[0]);
+    length = write_line();
+    for (size_t c = 0; c < length; c++)
+        second_put_number(line + 2 * c, 2, characters[c]);
     second_put_number(bytes, 2, ROWS);
-    for (unsigned i = 0; i < ROWS; i++) {
-        telegram.entries[0].value.count = (int64_t)i;
-        size_t length = 2 * (size_t)write_line();
-        struct second_row row = {1 + i % 48, 1, 1000 * i, (uint32_t)at, length};
+    for (unsigned i = 0; i < ROWS; i++, at += 2 * length) {
+        struct second_row row = {1 + i % 48, 1, 1000 * i, (uint32_t)at, 2 * length};
+        unsigned low = 16 * (i / 10 % 10) + i % 10, high = i / 100;
         second_put_row(bytes + 2 + 12 * i, &row);
-        for (size_t c = 0; c < length; c += 2)
-            second_put_number(bytes + at + c, 2, characters[c / 2]);
-        at += length;
+        memcpy(bytes + at, line, 2 * length);
+        put_byte(bytes + at, 21, low);
+        put_byte(bytes + at, 22, high);
+        put_byte(bytes + at, length - 2, characters[length - 2] + low + high);
     }
     count = at;
 }

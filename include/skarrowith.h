@@ -9,18 +9,19 @@
  * Answers. Every function answers one number. Below 256 it is the answer, 0 where there is nothing to say;
  * SKARROWITH_REFUSED plus n is refusal n. On a refusal nothing that was lent has changed, and otherwise only the places
  * that are named have. Where several refusals apply, the library's own (100, 101) go first and then the lowest number,
- * but for six rules:
+ * but for seven rules:
  *   - 17, an odd number of bytes, goes before 1 to 16, and before 80 to 85;
  *   - reading a CJ/T 188 line gives 80 to 85 before 21;
  *   - 11 to 14 are tried entry by entry from the left, in each entry the lowest first, and 16 after the last entry;
  *   - a wake-up gives 52 before 21;
  *   - adding to a bundle gives all that it has against the old bundle, 30 to 37, before 34, 37 and 38 for the new row;
  *   - a sweep and the replay give all that they have against the bundle, 30 to 37, before 34 for the position; the replay
- *     then gives 63, 64, 65, 61, 62.
+ *     then gives 63, 64, 65, 61, 62;
+ *   - where a place for each row is asked for, 30 to 37 for the bundle go before 21.
  *
  * Lent memory is a pointer and the number of its places; with 0 of them the pointer may be null. Output that is too short
  * for what is to be written is refused by 21; a longer one is changed in its first places alone. A count that is answered
- * beside (rows, i, filled, written, milliohm, hundredths, length, used, made) is written through a pointer to it, which may
+ * beside (rows, count, i, filled, written, milliohm, hundredths, length, used, made) is written through a pointer to it, which may
  * not be null. Memory for uint16_t, uint32_t, uint64_t, int64_t and size_t is aligned as C aligns these types; bytes and records
  * may stand at any address.
  *

@@ -6,7 +6,7 @@ ghost use Rattle.mbus_rules.specs.Lists.{total};
 ghost use Rattle.bundle_rows.specs.Rows.{uncheckedRow};
 ghost use Rattle.replay_counting.specs.Ears.{rowWith, rowIn};
 ghost use Rattle.verdict_repeats.specs.Repeats.{tellsData, givesReading, sameParts};
-ghost use Rattle.verdict_repeats.specs.Marks.{markOf, DataAt};
+ghost use Rattle.verdict_repeats.specs.Marks.{rowMark, DataAt};
 use bundle_rows::Row;
 use bundle_rows::unchecked_row;
 use bytes_lent::is_same;
@@ -53,7 +53,7 @@ fn sum_of(bytes: &[u8]) -> u32
 // A row's mark, by which most rows that give another reading differ at once.
 fn mark_of(row: Row, body: &[u8]) -> u32
     requires { ⌜ length (now body) ≤ 65535 ⌝ }
-    ensures { λ r. ⌜ r ≡ markOf (rowWith row (now (body .entry))) ⌝ }
+    ensures { λ r. ⌜ r ≡ rowMark (rowWith row (now (body .entry))) ⌝ }
 {
     let gives = gives_reading(row, body);
     if !gives {
@@ -66,7 +66,7 @@ fn mark_of(row: Row, body: &[u8]) -> u32
 // The same of row i of a bundle, whose body lies in it.
 pub(crate) fn mark_at(bundle: &[u8], i: usize) -> u32
     requires { ⌜ uncheckedRow (now bundle) i .offset + uncheckedRow (now bundle) i .length ≤ length (now bundle) ⌝ }
-    ensures { λ r. ⌜ r ≡ markOf (rowIn (now (bundle .entry)) i) ⌝ }
+    ensures { λ r. ⌜ r ≡ rowMark (rowIn (now (bundle .entry)) i) ⌝ }
 {
     let row = unchecked_row(bundle, i);
     let at = row.offset as usize;

@@ -19,7 +19,7 @@ use Rattle.bundle_check.proofs.Laws.HoldingLaws.{blankRecord}
 use Rattle.replay_counting.specs.Ears.{rowIn}
 use Rattle.replay_counting.proofs.Laws.Walking.{record-there, length-records}
 use Rattle.verdict_repeats.specs.Repeats.{givesReading, numberPart, entriesPart, sameParts, sameReading, firstSame}
-use Rattle.verdict_repeats.specs.Marks.{markOf, Marked, DataAt}
+use Rattle.verdict_repeats.specs.Marks.{rowMark, Marked, DataAt}
 use Rattle.verdict_repeats.proofs.Laws.DataLines.{gives-at}
 
 -- a row that gives no reading has no earlier one
@@ -39,17 +39,17 @@ looking-none = record { inside = zero-le; so = refl }
 -- ---- what marks tell
 
 -- a row whose mark is not 0 gives a reading
-mark-gives : (k : Recorded) → (markOf k ≡ 0 → ⊥) → givesReading k ≡ true
-unfolding markOf
+mark-gives : (k : Recorded) → (rowMark k ≡ 0 → ⊥) → givesReading k ≡ true
+unfolding rowMark
 mark-gives k f = by-test (givesReading k) (λ e. e) (λ e. absurd (f (rw e)))
 
-mark-none : (k : Recorded) → markOf k ≡ 0 → givesReading k ≡ false
-unfolding markOf
+mark-none : (k : Recorded) → rowMark k ≡ 0 → givesReading k ≡ false
+unfolding rowMark
 mark-none k f = by-test (givesReading k) (λ e. let z : 1 + total (entriesPart (k .body)) ≡ 0 = rw e at f in absurd (omega arith)) (λ e. e)
 
 -- rows that give the same reading have the same mark
-same-marks : (j k : Recorded) → sameReading j k ≡ true → markOf j ≡ markOf k
-unfolding markOf sameReading sameParts
+same-marks : (j k : Recorded) → sameReading j k ≡ true → rowMark j ≡ rowMark k
+unfolding rowMark sameReading sameParts
 same-marks j k e =
     let p = every (givesReading j) (givesReading k ∷ sameParts (j .body) (k .body) ∷ []) e in
     let q = every (same (numberPart (j .body)) (numberPart (k .body))) (same (entriesPart (j .body)) (entriesPart (k .body)) ∷ []) (p .1 .1 .0) in

@@ -13,14 +13,14 @@ use Rattle.bundle_rows.specs.Rows.{mostRows}
 use Rattle.bundle_check.specs.Bundles.{checkOf}
 use Rattle.bundle_check.proofs.Laws.BodyLaws.{few-rows}
 use Rattle.replay_counting.specs.Ears.{rowIn}
-use Rattle.verdict_repeats.specs.Marks.{markOf, Marked}
+use Rattle.verdict_repeats.specs.Marks.{rowMark, Marked}
 
 -- so many rows are marked
 pub record Marking (b : List ℕ) (n i : ℕ) (marks : List ℕ) : Type 0 where
   pub accepted : checkOf b ≡ reads n
   pub inside : i ≤ n
   pub places : length marks ≡ mostRows
-  pub so : (j : ℕ) → j < i → getD marks j 0 ≡ markOf (rowIn b j)
+  pub so : (j : ℕ) → j < i → getD marks j 0 ≡ rowMark (rowIn b j)
 
 module _ {b : List ℕ} {n : ℕ} where
   pub marking-none : checkOf b ≡ reads n → Marking b n 0 (replicate mostRows 0)
@@ -30,14 +30,14 @@ module _ {b : List ℕ} {n : ℕ} where
     pub marking-room : i < n → i < mostRows
     marking-room h = omega (arith, few-rows b n (g .accepted))
 
-    pub marking-next : i < n → {mark : ℕ} → mark ≡ markOf (rowIn b i) → Marking b n (i + 1) (set marks i mark)
+    pub marking-next : i < n → {mark : ℕ} → mark ≡ rowMark (rowIn b i) → Marking b n (i + 1) (set marks i mark)
     marking-next h {mark} e = record {
       accepted = g .accepted;
       inside = omega arith;
       places = length-set marks i mark ∙ g .places;
       so = λ j k.
           by-test (eqb j i)
-          (λ q. subst (λ (m : ℕ). getD (set marks i mark) m 0 ≡ markOf (rowIn b m)) (sym (eqb-true j i q))
+          (λ q. subst (λ (m : ℕ). getD (set marks i mark) m 0 ≡ rowMark (rowIn b m)) (sym (eqb-true j i q))
           (getD-set-same marks i mark 0 (omega (arith, marking-room h, g .places)) ∙ e))
           (λ q. getD-set-other marks i j mark 0 (eqb-false j i q) ∙ g .so j (let other = eqb-false j i q in omega arith));
     }

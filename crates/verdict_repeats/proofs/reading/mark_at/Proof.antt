@@ -8,7 +8,7 @@ use Rattle.bundle_rows.specs.declared.Row.{Row}
 use Rattle.bundle_rows.specs.Rows.{bodyIn}
 use Rattle.bundle_rows.proofs.Laws.CharacterLaws.{body-whole}
 use Rattle.replay_counting.specs.Ears.{rowWith}
-use Rattle.verdict_repeats.specs.Marks.{markOf}
+use Rattle.verdict_repeats.specs.Marks.{rowMark}
 use borrow.Author.Needs.{needs}
 use Rattle.verdict_repeats.proofs.reading.mark_at.Statement.{statement}
 use Rattle.verdict_repeats.proofs.reading.mark_at.Tie as tie
@@ -47,8 +47,8 @@ returns c =
     let a = back4 .before .before .args in
     let r = back4 .unchecked-row .result in
     c .mark-of .ensures
-    ∙ ap (λ (l : List ℕ). markOf (rowWith r l)) (body-whole (a .bundle .now) r)
-    ∙ ap (λ (q : Row). markOf (rowWith q (bodyIn (a .bundle .now) q))) (back4 .unchecked-row .ensures)
+    ∙ ap (λ (l : List ℕ). rowMark (rowWith r l)) (body-whole (a .bundle .now) r)
+    ∙ ap (λ (q : Row). rowMark (rowWith q (bodyIn (a .bundle .now) q))) (back4 .unchecked-row .ensures)
 
 pub mark-at-spec : {M : Type 1} → statement M
 mark-at-spec =

@@ -3,7 +3,7 @@ use mathlib.Core.Path.{sym, _∙_}
 use native.Mathlib.Omega.{arith}
 use borrow.Author.Tests.{not-true, not-false}
 use Rattle.replay_counting.specs.Ears.{rowWith}
-use Rattle.verdict_repeats.specs.Marks.{markOf}
+use Rattle.verdict_repeats.specs.Marks.{rowMark}
 use Rattle.verdict_repeats.proofs.Laws.DataLines.{gives-long}
 use borrow.Author.Needs.{needs}
 use Rattle.verdict_repeats.proofs.reading.mark_of.Statement.{statement}
@@ -13,7 +13,7 @@ gives-reading-requires : tie.Need-gives-reading-requires
 gives-reading-requires c κs = search needs
 
 returns : tie.Need-returns
-unfolding markOf
+unfolding rowMark
 returns c =
     rw (sym (c .before .gives-reading .ensures) ∙ not-true _ (c .if1 .taken))
 
@@ -43,7 +43,7 @@ add-result c =
     omega (arith, c .sum-of .ensures .1)
 
 returns-2 : tie.Need-returns-2
-unfolding markOf
+unfolding rowMark
 returns-2 c =
     rw (sym (c .before .before .before .gives-reading .ensures) ∙ not-false _ (c .before .before .if1 .left), c .sum-of .ensures .0)
 
