@@ -42,7 +42,8 @@
  * has a kind 1 or 2 and broadcast 0 or 1; broadcast 1 has address 0 and is no answer's; a request has 0 in all that only an
  * answer has. No other field of it is asked about there, and writing refuses the rest by 20.
  *
- * Build the archive target/staticlib/libskarrowith.a with `make`, and link it into an x86-64 program.
+ * `make` builds it and `make install` installs it; it is linked into an x86-64 program as
+ * `pkg-config --cflags --libs skarrowith` says.
  */
 #ifndef SKARROWITH_H
 #define SKARROWITH_H
