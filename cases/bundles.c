@@ -1,11 +1,13 @@
 /* The cases of run bundles. */
 #include "bundles.h"
 
+#include "lines.h"
 #include "telegrams.h"
 #include "words.h"
 
 #include "../second/bundle.h"
 #include "../second/contents.h"
+#include "../second/repeat.h"
 #include "../second/replay.h"
 #include "../second/salvage.h"
 #include "../second/sweep.h"
@@ -239,5 +241,22 @@ int answer_replay(void)
         return 0;
     if (!refused(second_replay(bundle.b, bundle.n, (unsigned)position, s1, s2, elapsed, &tenths)))
         printf("error %+" PRId64, tenths);
+    return 1;
+}
+
+int answer_repeats(void)
+{
+    uint16_t numbers[PLACES_MOST];
+    uint64_t places;
+    size_t rows = 0;
+    if (!take(&places, PLACES_MOST) || !take_bytes(&bundle) || !is_whole())
+        return 0;
+    clear_places(numbers, places);
+    if (!refused(second_repeats(bundle.b, bundle.n, numbers, (size_t)places, &rows)))
+        printf("rows +%zu", rows);
+    while (places > 0 && numbers[places - 1] == MARKER)
+        places--;
+    for (uint64_t i = 0; i < places; i++)
+        printf(" +%" PRIu16, numbers[i]);
     return 1;
 }

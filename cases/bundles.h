@@ -13,5 +13,6 @@ int answer_sweep(void);
 int answer_salvage(void);
 int answer_list(void);
 int answer_replay(void);
+int answer_repeats(void);
 
 #endif

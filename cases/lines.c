@@ -11,8 +11,6 @@
 #include <inttypes.h>
 #include <stdio.h>
 
-enum { MARKER = 0xFFFF };
-
 static uint16_t characters[WORDS_MOST];
 
 void clear_places(uint16_t *buffer, uint64_t places)

@@ -4,7 +4,8 @@
 
 #include <stdint.h>
 
-enum { PLACES_MOST = 600 };
+/* The most places that are lent to a writer, and what each holds before it is called. */
+enum { PLACES_MOST = 600, MARKER = 0xFFFF };
 
 /* What is lent to a writer before it is called, and an outcome of writing: the length or the refusal, and what stands there. */
 void clear_places(uint16_t *buffer, uint64_t places);

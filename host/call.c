@@ -47,6 +47,7 @@ static const struct {
     [CONTENTS_ROW] = {"skarrowith_contents_row", "0", "21 39 101"},
     [CONTENTS_NEXT] = {"skarrowith_contents_next", "0", "39 101"},
     [REPLAY_ERROR] = {"skarrowith_replay_error", "0", "21 30 31 32 33 34 35 36 37 61 62 63 64 65"},
+    [REPEATS] = {"skarrowith_repeats", "0", "21 30 31 32 33 34 35 36 37"},
     [BUNDLE_SALVAGE] = {"skarrowith_bundle_salvage", "0", "21 30 31 32 33 38"},
     [BUNDLE_SWEEP] = {"skarrowith_bundle_sweep", "0", "30 31 32 33 34 35 36 37"},
     [CJT_CHECK_LINE] = {"skarrowith_cjt_check_line", "1 2", "1 2 3 17 80 81 82 83 84 85"},

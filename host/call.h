@@ -36,6 +36,7 @@ enum function {
     CONTENTS_ROW,
     CONTENTS_NEXT,
     REPLAY_ERROR,
+    REPEATS,
     BUNDLE_SALVAGE,
     BUNDLE_SWEEP,
     CJT_CHECK_LINE,

@@ -153,6 +153,7 @@ static uint32_t list_bundle(void) { return skarrowith_bundle_list(bytes, count, 
 static uint32_t replay_for(uint8_t p) { return skarrowith_replay_error(bytes, count, p, 0, 1000, 1000, &tenths, 1); }
 static uint32_t replay_bundle(void) { return replay_for(7); }
 static uint32_t pass_bundle(void) { return replay_for(8); }
+static uint32_t repeat_bundle(void) { return skarrowith_repeats(bytes, count, characters, MOST, &told); }
 static uint32_t none(void) { return (uint32_t)count; }
 
 static uint32_t read_by_second(void)
@@ -378,6 +379,36 @@ static void put_talk(void)
     second_put_number(last + 2 * 61, 2, second_character(0x03));
 }
 
+/* A character of a body that carries a byte. */
+static void put_byte(uint8_t *body, size_t place, unsigned byte) { second_put_number(body + 2 * place, 2, second_character(byte % 256)); }
+
+/* 512 answers of one meter without power and flow, each with another energy: every row is held against all before it. */
+static void put_readings(void)
+{
+    static uint8_t line[2 * SECOND_EXAMPLE];
+    size_t at = 2 + 12 * ROWS, length;
+    put_data();
+    read_line();
+    telegram.count = 5;
+    telegram.entries[0].value.count = 0;
+    telegram.entries[4] = telegram.entries[6];
+    memset(telegram.entries + 5, 0, 2 * sizeof telegram.entries[0]);
+    length = write_line();
+    for (size_t c = 0; c < length; c++)
+        second_put_number(line + 2 * c, 2, characters[c]);
+    second_put_number(bytes, 2, ROWS);
+    for (unsigned i = 0; i < ROWS; i++, at += 2 * length) {
+        struct second_row row = {1 + i % 48, 1, 1000 * i, (uint32_t)at, 2 * length};
+        unsigned low = 16 * (i / 10 % 10) + i % 10, high = i / 100;
+        second_put_row(bytes + 2 + 12 * i, &row);
+        memcpy(bytes + at, line, 2 * length);
+        put_byte(bytes + at, 21, low);
+        put_byte(bytes + at, 22, high);
+        put_byte(bytes + at, length - 2, characters[length - 2] + low + high);
+    }
+    count = at;
+}
+
 /* A run that is full of wake-ups: one of 459 characters before each read, 68 of both. */
 static void put_woken(void)
 {
@@ -455,6 +486,7 @@ static const struct {
     {"scan-all", put_contents, scan_all, scan_all_in_file},
     {"replay-bundle", put_talk, replay_bundle, replay_by_second},
     {"pass-bundle", put_talk, pass_bundle, NULL},
+    {"repeat-bundle", put_readings, repeat_bundle, NULL},
 };
 
 /* ---- the stack: painted, lent to one call, and looked at */

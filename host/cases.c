@@ -13,6 +13,7 @@
 #include "../second/line.h"
 #include "../second/meaning.h"
 #include "../second/meter.h"
+#include "../second/repeat.h"
 #include "../second/replay.h"
 #include "../second/resistance.h"
 #include "../second/salvage.h"
@@ -374,6 +375,11 @@ int second_replay(const uint8_t *bundle, size_t n, unsigned position, uint64_t s
                   int64_t *tenths)
 {
     return refusal_in(skarrowith_replay_error(bundle, n, (uint8_t)position, s1, s2, elapsed, tenths, 1));
+}
+
+int second_repeats(const uint8_t *bundle, size_t n, uint16_t *rows, size_t places, size_t *count)
+{
+    return refusal_in(skarrowith_repeats(bundle, n, rows, places, count));
 }
 
 /* ---- CJ/T 188 */

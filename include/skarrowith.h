@@ -9,18 +9,19 @@
  * Answers. Every function answers one number, skarrowith_version the version and every other as follows. Below 256 it is the
  * answer, 0 where there is nothing to say; SKARROWITH_REFUSED plus n is refusal n. On a refusal nothing that was lent has
  * changed, and otherwise only the places that are named have. Where several refusals apply, the library's own (100, 101) go
- * first and then the lowest number, but for six rules:
+ * first and then the lowest number, but for seven rules:
  *   - 17, an odd number of bytes, goes before 1 to 16, and before 80 to 85;
  *   - reading a CJ/T 188 line gives 80 to 85 before 21;
  *   - 11 to 14 are tried entry by entry from the left, in each entry the lowest first, and 16 after the last entry;
  *   - a wake-up gives 52 before 21;
  *   - adding to a bundle gives all that it has against the old bundle, 30 to 37, before 34, 37 and 38 for the new row;
  *   - a sweep and the replay give all that they have against the bundle, 30 to 37, before 34 for the position; the replay
- *     then gives 63, 64, 65, 61, 62.
+ *     then gives 63, 64, 65, 61, 62;
+ *   - where a place for each row is asked for, 30 to 37 for the bundle go before 21.
  *
  * Lent memory is a pointer and the number of its places; with 0 of them the pointer may be null. Output that is too short
  * for what is to be written is refused by 21; a longer one is changed in its first places alone. A count that is answered
- * beside (rows, i, filled, written, milliohm, hundredths, length, used, made) is written through a pointer to it, which may
+ * beside (rows, count, i, filled, written, milliohm, hundredths, length, used, made) is written through a pointer to it, which may
  * not be null. Memory for uint16_t, uint32_t, uint64_t, int64_t and size_t is aligned as C aligns these types; bytes and records
  * may stand at any address.
  *
@@ -41,7 +42,8 @@
  * has a kind 1 or 2 and broadcast 0 or 1; broadcast 1 has address 0 and is no answer's; a request has 0 in all that only an
  * answer has. No other field of it is asked about there, and writing refuses the rest by 20.
  *
- * Build the archive target/staticlib/libskarrowith.a with `make`, and link it into an x86-64 program.
+ * `make` builds it and `make install` installs it; it is linked into an x86-64 program as
+ * `pkg-config --cflags --libs skarrowith` says.
  */
 #ifndef SKARROWITH_H
 #define SKARROWITH_H
@@ -780,6 +782,20 @@ uint32_t skarrowith_bundle_list(const uint8_t *bundle, size_t len, uint8_t *out,
  */
 uint32_t skarrowith_replay_error(const uint8_t *bundle, size_t len, uint8_t position, uint64_t s1, uint64_t s2,
                                  uint64_t elapsed, int64_t *tenths, size_t places);
+
+/*
+ * Finds rows that repeat a reading: two positions, or two times of one position, that gave the same meter number and the
+ * same entries. So one finds an answer that was taken twice, and a meter that answers in another's place. The rest of the
+ * header, which a meter changes by itself, is not compared; nor are position and time, or whether a row counts.
+ *
+ * rows, places: place i takes 0, or 1 + the number of the lowest row before row i that was heard and is data with the meter
+ *               number and the entries of row i, which is such a row too; places is the number of uint16_t lent, of which
+ *               512 are always enough. Places past the count of rows stay.
+ * count:        takes the count of rows, 0 to 512; not null.
+ *
+ * Answers 0, or refuses by 30 to 37 as the check does, and then by 21 if there are fewer places than rows.
+ */
+uint32_t skarrowith_repeats(const uint8_t *bundle, size_t len, uint16_t *rows, size_t places, size_t *count);
 
 #ifdef __cplusplus
 }

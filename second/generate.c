@@ -7,6 +7,7 @@
 #include "make_capture.h"
 #include "make_cjt.h"
 #include "make_line.h"
+#include "make_repeat.h"
 #include "make_replay.h"
 #include "make_serial.h"
 #include "make_telegram.h"
@@ -356,6 +357,17 @@ static void generate_replay(void)
     print_bytes(bundle.b, bundle.n, bundle.rows);
 }
 
+static void generate_repeats(void)
+{
+    size_t places;
+    some_repeats();
+    places = bundle.rows > 600 ? 600 : bundle.rows;
+    if (once_in(4))
+        places = once_in(2) ? places + between(1, 20) : places - (places > 0);
+    printf("repeats +%zu", places > 600 ? 600 : places);
+    print_bytes(bundle.b, bundle.n, bundle.rows);
+}
+
 /* ---- CJ/T 188 */
 
 static void generate_cjtread(void)
@@ -436,6 +448,7 @@ int main(int argc, char **argv)
         {"unmark", generate_unmark},
         {"length", generate_length}, {"after", generate_after},
         {"replay", generate_replay},
+        {"repeats", generate_repeats},
         {"sweep", generate_sweep},
         {"cjtread", generate_cjtread},       {"cjtwrite", generate_cjtwrite},       {"cjtenergy", generate_cjtenergy},
     };

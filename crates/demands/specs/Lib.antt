@@ -24,6 +24,7 @@ pub mod BothEnds
 pub mod Runs
 pub mod WrongEnds
 pub mod Replay
+pub mod Repeats
 pub mod Sweep
 pub mod Values
 pub mod Weekdays

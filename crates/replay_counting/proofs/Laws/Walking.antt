@@ -32,6 +32,12 @@ record-there b i n e h =
 pub length-records : (b : List ℕ) (n : ℕ) → checkOf b ≡ reads n → length (recordsOf b) ≡ n
 length-records b n e = let s = accepted-sound b n e in length-held b (s .0) ∙ sym (s .1)
 
+-- the rows from a row on
+pub rows-from : (b : List ℕ) (i n : ℕ) → checkOf b ≡ reads n → i < n → drop i (recordsOf b) ≡ rowIn b i ∷ drop (suc i) (recordsOf b)
+rows-from b i n e h =
+    drop-cons (recordsOf b) i blankRecord (omega (arith, length-records b n e))
+    ∙ ap (λ (k : Recorded). k ∷ drop (suc i) (recordsOf b)) (record-there b i n e h)
+
 -- ---- the loop
 
 pub record Noted (b : List ℕ) (position n i : ℕ) (ear : Ear) (found : ℕ) (rows : List ℕ) : Type 0 where
@@ -53,11 +59,6 @@ module _ {b : List ℕ} {position n : ℕ} where
     abbrev row : Recorded
     row = rowIn b i
 
-    rest-rows : drop i (recordsOf b) ≡ row ∷ drop (suc i) (recordsOf b)
-    rest-rows =
-        drop-cons (recordsOf b) i blankRecord (omega (arith, length-records b n (g .accepted)))
-        ∙ ap (λ (k : Recorded). k ∷ drop (suc i) (recordsOf b)) (record-there b i n (g .accepted) h)
-
     next : Next position i (g .stretch) row (drop (suc i) (recordsOf b)) turn
     next = next-row position i (g .stretch) row (drop (suc i) (recordsOf b)) turn (e ∙ ap (λ (x : Ear). passedBy position x row) (g .hears))
 
@@ -65,7 +66,7 @@ module _ {b : List ℕ} {position n : ℕ} where
         → take found rows ++ keptIf counts i (numbersFrom position (suc i) (next .after) (drop (suc i) (recordsOf b))) ≡ numbersOf position (recordsOf b)
     on counts c =
         ap (λ (t : Bool). take found rows ++ keptIf t i (numbersFrom position (suc i) (next .after) (drop (suc i) (recordsOf b)))) (sym c)
-        ∙ ap (λ (l : List ℕ). take found rows ++ l) (sym (next .so) ∙ ap (numbersFrom position i (g .stretch)) (sym rest-rows)) ∙ g .so
+        ∙ ap (λ (l : List ℕ). take found rows ++ l) (sym (next .so) ∙ ap (numbersFrom position i (g .stretch)) (sym (rows-from b i n (g .accepted) h))) ∙ g .so
 
     pub noted-not : turn .counts ≡ false → Noted b position n (i + 1) (turn .ear) found rows
     noted-not c = record {
