@@ -35,6 +35,7 @@ from .exchange import Cause, Exchange, Meter, Pair, State
 from .lines import (Entry, Found, FoundAfter, FoundEither, Interface, Kind, Meaning, Moment, Quantity, Sort, Telegram, Unit, Unmarked,
                     check_line, entry_meaning, find_either, find_line, find_line_after, line_length, read_line, unmark, write_line,
                     write_request)
+from .runs import Outcome, Verdict, contents_verdicts, picture, repeats, verdict, verdicts
 from .names import *  # noqa: F401,F403
 
 __version__ = VERSION_TEXT  # noqa: F405
