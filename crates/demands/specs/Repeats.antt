@@ -4,11 +4,11 @@ use native.Mathlib.Omega.{arith}
 use mathlib.Core.Bool.{Bool, true, false, true≢false, or-true}
 use mathlib.Core.List.{List, [], _∷_}
 use mathlib.Core.Logic.{_↔_}
-use mathlib.Core.Path.{_≡_, refl, sym, ap, ap₂, _∙_}
+use mathlib.Core.Path.{_≡_, refl, sym, _∙_}
 use lib.Count.{onesIn}
 use lib.Dec.{ltb, eqb}
-use lib.ListN.{length, getD, replicate}
-use Rattle.mbus_rules.specs.Answers.{Answer, reads, refusal, refuse, within, follow}
+use lib.ListN.{length, getD}
+use Rattle.mbus_rules.specs.Answers.{Answer, reads, refusal, refuse, follow}
 use Rattle.mbus_rules.specs.Bytes.{Bytes}
 use Rattle.mbus_rules.specs.Characters.{odd, carrier}
 use Rattle.mbus_rules.specs.Digits.{digitsOf}
@@ -23,7 +23,7 @@ use Rattle.mbus_rules.specs.Moments.{wrongMoment}
 use Rattle.mbus_rules.specs.Quantities.{quantityOf, widthOf, paired}
 use Rattle.mbus_rules.specs.Signs.{minus}
 use Rattle.bench_clock.specs.Wakes.{isWake}
-use Rattle.bytes_lent.specs.Lent.{needs, stored}
+use Rattle.bytes_lent.specs.Lent.{needs}
 use Rattle.bytes_lent.specs.Pieces.{pieces}
 use Rattle.bytes_lent.specs.Same.{same}
 use Rattle.bytes_numbers.specs.Numbers.{bytesOf}
