@@ -144,7 +144,8 @@ module _ {lists : List ℕ} {n : ℕ} (t : Tried lists n) where
           (length-map rows (λ r. rowWith r (bodyIn b r)) ∙ size)
           (λ i h. ap (λ (r : Row). rowWith r (bodyIn b r)) (kept-there i h) ∙ sym (List·getD-map (λ r. rowWith r (bodyIn b r)) rows i blankRow))
 
-      pub kept-reads : record { outcome = Accepted; count = n; rulings = inPlaces (verdictsOf (recordsFrom true lists b n)) } ≡ shownVerdicts (verdictsKept lists b)
+      pub kept-reads :
+          record { outcome = Accepted; count = n; rulings = inPlaces (verdictsOf (recordsFrom true lists b n)) } ≡ shownVerdicts (verdictsKept lists b)
       unfolding verdictsKept
       kept-reads =
           let whole : n ≡ length (verdictsOf (recordsKept (columnsIn lists) b)) =

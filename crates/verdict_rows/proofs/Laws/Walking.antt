@@ -86,7 +86,8 @@ module _ {f : ℕ → Recorded} {n : ℕ} where
           so =
               rw (add-one, take-suc-set rulings i (ruling (judged .verdict)) room, g .so)
               (ap (λ (v : Verdict). map ruling (verdictsOf (firsts f i)) ++ (ruling v ∷ [])) told
-              ∙ sym (ap (map ruling) (verdicts-next (firsts f i) k) ∙ map-append ruling (verdictsOf (firsts f i)) (verdictAfter (benchOf (k .position) (firsts f i)) k ∷ [])));
+              ∙ sym (ap (map ruling) (verdicts-next (firsts f i) k)
+              ∙ map-append ruling (verdictsOf (firsts f i)) (verdictAfter (benchOf (k .position) (firsts f i)) k ∷ [])));
           rest =
               drop-set-lt (i + 1) rulings i (ruling (judged .verdict)) (omega arith) ∙ sym (drop-drop 1 i rulings)
               ∙ ap (drop 1) (g .rest ∙ ap (λ (m : ℕ). replicate m (ruling Unasked)) more);
