@@ -1,7 +1,7 @@
 -- Laws of `specs/Told`.
 use Prim.Native.Nat.{ℕ, zero, suc, _+_, _*_, _-_, _≤_, _<_, zero-le}
-use mathlib.Core.Bool.{Bool, true, false, not, _||_}
-use mathlib.Core.List.{List, [], _∷_, _++_, map}
+use mathlib.Core.Bool.{true, false, not, _||_}
+use mathlib.Core.List.{List, [], _∷_, map}
 use mathlib.Core.Path.{_≡_, refl, sym, ap, subst, _∙_}
 use native.Mathlib.Nat.{not-suc-le-zero, zero-add}
 use native.Mathlib.Omega.{arith}
@@ -15,9 +15,9 @@ use Rattle.mbus_rules.specs.declared.Outcome.the-variants.{Accepted, Refused}
 use Rattle.mbus_rules.proofs.Laws.AnswerLaws.{reads-same}
 use Rattle.mbus_rules.proofs.Laws.TestLaws.{not-refused}
 use Rattle.mbus_rules.proofs.Laws.Tests.{neither, passed}
-use Rattle.bytes_numbers.specs.Numbers.{number, bytesOf}
+use Rattle.bytes_numbers.specs.Numbers.{bytesOf}
 use Rattle.bytes_lent.specs.Copying.{copied}
-use Rattle.bytes_lent.specs.Lent.{done, needs}
+use Rattle.bytes_lent.specs.Lent.{done}
 use Rattle.bytes_lent.proofs.Laws.LentLaws.{leaves-all, leaves-copied}
 use Rattle.bytes_lent.proofs.Laws.PieceLaws.{Pieced, pieced-none, pieced-next, pieced-all}
 use Rattle.host_records.specs.Recorded.{noRecord}
@@ -177,7 +177,8 @@ module _ {all : Verdicts} (full : InFull all) where
     pub given-short : all .outcome ≡ Accepted → ltb (length out) (4 * all .count) ≡ true → Given (256 + 21) out count
     given-short e s = unchanged {n = 21} (rw (e, size, s))
 
-    pub given-all : {out' : List ℕ} → all .outcome ≡ Accepted → ltb (length out) (4 * all .count) ≡ false → PutsVerdicts told out out' → Given 0 out' (all .count)
+    pub given-all : {out' : List ℕ} → all .outcome ≡ Accepted → ltb (length out) (4 * all .count) ≡ false
+        → PutsVerdicts told out out' → Given 0 out' (all .count)
     given-all {out'} e s p =
         let q : verdictsInto (answerIn all) out ≡ reads told = rw (e, size, s) in
         rw q (record { tells = record { answer = refl; left = p }; counts = sym size })
@@ -210,14 +211,16 @@ module _ (a : Answer (List Verdict)) (i : ℕ) (out : List ℕ) where
   pub one-short : ltb (length out) 4 ≡ true → GivesVerdict (verdictInto a i out) out (256 + 21) out
   one-short e = rw e (leaves-all verdictRecord out done refl)
 
-  module _ {all : Verdicts} {s : VerdictFound} (e : ltb (length out) 4 ≡ false) (g : all ≡ shownVerdicts a) (f : s ≡ verdictFound (verdictIn (answerIn all) i)) where
+  module _ {all : Verdicts} {s : VerdictFound} (e : ltb (length out) 4 ≡ false) (g : all ≡ shownVerdicts a)
+      (f : s ≡ verdictFound (verdictIn (answerIn all) i)) where
     is : (b : Answer Verdict) → s ≡ verdictFound b → verdictIn a i ≡ b
     is b h = ap (λ (x : Answer (List Verdict)). verdictIn x i) (sym (answer-is a g)) ∙ verdictFound-same (verdictIn (answerIn all) i) b (sym f ∙ h)
 
     pub one-refused : {n : ℕ} → s ≡ found.Refused n → GivesVerdict (verdictInto a i out) out (256 + n) out
     one-refused {n} h = rw e (leaves-all verdictRecord out done (is (refusal n) h))
 
-    pub one-given : {v : Verdict} {x after : List ℕ} → s ≡ found.Is v → x ≡ verdictRecord v → after ≡ copied out 0 x → GivesVerdict (verdictInto a i out) out 0 after
+    pub one-given : {v : Verdict} {x after : List ℕ} → s ≡ found.Is v → x ≡ verdictRecord v → after ≡ copied out 0 x
+        → GivesVerdict (verdictInto a i out) out 0 after
     one-given {v} {x} h d k =
         let room : length x ≤ length out = omega (arith, ap length d, length-record v, ltb-false (length out) 4 e) in
         rw e (leaves-copied verdictRecord out done (is (reads v) h) d room k refl)

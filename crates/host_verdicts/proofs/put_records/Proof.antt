@@ -2,7 +2,6 @@
 use borrow.Author.Needs.{needs}
 use Prim.Native.Nat.{_-_}
 use mathlib.Core.Path.{_≡_}
-use native.Mathlib.Omega.{arith}
 use lib.ListN.{length}
 use Rattle.bytes_lent.proofs.Laws.PieceLaws.{Pieced, pieced-length}
 use Rattle.host_verdicts.specs.Records.{verdictRecord}

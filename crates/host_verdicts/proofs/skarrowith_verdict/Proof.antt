@@ -48,7 +48,8 @@ returns-2 c =
     let back10 = back5 .before .before .before .before .before in
     let a = back10 .before .before .before .before .args in
     one-given (verdictsIn (now (a .bundle))) (a .i) (now (a .verdict)) (back10 .before .if1 .left) (back10 .verdicts-in .ensures)
-    (back5 .before .before .before .before .found .ensures) (back5 .before .before .v .given .1) (back5 .record-of .ensures) (c .before .before .store .ensures .1)
+    (back5 .before .before .before .before .found .ensures) (back5 .before .before .v .given .1) (back5 .record-of .ensures)
+    (c .before .before .store .ensures .1)
 
 returns-3 : tie.Need-returns-3
 returns-3 c =

@@ -1,13 +1,12 @@
 -- The walk along rows, which keeps the exchange of each position and puts the verdict of each row into its place.
 use Prim.Native.Nat.{ℕ, zero, suc, _+_, _-_, _≤_, _<_, zero-le}
-use mathlib.Core.Bool.{Bool, true, false}
 use mathlib.Core.List.{List, [], _∷_, _++_, map, map-append}
 use mathlib.Core.Path.{_≡_, refl, sym, ap, ap₂, _∙_}
 use native.Mathlib.Numerals.{add-one}
 use native.Mathlib.Omega.{arith}
-use borrow.Author.Tests.{eq-eqb, ne-eqb, eqb-true, eqb-false}
+use borrow.Author.Tests.{eqb-true, eqb-false}
 use lib.Dec.{eqb}
-use lib.ListN.{length, getD, take, drop, set, replicate, getD-replicate, length-replicate, length-append, length-set, take-append-drop}
+use lib.ListN.{length, getD, take, drop, set, replicate, getD-replicate, length-append, length-set, take-append-drop}
 use lib.Seq.{take-suc-set, drop-set-lt, drop-drop, getD-set-same, getD-set-other}
 use Rattle.mbus_rules.proofs.Laws.Tests.{by-test}
 use Rattle.bundle_rows.specs.Rows.{mostRows}

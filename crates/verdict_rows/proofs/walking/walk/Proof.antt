@@ -1,6 +1,5 @@
 -- `verdict_rows::walking::walk` meets its contract: each turn judges one row. Assumes nothing.
-use Prim.Native.Nat.{_-_, _+_, _≤_, _<_}
-use mathlib.Core.Path.{_≡_, sym, ap, _∙_}
+use Prim.Native.Nat.{_-_}
 use native.Mathlib.Omega.{arith}
 use borrow.Author.Needs.{needs}
 use Rattle.verdict_rows.specs.Walking.{recordFrom}
