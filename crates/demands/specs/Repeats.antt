@@ -4,11 +4,11 @@ use native.Mathlib.Omega.{arith}
 use mathlib.Core.Bool.{Bool, true, false, true≢false, or-true}
 use mathlib.Core.List.{List, [], _∷_}
 use mathlib.Core.Logic.{_↔_}
-use mathlib.Core.Path.{_≡_, refl, sym, ap, ap₂, _∙_}
+use mathlib.Core.Path.{_≡_, refl, sym, _∙_}
 use lib.Count.{onesIn}
 use lib.Dec.{ltb, eqb}
-use lib.ListN.{length, getD, replicate}
-use Rattle.mbus_rules.specs.Answers.{Answer, reads, refusal, refuse, within, follow}
+use lib.ListN.{length, getD}
+use Rattle.mbus_rules.specs.Answers.{Answer, reads, refusal, refuse, follow}
 use Rattle.mbus_rules.specs.Bytes.{Bytes}
 use Rattle.mbus_rules.specs.Characters.{odd, carrier}
 use Rattle.mbus_rules.specs.Digits.{digitsOf}
@@ -23,12 +23,14 @@ use Rattle.mbus_rules.specs.Moments.{wrongMoment}
 use Rattle.mbus_rules.specs.Quantities.{quantityOf, widthOf, paired}
 use Rattle.mbus_rules.specs.Signs.{minus}
 use Rattle.bench_clock.specs.Wakes.{isWake}
-use Rattle.bytes_lent.specs.Lent.{needs, stored}
+use Rattle.bytes_lent.specs.Lent.{needs}
 use Rattle.bytes_lent.specs.Pieces.{pieces}
 use Rattle.bytes_lent.specs.Same.{same}
-use Rattle.bytes_numbers.specs.Numbers.{bytesOf}
+use Rattle.bytes_numbers.specs.Numbers.{number, bytesOf}
+use Rattle.bundle_rows.specs.Rows.{rowsOf, bytesOfRows}
 use Rattle.bundle_check.specs.Bundles.{checkOf}
-use Rattle.bundle_check.specs.Records.{Recorded, recordsOf}
+use Rattle.bundle_check.specs.Records.{Recorded, recordsIn, recordsOf, rowsFor, bodiesFor, bundleOf}
+use Rattle.bundle_check.specs.Walks.{someWrong, endOf}
 use Rattle.bundle_check.specs.declared.Checked.{Checked}
 use Rattle.bundle_check.proofs.Laws.HoldingLaws.{blankRecord}
 use Rattle.replay_counting.specs.Counting.{isSent}
@@ -101,6 +103,12 @@ pub heard-twice :
 unfolding earlierAfter firstSame sameReading sameParts same chars bytesOf readLine readBody readEntries any total odd carrier onesIn flips flipBit wrongHeader
     digitsOf minus wrongMoment quantityOf widthOf paired
 heard-twice = refl
+
+-- The bundle of two of these rows is accepted, and names the first for the second.
+pub bundle-names-it : earlierInto (bundleOf (at 3 1 0 dataLine ∷ at 7 1 9000 (flips four dataLine) ∷ [])) (7 ∷ 7 ∷ 7 ∷ []) ≡ reads (0 ∷ 1 ∷ [])
+unfolding earlierInto checkOf number rowsOf someWrong endOf recordsIn rowsFor bytesOfRows bodiesFor earlierAfter firstSame sameReading sameParts same chars
+    bytesOf readLine readBody readEntries any total odd carrier onesIn flips flipBit wrongHeader digitsOf minus wrongMoment quantityOf widthOf paired
+bundle-names-it = refl
 
 -- ---- how much the promise says
 

@@ -198,7 +198,7 @@ impl Exchange {
     }
 
     // A resend of what the view is has ended at t; a different request is 43.
-    fn resent(self, view: View, t: Clock) -> Stepped
+    pub fn resent(self, view: View, t: Clock) -> Stepped
         ensures { λ r. ⌜ r ≡ shownStep (resentIn self view t) ⌝ }
     {
         let request = self.request;
@@ -249,7 +249,7 @@ impl Bench {
     }
 
     // A line of this view heard at t.
-    fn seen(self, view: View, t: Clock) -> Stepped
+    pub fn seen(self, view: View, t: Clock) -> Stepped
         ensures { λ r. ⌜ r ≡ shownStep (heardOn self view t) ⌝ }
     {
         match self {

@@ -31,7 +31,8 @@ use Rattle.mbus_fields.proofs.Laws.MarkLaws.{signed-by}
 use Rattle.mbus_fields.proofs.Laws.TableLaws.{time-quantity, goes-paired, low-width, low-most, quantity-few}
 use Rattle.mbus_entries.specs.declared.entry.Valued.{Valued}
 use Rattle.mbus_entries.specs.declared.entry.Tried.{Tried}
-use Rattle.mbus_entries.specs.Trying.{Long, Led, numbered, lowValued, digitsValued, valued, valuedShown, withValue, Taken, takenOf, tried, triedShown, unseen, nextOf}
+use Rattle.mbus_entries.specs.Trying.{Long, Led, numbered, lowValued, digitsValued, valued, valuedShown, withValue}
+use Rattle.mbus_entries.specs.Trying.{Taken, takenOf, tried, triedShown, unseen, nextOf}
 
 -- ---- the value
 
@@ -93,7 +94,12 @@ packed-each P pa pb pc pe st p =
     is k so h = rw (eqb-true st k h) so
 
 low-packed : (st : ℕ) → st < 8 → isPacked st ≡ false
-low-packed st h = rw (ne-eqb st 0x0A (λ e. omega arith), ne-eqb st 0x0B (λ e. omega arith), ne-eqb st 0x0C (λ e. omega arith), ne-eqb st 0x0E (λ e. omega arith))
+low-packed st h = rw (
+  ne-eqb st 0x0A (λ e. omega arith),
+  ne-eqb st 0x0B (λ e. omega arith),
+  ne-eqb st 0x0C (λ e. omega arith),
+  ne-eqb st 0x0E (λ e. omega arith),
+)
 
 high-binary : (st : ℕ) → 8 ≤ st → isBinary st ≡ false
 high-binary st h = rw (

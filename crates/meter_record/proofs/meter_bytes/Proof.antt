@@ -31,8 +31,10 @@ lay-requires-2 c κs = search needs
 
 returns : tie.Need-returns
 returns c =
-    front-laid (replicate 192 0) (c .before .before .before .before .before .before .before .before .before .before .args .m) (search needs) (search needs) (search needs)
-    (c .before .before .before .before .before .before .before .before .before .front-bytes .ensures) (c .before .before .before .before .before .before .before .before .telegram-bytes .ensures)
+    front-laid (replicate 192 0) (c .before .before .before .before .before .before .before .before .before .before .args .m)
+    (search needs) (search needs) (search needs)
+    (c .before .before .before .before .before .before .before .before .before .front-bytes .ensures)
+    (c .before .before .before .before .before .before .before .before .telegram-bytes .ensures)
     (c .before .before .before .before .before .lay .ensures) (c .before .lay2 .ensures)
 
 pub meter-bytes-spec : {M : Type 1} → statement M

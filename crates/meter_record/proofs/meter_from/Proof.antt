@@ -41,7 +41,8 @@ enum-told-2 c = search needs
 recalled-requires : tie.Need-recalled-requires
 recalled-requires c κs = (
   c .before .before .before .before .if1 .left,
-  from-known (now (c .before .before .before .before .before .before .args .b)) (c .before .before .before .before .if1 .left) (c .before .before .telegram-from .ensures) (c .enum-told2 .given .1),
+  from-known (now (c .before .before .before .before .before .before .args .b)) (c .before .before .before .before .if1 .left)
+      (c .before .before .telegram-from .ensures) (c .enum-told2 .given .1),
 )
 
 returns-3 : tie.Need-returns-3

@@ -40,7 +40,8 @@ no-meter-requires c κs = search needs
 returns : tie.Need-returns
 returns c =
     let b = now (c .before .before .before .before .before .before .before .before .args .b) in
-    c .no-meter .ensures ∙ sym (ap shownSetup (recalled-other b (c .before .before .before .before .before .before .meter-in .result) (behind (c .before .before .before .before .before .before))
+    c .no-meter .ensures ∙ sym (ap shownSetup (recalled-other b (c .before .before .before .before .before .before .meter-in .result)
+    (behind (c .before .before .before .before .before .before))
     (c .before .before .before .before .before .front-bytes .ensures) (c .before .before .is-same .ensures) (c .before .if1 .taken)))
     ∙ ap (λ (m : Meter). shownSetup (recalled b m)) (c .before .before .before .before .before .before .meter-in .ensures)
 
@@ -62,7 +63,8 @@ returns-2 c =
 returns-3 : tie.Need-returns-3
 returns-3 c =
     let b = now (c .before .before .before .before .before .before .before .before .before .args .b) in
-    sym (ap shownSetup (recalled-same b (c .before .before .before .before .before .before .before .meter-in .result) (behind (c .before .before .before .before .before .before .before))
+    sym (ap shownSetup (recalled-same b (c .before .before .before .before .before .before .before .meter-in .result)
+    (behind (c .before .before .before .before .before .before .before))
     (c .before .before .before .before .before .before .front-bytes .ensures) (c .before .before .before .is-same .ensures) (c .before .is-unreached .ensures)
     (c .before .before .if1 .left) (c .if2 .left)))
     ∙ ap (λ (m : Meter). shownSetup (recalled b m)) (c .before .before .before .before .before .before .before .meter-in .ensures)

@@ -2,10 +2,10 @@
 use Prim.Native.Nat.{ℕ}
 use mathlib.Core.Bool.{true, false}
 use mathlib.Core.List.{List, []}
-use mathlib.Core.Path.{_≡_, refl, ap, _∙_}
+use mathlib.Core.Path.{_≡_}
 use lib.Dec.{ltb}
 use lib.ListN.{length}
-use Rattle.mbus_rules.specs.Answers.{Answer, reads, refusal}
+use Rattle.mbus_rules.specs.Answers.{reads, refusal}
 use Rattle.bytes_lent.specs.Lent.{stored}
 use Rattle.bundle_check.specs.declared.Checked.the-variants.{Rows, Refused}
 use Rattle.bundle_check.specs.Bundles.{checkOf}

@@ -1,7 +1,7 @@
 -- A row that gives a reading: its line is what is written for a data telegram, and so long enough for meter number and entries.
-use Prim.Native.Nat.{ℕ, _+_, _-_, _/_, _≤_, _<_}
+use Prim.Native.Nat.{ℕ, _+_, _-_, _≤_, _<_}
 use mathlib.Core.Bool.{Bool, true, false, not, _&&_, false≢true}
-use mathlib.Core.List.{List, [], _∷_, _++_, map}
+use mathlib.Core.List.{List, map}
 use mathlib.Core.Path.{_≡_, refl, sym, ap, _∙_}
 use native.Mathlib.Omega.{arith}
 use lib.ListN.{length, take, drop, length-map, length-drop}
@@ -15,7 +15,6 @@ use Rattle.mbus_rules.specs.Host.{chars}
 use Rattle.mbus_rules.specs.Lines.{readLine}
 use Rattle.mbus_rules.specs.Views.{viewOf, viewed}
 use Rattle.mbus_rules.specs.Writing.{entriesOf, bytesOfKind, closed, lineOf, wrongFor, unwritable}
-use Rattle.mbus_rules.proofs.Laws.TestLaws.{every}
 use Rattle.mbus_rules.proofs.Laws.FrameLaws.{closed-length}
 use Rattle.mbus_rules.proofs.Laws.LineLaws.{dataBytes}
 use Rattle.mbus_rules.proofs.Laws.RoundTrip.{read-then-write, data-lengths}

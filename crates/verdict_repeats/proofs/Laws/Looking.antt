@@ -1,19 +1,17 @@
 -- The loop that looks for the lowest earlier row that gives the same reading as row i.
 use Prim.Native.Nat.{ℕ, suc, _+_, _≤_, _<_, zero-le}
-use mathlib.Core.Bool.{Bool, true, false, cond, _&&_, and-false}
+use mathlib.Core.Bool.{Bool, true, false, cond, and-false}
 use mathlib.Core.List.{List, [], _∷_}
 use mathlib.Core.Path.{_≡_, refl, sym, ap, _∙_}
 use native.Mathlib.Numerals.{add-one}
 use native.Mathlib.Omega.{arith}
 use lib.ListN.{length, getD, take, drop, drop-of-length-le}
 use lib.Seq.{drop-cons, getD-take, length-take-le}
-use Rattle.mbus_rules.specs.Answers.{reads}
 use Rattle.mbus_rules.specs.Lists.{total}
 use Rattle.mbus_rules.proofs.Laws.Tests.{by-test}
 use Rattle.mbus_rules.proofs.Laws.TestLaws.{every}
 use Rattle.bytes_lent.specs.Same.{same}
 use Rattle.bytes_lent.proofs.Laws.Same.{same-equal}
-use Rattle.bundle_check.specs.Bundles.{checkOf}
 use Rattle.bundle_check.specs.Records.{Recorded, recordsOf}
 use Rattle.bundle_check.proofs.Laws.HoldingLaws.{blankRecord}
 use Rattle.replay_counting.specs.Ears.{rowIn}

@@ -1,25 +1,21 @@
 -- What it means that two rows give the same reading, and which rows give none.
-use Prim.Native.Nat.{ℕ, _+_, _-_, _%_, _≤_, _<_}
-use mathlib.Core.Bool.{Bool, true, false, not, _&&_, true≢false}
-use mathlib.Core.List.{List, [], _∷_, map}
+use Prim.Native.Nat.{ℕ, _-_, _%_, _≤_, _<_}
+use mathlib.Core.Bool.{true, false, not}
+use mathlib.Core.List.{List, [], _∷_}
 use mathlib.Core.Logic.{_↔_}
-use mathlib.Core.Path.{_≡_, refl, sym, ap, _∙_}
+use mathlib.Core.Path.{_≡_, ap}
 use native.Mathlib.Omega.{arith}
 use borrow.Author.Tests.{ltb-false, not-true}
 use lib.Dec.{ltb}
-use lib.ListN.{length, take, drop, length-drop}
+use lib.ListN.{length, drop, length-drop}
 use lib.Seq.{length-take-le}
-use Rattle.mbus_rules.specs.declared.Kind.{Kind}
 use Rattle.mbus_rules.specs.declared.Kind.the-variants.{Data}
 use Rattle.mbus_rules.specs.declared.Telegram.{Telegram}
-use Rattle.mbus_rules.specs.Answers.{Answer, reads}
+use Rattle.mbus_rules.specs.Answers.{reads}
 use Rattle.mbus_rules.specs.Bytes.{Bytes}
 use Rattle.mbus_rules.specs.Host.{chars}
 use Rattle.mbus_rules.specs.Lines.{readLine}
 use Rattle.mbus_rules.specs.Lists.{any}
-use Rattle.mbus_rules.specs.Views.{viewOf, viewed}
-use Rattle.mbus_rules.specs.Writing.{entriesOf}
-use Rattle.mbus_rules.proofs.Laws.AnswerLaws.{reads-same}
 use Rattle.mbus_rules.proofs.Laws.ByteLaws.{bytes-take, bytes-drop}
 use Rattle.mbus_rules.proofs.Laws.RoundTrip.{read-then-write, longest-line}
 use Rattle.mbus_rules.proofs.Laws.Tests.{by-test, neither}
@@ -29,13 +25,13 @@ use Rattle.bytes_lent.specs.Same.{same}
 use Rattle.bytes_lent.proofs.Laws.Same.{same-equal, same-itself}
 use Rattle.bundle_rows.specs.Rows.{uncheckedRow}
 use Rattle.bundle_check.specs.Bundles.{checkOf}
-use Rattle.bundle_check.specs.Records.{Recorded, recordsOf}
+use Rattle.bundle_check.specs.Records.{Recorded}
 use Rattle.bundle_check.proofs.Laws.BodyLaws.{unchecked-right}
-use Rattle.replay_counting.specs.Counting.{isSent, rowView}
+use Rattle.replay_counting.specs.Counting.{isSent}
 use Rattle.replay_counting.specs.Ears.{rowIn}
-use Rattle.verdict_repeats.specs.Repeats.{tellsData, givesReading, numberPart, entriesPart, sameParts, sameReading}
+use Rattle.verdict_repeats.specs.Repeats.{givesReading, numberPart, entriesPart, sameParts, sameReading}
 use Rattle.verdict_repeats.specs.Meaning.{SameTelegrams}
-use Rattle.verdict_repeats.proofs.Laws.DataLines.{DataLine, data-line, gives-line, gives-long, body-length}
+use Rattle.verdict_repeats.proofs.Laws.DataLines.{DataLine, gives-line, gives-long, body-length}
 use Rattle.verdict_repeats.proofs.Laws.Pairs.{chars-same}
 use Rattle.verdict_repeats.proofs.Laws.Parts.{same-number, same-entries, number-same, entries-same}
 
@@ -58,7 +54,8 @@ wake-gives-none k e = by-test (givesReading k) (λ g. absurd (too-long (gives-li
     too-long d =
         let s : List ℕ = chars (k .body) in
         let w = every (not (outsideWake (length s))) (not (any noWake s) ∷ []) e in
-        let least : wakeLeast ≤ length s = ltb-false (length s) wakeLeast (neither (ltb (length s) wakeLeast) (ltb wakeMost (length s)) (not-true _ (w .0)) .0) in
+        let inside = neither (ltb (length s) wakeLeast) (ltb wakeMost (length s)) (not-true (outsideWake (length s)) (w .0)) in
+        let least : wakeLeast ≤ length s = ltb-false (length s) wakeLeast (inside .0) in
         let r = read-then-write s (d .telegram) (d .read) in
         omega (arith, longest-line (d .telegram) (r .writable), ap length (r .same))
 
@@ -118,7 +115,8 @@ module _ (j k : Recorded) where
         let number : numberPart (j .body) ≡ numberPart (k .body) =
         chars-same (numberPart (j .body)) (numberPart (k .body)) (p .0 .0) (q .0 .0) (p .0 .1) (q .0 .1) (number-same (j .body) (k .body) d f (m .number)) in
         let entries : entriesPart (j .body) ≡ entriesPart (k .body) =
-        chars-same (entriesPart (j .body)) (entriesPart (k .body)) (p .1 .0) (q .1 .0) (p .1 .1) (q .1 .1) (entries-same (j .body) (k .body) d f (m .entries)) in
+        chars-same (entriesPart (j .body)) (entriesPart (k .body)) (p .1 .0) (q .1 .0) (p .1 .1) (q .1 .1)
+        (entries-same (j .body) (k .body) d f (m .entries)) in
         rw (a, b, number, entries, same-itself (numberPart (k .body)), same-itself (entriesPart (k .body)))
 
     pub same-reading : (sameReading j k ≡ true) ↔ SameTelegrams j k

@@ -1,6 +1,6 @@
 -- The parts of a line of data: the characters of its meter number and of its entries carry what is written for the telegram's.
 use Prim.Native.Nat.{ℕ, _+_, _-_, _/_, _%_, _<_}
-use mathlib.Core.Bool.{false, not}
+use mathlib.Core.Bool.{not}
 use mathlib.Core.List.{List, [], _∷_, _++_, map}
 use mathlib.Core.Path.{_≡_, refl, sym, ap, _∙_}
 use native.Mathlib.Omega.{arith}
@@ -48,7 +48,10 @@ module _ (t : Telegram) where
 
   around : length (bytesOfKind Data t) ≡ 21 + length (bytesOfEntries (entriesOf t))
   unfolding packed
-  around = let e : length (bytesOfEntries (entriesOf t) ++ closing) ≡ length (bytesOfEntries (entriesOf t)) + 2 = length-append (bytesOfEntries (entriesOf t)) closing in omega arith
+  around =
+      let es : List ℕ = bytesOfEntries (entriesOf t) in
+      let e : length (es ++ closing) ≡ length es + 2 = length-append es closing in
+      omega arith
 
   entries-there : take (length (bytesOfEntries (entriesOf t))) (drop 19 (bytesOfKind Data t)) ≡ bytesOfEntries (entriesOf t)
   entries-there = rw behind-header (take-append-seam (bytesOfEntries (entriesOf t)) closing)

@@ -1,12 +1,11 @@
 -- The loop that puts the number for each row into its place.
 use Prim.Native.Nat.{ℕ, suc, _+_, _≤_, _<_, zero-le}
-use mathlib.Core.Bool.{Bool}
 use mathlib.Core.List.{List, [], _∷_, _++_, append-nil, append-assoc}
 use mathlib.Core.Path.{_≡_, refl, sym, ap, ap₂, _∙_}
 use native.Mathlib.Numerals.{add-one}
 use native.Mathlib.Omega.{arith}
-use lib.ListN.{length, getD, take, drop, set, length-set, drop-of-length-le, take-append-drop}
-use lib.Seq.{take-suc, take-suc-set, drop-set-lt, drop-drop, length-take-le}
+use lib.ListN.{length, take, drop, set, length-set, drop-of-length-le, take-append-drop}
+use lib.Seq.{take-suc, take-suc-set, drop-set-lt, drop-drop}
 use Rattle.mbus_rules.specs.Answers.{reads}
 use Rattle.bytes_lent.specs.Copying.{laid}
 use Rattle.bundle_check.specs.Bundles.{checkOf}

@@ -44,8 +44,8 @@ returns-3 c =
     let back7 = c .before .before .before .before .before .before .before in
     let back11 = back7 .before .before .before .before in
     let a = back11 .before .before .before .args in
-    earlier-told (a .bundle .now) (a .rows .now) (check-reads (a .bundle .now) (back11 .check .ensures) (back7 .before .before .count .given .1)) (back7 .if1 .left)
-    (c .before .before .put-earlier .ensures)
+    let e = check-reads (a .bundle .now) (back11 .check .ensures) (back7 .before .before .count .given .1) in
+    earlier-told (a .bundle .now) (a .rows .now) e (back7 .if1 .left) (c .before .before .put-earlier .ensures)
 
 pub earlier-rows-spec : {M : Type 1} → statement M
 earlier-rows-spec =

@@ -1,7 +1,6 @@
 -- `verdict_repeats::is_same_reading` meets its contract, by the marks of both rows. Assumes nothing.
 use mathlib.Core.Path.{sym, _∙_}
 use native.Mathlib.Omega.{arith}
-use borrow.Author.Needs.{needs}
 use Rattle.bundle_check.proofs.Laws.BodyLaws.{few-rows}
 use Rattle.verdict_repeats.proofs.Laws.Looking.{marked-data, same-unlike, same-marked}
 use Rattle.verdict_repeats.proofs.is_same_reading.Statement.{statement}

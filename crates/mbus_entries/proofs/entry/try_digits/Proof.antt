@@ -18,7 +18,9 @@ digits-at-requires : tie.Need-digits-at-requires
 digits-at-requires c κs = search needs
 
 returns : tie.Need-returns
-returns c = wide-unfit (c .before .before .before .before .before .before .pre .0) (c .before .before .before .before .before .before .pre .1) (c .before .before .digits-at .ensures) (c .if1 .taken)
+returns c =
+    let p = c .before .before .before .before .before .before in
+    wide-unfit (p .pre .0) (p .pre .1) (c .before .before .digits-at .ensures) (c .if1 .taken)
 
 signed-in-requires : tie.Need-signed-in-requires
 signed-in-requires c κs = search needs
@@ -32,7 +34,8 @@ entry-with-requires c κs = search needs
 returns-2 : tie.Need-returns-2
 returns-2 c =
     c .entry-with .ensures
-    ∙ wide-tried (c .before .before .before .before .before .before .before .before .before .pre .0) (c .before .before .before .before .before .before .before .before .before .pre .1) (c .before .before .before .before .before .digits-at .ensures)
+    ∙ wide-tried (c .before .before .before .before .before .before .before .before .before .pre .0)
+    (c .before .before .before .before .before .before .before .before .before .pre .1) (c .before .before .before .before .before .digits-at .ensures)
     (c .before .before .before .if1 .left)
     (bytes-each (now (c .before .before .before .before .before .before .before .before .before .args .rest))
     (λ i. omega (arith, c .before .before .before .before .before .before .before .before .shared-slice-known .given i)))

@@ -55,7 +55,9 @@ entry-with-requires : tie.Need-entry-with-requires
 entry-with-requires c κs = search needs
 
 returns-2 : tie.Need-returns-2
-returns-2 c = c .entry-with .ensures ∙ told-tried (told (c .before .before .before .before)) (c .before .before .before .if1 .left) (c .before .low-value .ensures)
+returns-2 c =
+    c .entry-with .ensures
+    ∙ told-tried (told (c .before .before .before .before)) (c .before .before .before .if1 .left) (c .before .low-value .ensures)
 
 pub try-low-spec : {M : Type 1} → statement M
 try-low-spec =

@@ -49,8 +49,9 @@ part-same-parts-start c = search needs
 part-same-parts-end : tie.Need-part-same-parts-end
 part-same-parts-end c =
     let back5 = c .before .before .before .before .before in
+    let a = back5 .before .before in
     let r = back5 .unchecked-row .result in
-    let h : r .offset + r .length ≤ length (back5 .before .before .args .bundle .now) = rw (back5 .unchecked-row .ensures) (back5 .before .before .pre .0 .inside) in
+    let h : r .offset + r .length ≤ length (a .args .bundle .now) = rw (back5 .unchecked-row .ensures) (a .pre .0 .inside) in
     omega arith
 
 sub-same-parts-2 : tie.Need-sub-same-parts-2

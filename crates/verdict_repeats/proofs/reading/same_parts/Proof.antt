@@ -1,9 +1,7 @@
 -- `verdict_repeats::reading::same_parts` meets its contract. Assumes nothing.
 use borrow.Author.Tests.{not-true, not-false}
 use mathlib.Core.Path.{sym, _∙_}
-use lib.ListN.{length}
-use Rattle.bytes_lent.specs.Same.{same}
-use Rattle.verdict_repeats.specs.Repeats.{numberPart, sameParts}
+use Rattle.verdict_repeats.specs.Repeats.{sameParts}
 use borrow.Author.Needs.{needs}
 use Rattle.verdict_repeats.proofs.reading.same_parts.Statement.{statement}
 use Rattle.verdict_repeats.proofs.reading.same_parts.Tie as tie
