@@ -394,6 +394,12 @@ static void put_talk(void)
     second_put_number(last + 2 * 61, 2, second_character(0x03));
 }
 
+static void put_kept_talk(void)
+{
+    put_talk();
+    make_contents();
+}
+
 /* A character of a body that carries a byte. */
 static void put_byte(uint8_t *body, size_t place, unsigned byte) { second_put_number(body + 2 * place, 2, second_character(byte % 256)); }
 
@@ -501,8 +507,8 @@ static const struct {
     {"scan-all", put_contents, scan_all, scan_all_in_file},
     {"replay-bundle", put_talk, replay_bundle, replay_by_second},
     {"pass-bundle", put_talk, pass_bundle, NULL},
-    {"verdicts-bundle", put_bundle, judge_bundle, judge_by_second},
-    {"columns-bundle", put_contents, judge_contents, NULL},
+    {"verdicts-bundle", put_talk, judge_bundle, judge_by_second},
+    {"columns-bundle", put_kept_talk, judge_contents, NULL},
     {"repeat-bundle", put_readings, repeat_bundle, NULL},
 };
 
