@@ -78,6 +78,7 @@ static void put_rise(char *out, const struct account *account, uint8_t quantity)
         put_scaled(out, last->value.count - first->value.count, &to);
 }
 
+/* The number of an answer's row. */
 static void put_answer(char *out, const struct run *run, const struct shown *answer)
 {
     out[0] = '\0';
@@ -88,8 +89,8 @@ static void put_answer(char *out, const struct run *run, const struct shown *ans
 enum { ACCOUNT_COLUMNS = 13 };
 
 static const struct column columns[ACCOUNT_COLUMNS] = {
-    {"position", 8},   {"rows", 4},    {"requests", 8},          {"sends", 5},            {"well", 4},         {"silent", 6},      {"damaged", 7},
-    {"wrong kind", 10}, {"refused", 7}, {"first answer, row", 17}, {"last answer, row", 16}, {"volume rise", 14}, {"energy rise", 0},
+    {"position", 8},    {"rows", 4},    {"requests", 8},      {"sends", 5},        {"well", 4},         {"silent", 6},      {"damaged", 7},
+    {"wrong kind", 10}, {"refused", 7}, {"first answer", 12}, {"last answer", 11}, {"volume rise", 14}, {"energy rise", 0},
 };
 
 static void account_fields(const struct run *run, const struct account *a, unsigned position, field *fields)

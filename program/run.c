@@ -95,9 +95,11 @@ void put_value(char *out, const struct shown *shown, uint8_t quantity)
         put_scaled(out, entry->value.count, &meaning);
 }
 
-/* No field has a comma or a quote in it. */
+/* No field has a comma or a quote in it. In columns nothing stands behind the last field that says something. */
 void print_fields(int csv, int count, const struct column *columns, field *fields)
 {
+    while (!csv && count > 1 && fields[count - 1][0] == '\0')
+        count--;
     for (int i = 0; i < count; i++) {
         int last = i + 1 == count;
         printf("%-*s%s", csv || last ? 0 : columns[i].width, fields[i], last ? "\n" : csv ? "," : "  ");
