@@ -26,7 +26,7 @@ use states::waits;
 
 mod progress;
 mod requests;
-mod states;
+pub mod states;
 
 // Why a send failed: no line in time, a refused line, or an accepted line that does not fit.
 pub enum Cause {
@@ -77,7 +77,7 @@ pub struct Heard {
 }
 
 // A send of the request has ended at t, and it was so many sends with this one.
-fn sending(request: Request, sends: u8, t: Clock) -> Exchange
+pub fn sending(request: Request, sends: u8, t: Clock) -> Exchange
     ensures { λ r. ⌜ r ≡ sending request sends t ⌝ }
 {
     Exchange {
@@ -198,7 +198,7 @@ impl Exchange {
     }
 
     // A resend of what the view is has ended at t; a different request is 43.
-    fn resent(self, view: View, t: Clock) -> Stepped
+    pub fn resent(self, view: View, t: Clock) -> Stepped
         ensures { λ r. ⌜ r ≡ shownStep (resentIn self view t) ⌝ }
     {
         let request = self.request;
@@ -249,7 +249,7 @@ impl Bench {
     }
 
     // A line of this view heard at t.
-    fn seen(self, view: View, t: Clock) -> Stepped
+    pub fn seen(self, view: View, t: Clock) -> Stepped
         ensures { λ r. ⌜ r ≡ shownStep (heardOn self view t) ⌝ }
     {
         match self {

@@ -1,0 +1,4 @@
+-- "What happened in a run": the verdict of each row of a run bundle, by the exchange of its position.
+pub mod Verdicts
+pub mod Answering
+pub mod Shown
