@@ -7,6 +7,6 @@ use lib.ListN.{getD, drop}
 use Rattle.text_filling.specs.Decimals.{decimal}
 
 -- Each % (37) stands for the next number in decimal, 0 past the last one, and everything else for itself.
-unfoldable pub filled : List ℕ → List ℕ → List ℕ
-filled [] numbers = []
-filled (c ∷ text) numbers = cond (eqb c 37) (decimal (getD numbers 0 0) ++ filled text (drop 1 numbers)) (c ∷ filled text numbers)
+unfoldable pub filledWith : List ℕ → List ℕ → List ℕ
+filledWith [] numbers = []
+filledWith (c ∷ text) numbers = cond (eqb c 37) (decimal (getD numbers 0 0) ++ filledWith text (drop 1 numbers)) (c ∷ filledWith text numbers)

@@ -5,8 +5,8 @@ ghost use mathlib.Core.List.{[], _∷_};
 ghost use Prim.Native.Nat.{_+_, _≤_};
 ghost use lib.ListN.{length, getD, drop};
 ghost use Rattle.text_filling.specs.Decimals.{decimal};
-ghost use Rattle.text_filling.specs.Holes.{filled};
-ghost use Rattle.text_filling.specs.Writes.{counted, Writes};
+ghost use Rattle.text_filling.specs.Holes.{filledWith};
+ghost use Rattle.text_filling.specs.Putting.{tallied, PutAt};
 
 // The decimal digits of a number, in the last places.
 struct Digits {
@@ -31,7 +31,7 @@ fn digits_of(n: u64) -> Digits
 
 // The place behind one; past the largest number there is none.
 fn behind(at: usize) -> usize
-    ensures { λ r. ⌜ r ≡ counted (at + 1) ⌝ }
+    ensures { λ r. ⌜ r ≡ tallied (at + 1) ⌝ }
 {
     if at < 18_446_744_073_709_551_615 {
         at + 1
@@ -42,7 +42,7 @@ fn behind(at: usize) -> usize
 
 // Puts one byte to a place, where there is room for it.
 fn put_byte(out: &mut [u8], at: usize, byte: u8) -> usize
-    ensures { λ r. ⌜ Writes (byte ∷ []) (now (out .entry)) at r (now (out .exit)) ⌝ }
+    ensures { λ r. ⌜ PutAt (byte ∷ []) (now (out .entry)) at r (now (out .exit)) ⌝ }
 {
     if at < out.len() {
         out[at] = byte;
@@ -53,7 +53,7 @@ fn put_byte(out: &mut [u8], at: usize, byte: u8) -> usize
 
 // Puts bytes from a place on, and answers the place behind them.
 pub fn put(out: &mut [u8], at: usize, bytes: &[u8]) -> usize
-    ensures { λ r. ⌜ Writes (now (bytes .entry)) (now (out .entry)) at r (now (out .exit)) ⌝ }
+    ensures { λ r. ⌜ PutAt (now (bytes .entry)) (now (out .entry)) at r (now (out .exit)) ⌝ }
 {
     let mut next = at;
     for i in 0..bytes.len() {
@@ -64,7 +64,7 @@ pub fn put(out: &mut [u8], at: usize, bytes: &[u8]) -> usize
 
 // Puts a number in decimal from a place on, and answers the place behind it.
 pub fn put_number(out: &mut [u8], at: usize, n: u64) -> usize
-    ensures { λ r. ⌜ Writes (decimal n) (now (out .entry)) at r (now (out .exit)) ⌝ }
+    ensures { λ r. ⌜ PutAt (decimal n) (now (out .entry)) at r (now (out .exit)) ⌝ }
 {
     let digits = digits_of(n);
     let start = digits.start;
@@ -84,7 +84,7 @@ fn number_or_none(numbers: &[u64], k: usize) -> u64
 
 // Puts a text from a place on, each % of it being the next number in decimal, and answers the place behind it.
 pub fn fill(out: &mut [u8], at: usize, template: &[u8], numbers: &[u64]) -> usize
-    ensures { λ r. ⌜ Writes (filled (now (template .entry)) (now (numbers .entry))) (now (out .entry)) at r (now (out .exit)) ⌝ }
+    ensures { λ r. ⌜ PutAt (filledWith (now (template .entry)) (now (numbers .entry))) (now (out .entry)) at r (now (out .exit)) ⌝ }
 {
     let mut next = at;
     let mut used: usize = 0;

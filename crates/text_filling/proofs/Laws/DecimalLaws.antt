@@ -1,13 +1,13 @@
 -- Laws of `specs/Decimals`.
-use Prim.Native.Nat.{ℕ, zero, suc, _+_, _-_, _*_, _/_, _%_, _^_, _≤_, _<_}
-use mathlib.Core.Bool.{cond}
+use Prim.Native.Nat.{ℕ, zero, suc, _+_, _-_, _*_, _/_, _%_, _^_, _≤_, _<_, zero-le}
+use mathlib.Core.Bool.{Bool, true, false, cond}
 use mathlib.Core.List.{List, [], _∷_, _++_, append-assoc}
 use mathlib.Core.Path.{_≡_, refl, sym, ap, _∙_, subst}
 use native.Mathlib.Nat.{pow-suc}
 use native.Mathlib.Omega.{arith}
-use borrow.Author.Tests.{ne-eqb}
+use borrow.Author.Tests.{ne-eqb, eqb-false}
 use lib.Dec.{eqb}
-use lib.ListN.{length, drop, set, length-set, drop-of-length-le}
+use lib.ListN.{length, drop, set, length-set, length-append, drop-of-length-le}
 use lib.Seq.{drop-cons, getD-set-same, drop-set-lt}
 use Rattle.text_filling.specs.Decimals.{lastDigit, digitsIn, digits, decimal}
 
@@ -75,3 +75,24 @@ unfolding digitsIn
 spelled-all {n} {start} {rest} {bytes} g h =
     let none : rest ≡ 0 = omega arith in
     rw none at (g .so)
+
+-- ---- a number below 10 ^ k has at most k digits
+more-digits : (t : Bool) (n k : ℕ) (l : List ℕ) → eqb n 0 ≡ t → n < 10 ^ k → ((j : ℕ) → n / 10 < 10 ^ j → length l ≤ j)
+    → length (cond t [] (l ++ lastDigit n)) ≤ k
+more-digits true n k l e h g = zero-le
+more-digits false n zero l e h g = absurd (eqb-false n 0 e (omega arith))
+more-digits false n (suc k) l e h g =
+    let p : n < 10 ^ k * 10 = rw pow-suc at h in
+    let m : n / 10 < 10 ^ k = omega arith in
+    omega (arith, length-append l (lastDigit n), g k m)
+
+digits-few : (f k n : ℕ) → n < 10 ^ k → length (digitsIn f n) ≤ k
+unfolding digitsIn
+digits-few zero k n h = zero-le
+digits-few (suc f) k n h = more-digits (eqb n 0) n k (digitsIn f (n / 10)) refl h (λ j. digits-few f j (n / 10))
+
+pub decimal-few : (k n : ℕ) → n < 10 ^ suc k → length (decimal n) ≤ suc k
+decimal-few k n h =
+    let p : n < 10 ^ k * 10 = rw pow-suc at h in
+    let m : n / 10 < 10 ^ k = omega arith in
+    omega (arith, length-append (digitsIn (n / 10) (n / 10)) (lastDigit n), digits-few (n / 10) k (n / 10) m)

@@ -3,13 +3,13 @@ use Prim.Native.Nat.{_-_, _≤_}
 use native.Mathlib.Omega.{arith}
 use borrow.Author.Needs.{needs}
 use lib.ListN.{length, drop}
-use Rattle.text_filling.specs.Holes.{filled}
-use Rattle.text_filling.proofs.Laws.WritingLaws.{Left, left-all, left-next, left-none, filled-hole, filled-byte, filled-end}
+use Rattle.text_filling.specs.Holes.{filledWith}
+use Rattle.text_filling.proofs.Laws.WritingLaws.{Left, left-all, left-next, left-none, filledWith-hole, filledWith-byte, filledWith-end}
 use Rattle.text_filling.proofs.fill.Statement.{statement}
 use Rattle.text_filling.proofs.fill.Tie as tie
 
 abbrev Inv-loop : tie.InvT-loop
-Inv-loop out₀ at template numbers next₀ used₀ i₀ out next used i = (used ≤ i) × (i ≤ length template) × Left (filled template numbers) out₀ at (filled (drop i template) (drop used numbers)) next out
+Inv-loop out₀ at template numbers next₀ used₀ i₀ out next used i = (used ≤ i) × (i ≤ length template) × Left (filledWith template numbers) out₀ at (filledWith (drop i template) (drop used numbers)) next out
 
 abbrev μ-loop : tie.MeasureT-loop
 μ-loop out₀ at template numbers next₀ used₀ i₀ out next used i = length template - i
@@ -40,7 +40,7 @@ loop-again c =
     let at-loop = c .before .before .before .before .before .before .before .before in
     let a = at-loop .before .before .before .before .args in
     let inv = at-loop .loop .inv in
-    let next = filled-hole (a .template .now) (a .numbers .now) (at-loop .loop .i) (at-loop .loop .used) (omega arith)
+    let next = filledWith-hole (a .template .now) (a .numbers .now) (at-loop .loop .i) (at-loop .loop .used) (omega arith)
     (c .before .before .before .before .before .if1 .taken) (c .before .before .before .before .number-or-none .ensures) in
     (omega arith, omega arith, left-next (inv .2) next (c .before .before .put-number .ensures))
 
@@ -55,7 +55,7 @@ loop-again-2 c =
     let at-loop = c .before .before .before .before .before .before .before in
     let a = at-loop .before .before .before .before .args in
     let inv = at-loop .loop .inv in
-    let next = filled-byte (a .template .now) (a .numbers .now) (at-loop .loop .i) (at-loop .loop .used) (omega arith)
+    let next = filledWith-byte (a .template .now) (a .numbers .now) (at-loop .loop .i) (at-loop .loop .used) (omega arith)
     (c .before .before .before .before .if1 .left) in
     (omega arith, omega arith, left-next (inv .2) next (c .before .before .put-byte .ensures))
 
@@ -66,7 +66,7 @@ returns : tie.Need-returns Inv-loop μ-loop
 returns c =
     let at-loop = c .before in
     let a = at-loop .before .before .before .before .args in
-    let none = filled-end (a .template .now) (drop (at-loop .loop .used) (a .numbers .now)) (at-loop .loop .i) (c .loop-test .left) in
+    let none = filledWith-end (a .template .now) (drop (at-loop .loop .used) (a .numbers .now)) (at-loop .loop .i) (c .loop-test .left) in
     left-none (rw none at (at-loop .loop .inv .2))
 
 pub fill-spec : {M : Type 1} → statement M
