@@ -1,0 +1,30 @@
+-- `verdict_rows::judging::after_heard` meets its contract: the step is taken, or refused. Assumes nothing.
+use Rattle.exchange_steps.specs.Steps.{heardOn}
+use Rattle.verdict_rows.proofs.Laws.Judging.{stands-on, stands-still}
+use borrow.Author.Needs.{needs}
+use Rattle.verdict_rows.proofs.judging.after_heard.Statement.{statement}
+use Rattle.verdict_rows.proofs.judging.after_heard.Tie as tie
+
+seen-requires : tie.Need-seen-requires
+seen-requires c κs = search needs
+
+enum-known-x : tie.Need-enum-known-x
+enum-known-x c = search needs
+
+enum-told : tie.Need-enum-told
+enum-told c = search needs
+
+returns : tie.Need-returns
+returns c =
+    let back3 = c .before .before .before in
+    let a = back3 .before .args in
+    stands-on (a .bench) (heardOn (a .bench) (a .view) (a .t)) (back3 .seen .ensures) (c .before .x .given .1)
+
+returns-2 : tie.Need-returns-2
+returns-2 c =
+    let back2 = c .before .before in
+    let a = back2 .before .args in
+    stands-still (a .bench) (heardOn (a .bench) (a .view) (a .t)) (back2 .seen .ensures) (c .enum-told .given .1)
+
+pub after-heard-spec : {M : Type 1} → statement M
+after-heard-spec = tie.close (tie.spec seen-requires enum-known-x enum-told returns returns-2)

@@ -1,0 +1,87 @@
+-- `verdict_rows::judging::judge` meets its contract: a wake-up, a row sent, or a row heard. Assumes nothing.
+use mathlib.Core.Path.{sym, ap, _∙_}
+use Rattle.mbus_characters.proofs.Laws.PairLaws.{length-characters}
+use Rattle.verdict_rows.specs.Verdicts.{verdictAfter, benchAfter}
+use borrow.Author.Needs.{needs}
+use Rattle.verdict_rows.proofs.judging.judge.Statement.{statement}
+use Rattle.verdict_rows.proofs.judging.judge.Tie as tie
+
+is-wake-requires : tie.Need-is-wake-requires
+is-wake-requires c κs = search needs
+
+returns : tie.Need-returns
+unfolding verdictAfter benchAfter
+returns c = rw (sym (c .before .is-wake .ensures) ∙ c .if1 .taken)
+
+cast-t11 : tie.Need-cast-t11
+cast-t11 c = search needs
+
+outline-of-requires : tie.Need-outline-of-requires
+outline-of-requires c κs = search needs
+
+cast-t12 : tie.Need-cast-t12
+cast-t12 c = search needs
+
+mul-t16 : tie.Need-mul-t16
+mul-t16 c = search needs
+
+add-t17 : tie.Need-add-t17
+add-t17 c = search needs
+
+waited-requires : tie.Need-waited-requires
+waited-requires c κs = search needs
+
+sent-requires : tie.Need-sent-requires
+sent-requires c κs = search needs
+
+returns-2 : tie.Need-returns-2
+unfolding verdictAfter benchAfter
+returns-2 c =
+    let back5 = c .before .before .before .before .before in
+    let back8 = back5 .before .before .before in
+    let a = back8 .before .before .args in
+    rw (
+      sym (back8 .is-wake .ensures) ∙ back5 .before .before .if1 .left,
+      c .before .before .before .if2 .taken,
+      length-characters (a .body .now),
+      c .sent .ensures,
+      c .before .waited .ensures,
+      back5 .outline-of .ensures,
+    )
+
+heard-verdict-requires : tie.Need-heard-verdict-requires
+heard-verdict-requires c κs = search needs
+
+after-heard-requires : tie.Need-after-heard-requires
+after-heard-requires c κs = search needs
+
+returns-3 : tie.Need-returns-3
+unfolding verdictAfter benchAfter
+returns-3 c =
+    let back4 = c .before .before .before .before in
+    let back7 = back4 .before .before .before in
+    rw (
+      sym (back7 .is-wake .ensures) ∙ back4 .before .before .if1 .left,
+      c .before .before .if2 .left,
+      c .before .heard-verdict .ensures,
+      c .after-heard .ensures,
+      back4 .outline-of .ensures,
+    )
+
+pub judge-spec : {M : Type 1} → statement M
+judge-spec =
+    tie.close
+    (tie.spec
+    is-wake-requires
+    returns
+    cast-t11
+    outline-of-requires
+    cast-t12
+    mul-t16
+    add-t17
+    waited-requires
+    sent-requires
+    returns-2
+    heard-verdict-requires
+    after-heard-requires
+    returns-3)

@@ -1,0 +1,64 @@
+-- `verdict_rows::kept::faults_of` meets its contract: each turn tries one row. Assumes nothing.
+use Prim.Native.Nat.{_-_}
+use native.Mathlib.Omega.{arith}
+use borrow.Author.Needs.{needs}
+use Rattle.verdict_rows.specs.Walking.{Tried}
+use Rattle.verdict_rows.proofs.Laws.Answering.{Tries, tries-none, tries-next, tries-all}
+use Rattle.verdict_rows.proofs.kept.faults_of.Statement.{statement}
+use Rattle.verdict_rows.proofs.kept.faults_of.Tie as tie
+
+abbrev Inv-loop : tie.InvT-loop
+Inv-loop columns count end before₀ field₀ place₀ i₀ before field place i = (t : Tried columns count) × Tries t end i before field place
+
+abbrev μ-loop : tie.MeasureT-loop
+μ-loop columns count end before₀ field₀ place₀ i₀ before field place i = count - i
+
+loop-holds : tie.Need-loop-holds Inv-loop μ-loop
+loop-holds c = (c .before .pre, tries-none (c .before .pre) (c .before .args .end))
+
+row-from-requires : tie.Need-row-from-requires Inv-loop μ-loop
+row-from-requires c κs = search needs
+
+cast-size : tie.Need-cast-size Inv-loop μ-loop
+cast-size c = search needs
+
+wrong-field-requires : tie.Need-wrong-field-requires Inv-loop μ-loop
+wrong-field-requires c κs = search needs
+
+cast-place : tie.Need-cast-place Inv-loop μ-loop
+cast-place c = search needs
+
+add-place : tie.Need-add-place Inv-loop μ-loop
+add-place c = search needs
+
+add-i : tie.Need-add-i Inv-loop μ-loop
+add-i c = search needs
+
+loop-less : tie.Need-loop-less Inv-loop μ-loop
+loop-less c = search needs
+
+loop-again : tie.Need-loop-again Inv-loop μ-loop
+loop-again c =
+    let back4 = c .before .before .before .before in
+    let g = back4 .before .before .loop .inv in
+    (g .0, rw (c .before .before .wrong-field .ensures) (tries-next (g .0) (g .1) (back4 .before .loop-test .taken) (back4 .row-from .ensures)))
+
+returns : tie.Need-returns Inv-loop μ-loop
+returns c = let g = c .before .loop .inv in tries-all (g .0) (g .1) (c .loop-test .left)
+
+pub faults-of-spec : {M : Type 1} → statement M
+faults-of-spec =
+    tie.close
+    (tie.spec
+    Inv-loop
+    μ-loop
+    loop-holds
+    row-from-requires
+    cast-size
+    wrong-field-requires
+    cast-place
+    add-place
+    add-i
+    loop-less
+    loop-again
+    returns)

@@ -1,0 +1,49 @@
+-- `verdict_rows::walking::judge_in` meets its contract: the body of the row is that stretch of the bundle. Assumes nothing.
+use Prim.Native.Nat.{ℕ}
+use mathlib.Core.List.{List}
+use mathlib.Core.Path.{ap, _∙_}
+use Rattle.bundle_rows.proofs.Laws.CharacterLaws.{body-whole}
+use Rattle.replay_counting.specs.Ears.{rowWith}
+use Rattle.verdict_rows.specs.Judging.{judgedOf}
+use borrow.Author.Needs.{needs}
+use Rattle.verdict_rows.proofs.walking.judge_in.Statement.{statement}
+use Rattle.verdict_rows.proofs.walking.judge_in.Tie as tie
+
+cast-at : tie.Need-cast-at
+cast-at c = search needs
+
+cast-end : tie.Need-cast-end
+cast-end c = search needs
+
+add-end : tie.Need-add-end
+add-end c = search needs
+
+sub-judge : tie.Need-sub-judge
+sub-judge c = search needs
+
+part-judge-start : tie.Need-part-judge-start
+part-judge-start c = search needs
+
+part-judge-end : tie.Need-part-judge-end
+part-judge-end c = search needs
+
+judge-requires : tie.Need-judge-requires
+judge-requires c κs = search needs
+
+returns : tie.Need-returns
+returns c =
+    let a = c .before .before .before .before .before .args in
+    c .judge .ensures ∙ ap (λ (l : List ℕ). judgedOf (a .bench) (rowWith (a .row) l)) (body-whole (a .bundle .now) (a .row))
+
+pub judge-in-spec : {M : Type 1} → statement M
+judge-in-spec =
+    tie.close
+    (tie.spec
+    cast-at
+    cast-end
+    add-end
+    sub-judge
+    part-judge-start
+    part-judge-end
+    judge-requires
+    returns)
