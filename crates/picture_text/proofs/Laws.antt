@@ -4,3 +4,4 @@ pub mod TimingLaws
 pub mod PageLaws
 pub mod DrawingLaws
 pub mod Drawn
+pub mod Shown

@@ -31,10 +31,12 @@ returns c = search needs
 
 returns-2 : tie.Need-returns-2
 returns-2 c =
-    let s = c .before .before .before .before .before .before in
+    let back3 = c .before .before .before in
+    let back6 = back3 .before .before .before in
+    let s = back6 in
     let b = s .args .bundle .now in
     let k = c .before .number .given .0 .0 in
-    draws-refused b (s .args .out .now) (shownChecked-same (checkOf b) (refusal k) (sym (c .before .before .before .check .ensures) ∙ c .before .number .given .1))
+    draws-refused b (s .args .out .now) (shownChecked-same (checkOf b) (refusal k) (sym (back3 .check .ensures) ∙ c .before .number .given .1))
 
 pub draw-spec : {M : Type 1} → statement M
 draw-spec =

@@ -19,24 +19,37 @@ put-picture-requires c κs = (c .before .before .before .before .before .before 
 
 returns : tie.Need-returns
 returns c =
-    let s = c .before .before .before .before .before .before .before .before .before in
+    let back2 = c .before .before in
+    let back4 = back2 .before .before in
+    let back6 = back4 .before .before in
+    let back9 = back6 .before .before .before in
+    let s = back9 in
     let b = s .args .bundle .now in
-    let same = picture-drawn b (s .pre) (c .before .before .before .before .before .before .verdicts-in .ensures) (c .before .before .before .before .page-of .ensures .0) in
-    draws-not b (s .pre) (s .args .out .now) (rw same at (c .before .before .put-picture .ensures .count)) (c .if1 .taken)
+    let same = picture-drawn b (s .pre) (back6 .verdicts-in .ensures) (back4 .page-of .ensures .0) in
+    draws-not b (s .pre) (s .args .out .now) (rw same at (back2 .put-picture .ensures .count)) (c .if1 .taken)
 
 put-picture-requires-2 : tie.Need-put-picture-requires-2
-put-picture-requires-2 c κs = (c .before .before .before .before .before .before .before .before .before .before .pre, c .before .before .before .before .before .page-of .ensures .1)
+put-picture-requires-2 c κs =
+    let back5 = c .before .before .before .before .before in
+    let back10 = back5 .before .before .before .before .before in
+    (back10 .pre, back5 .page-of .ensures .1)
 
 same-length : tie.Need-same-length
 same-length c = search needs
 
 returns-2 : tie.Need-returns-2
 returns-2 c =
-    let s = c .before .before .before .before .before .before .before .before .before .before .before .before .before in
+    let back2 = c .before .before in
+    let back4 = back2 .before .before in
+    let back6 = back4 .before .before in
+    let back8 = back6 .before .before in
+    let back10 = back8 .before .before in
+    let back13 = back10 .before .before .before in
+    let s = back13 in
     let b = s .args .bundle .now in
-    let same = picture-drawn b (s .pre) (c .before .before .before .before .before .before .before .before .before .before .verdicts-in .ensures) (c .before .before .before .before .before .before .before .before .page-of .ensures .0) in
-    draws-all b (s .pre) (s .args .out .now) (rw same at (c .before .before .before .before .before .before .put-picture .ensures .count)) (omega arith) (c .before .before .before .before .if1 .left)
-    (rw same at (c .before .before .put-picture2 .ensures))
+    let same = picture-drawn b (s .pre) (back10 .verdicts-in .ensures) (back8 .page-of .ensures .0) in
+    draws-all b (s .pre) (s .args .out .now) (rw same at (back6 .put-picture .ensures .count)) (omega arith) (back4 .if1 .left)
+    (rw same at (back2 .put-picture2 .ensures))
 
 pub draw-rows-spec : {M : Type 1} → statement M
 draw-rows-spec =

@@ -9,7 +9,9 @@ use Rattle.text_filling.proofs.fill.Statement.{statement}
 use Rattle.text_filling.proofs.fill.Tie as tie
 
 abbrev Inv-loop : tie.InvT-loop
-Inv-loop out₀ at template numbers next₀ used₀ i₀ out next used i = (used ≤ i) × (i ≤ length template) × Left (filledWith template numbers) out₀ at (filledWith (drop i template) (drop used numbers)) next out
+Inv-loop out₀ at template numbers next₀ used₀ i₀ out next used i =
+    (used ≤ i) × (i ≤ length template)
+    × Left (filledWith template numbers) out₀ at (filledWith (drop i template) (drop used numbers)) next out
 
 abbrev μ-loop : tie.MeasureT-loop
 μ-loop out₀ at template numbers next₀ used₀ i₀ out next used i = length template - i

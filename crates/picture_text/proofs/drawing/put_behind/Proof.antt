@@ -21,7 +21,11 @@ same-length : tie.Need-same-length
 same-length c = search needs
 
 returns : tie.Need-returns
-returns c = three (search needs) (c .before .before .before .before .before .before .before .before .before .before .before .put-pauses-open .ensures) (c .before .before .before .before .before .before .before .put-pauses .ensures) (c .before .before .put .ensures)
+returns c =
+    let back2 = c .before .before in
+    let back7 = back2 .before .before .before .before .before in
+    let back11 = back7 .before .before .before .before in
+    three (search needs) (back11 .put-pauses-open .ensures) (back7 .put-pauses .ensures) (back2 .put .ensures)
 
 pub put-behind-spec : {M : Type 1} → statement M
 put-behind-spec =

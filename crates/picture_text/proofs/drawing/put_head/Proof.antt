@@ -21,7 +21,12 @@ same-length : tie.Need-same-length
 same-length c = search needs
 
 returns : tie.Need-returns
-returns c = four (search needs) (c .before .before .before .before .before .before .before .before .before .before .before .before .before .before .put-opens .ensures) (c .before .before .before .before .before .before .before .before .before .before .put-style .ensures) (c .before .before .before .before .before .before .put-title .ensures) (c .before .before .put-legend .ensures)
+returns c =
+    let back2 = c .before .before in
+    let back6 = back2 .before .before .before .before in
+    let back10 = back6 .before .before .before .before in
+    let back14 = back10 .before .before .before .before in
+    four (search needs) (back14 .put-opens .ensures) (back10 .put-style .ensures) (back6 .put-title .ensures) (back2 .put-legend .ensures)
 
 pub put-head-spec : {M : Type 1} → statement M
 put-head-spec =

@@ -23,7 +23,11 @@ same-length c = search needs
 
 returns : tie.Need-returns
 unfolding laneDrawn
-returns c = three (search needs) (c .before .before .before .before .before .before .before .before .before .before .before .put-lane-open .ensures) (c .before .before .before .before .before .before .before .put-rows .ensures) (c .before .before .put .ensures)
+returns c =
+    let back2 = c .before .before in
+    let back7 = back2 .before .before .before .before .before in
+    let back11 = back7 .before .before .before .before in
+    three (search needs) (back11 .put-lane-open .ensures) (back7 .put-rows .ensures) (back2 .put .ensures)
 
 pub put-lane-spec : {M : Type 1} → statement M
 put-lane-spec =

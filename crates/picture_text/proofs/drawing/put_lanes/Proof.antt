@@ -44,16 +44,21 @@ loop-less c = search needs
 
 loop-again : tie.Need-loop-again Inv-loop μ-loop
 loop-again c =
-    let at-loop = c .before .before .before .before .before .before .before in
+    let back2 = c .before .before in
+    let back4 = back2 .before .before in
+    let back5 = back4 .before in
+    let back6 = back5 .before in
+    let back7 = back6 .before in
+    let at-loop = back7 in
     let a = at-loop .before .before .before .args in
     let ks = recordsOf (a .bundle .now) in
     let l = at-loop .loop in
     let inv = l .inv in
-    let used = used-own ks (l .position) (c .before .before .before .before .before .before .loop-test .taken) (sym (c .before .before .before .before .if1 .taken) ∙ c .before .before .before .before .before .has-rows .ensures) in
+    let used = used-own ks (l .position) (back6 .loop-test .taken) (sym (back4 .if1 .taken) ∙ back5 .has-rows .ensures) in
     let next = lanes-next (a .page) (ruled (a .rulings)) ks (l .y) used in (
-      omega (arith, inv .0, c .before .before .before .before .before .before .loop-test .taken),
-      omega (arith, inv .1, c .before .before .before .before .before .before .loop-test .taken),
-      left-next (inv .2) next (c .before .before .put-lane .ensures),
+      omega (arith, inv .0, back6 .loop-test .taken),
+      omega (arith, inv .1, back6 .loop-test .taken),
+      left-next (inv .2) next (back2 .put-lane .ensures),
     )
 
 loop-less-2 : tie.Need-loop-less-2 Inv-loop μ-loop

@@ -46,12 +46,16 @@ loop-less c = search needs
 
 loop-again : tie.Need-loop-again Inv-loop μ-loop
 loop-again c =
-    let at-loop = c .before .before .before .before .before .before .before in
+    let back3 = c .before .before .before in
+    let back5 = back3 .before .before in
+    let back6 = back5 .before in
+    let back7 = back6 .before in
+    let at-loop = back7 in
     let s = at-loop .before .before .before .before in
     let inv = at-loop .loop .inv in
-    let next = marks-next (s .args .page) (recordsOf (s .args .bundle .now)) (at-loop .loop .x) (at-loop .loop .place) (c .before .before .before .before .before .before .loop-test .taken)
-    (c .before .before .before .before .before .cut-at .ensures .0) in
-    (omega (arith, inv .0), omega (arith, inv .1, s .pre .1 .step), left-next (inv .2) next (c .before .before .before .put-mark .ensures))
+    let next = marks-next (s .args .page) (recordsOf (s .args .bundle .now)) (at-loop .loop .x) (at-loop .loop .place) (back6 .loop-test .taken)
+    (back5 .cut-at .ensures .0) in
+    (omega (arith, inv .0), omega (arith, inv .1, s .pre .1 .step), left-next (inv .2) next (back3 .put-mark .ensures))
 
 same-length : tie.Need-same-length Inv-loop μ-loop
 same-length c = c .before .loop .inv .2 .same

@@ -13,7 +13,9 @@ use Rattle.picture_text.proofs.drawing.put_pauses.Statement.{statement}
 use Rattle.picture_text.proofs.drawing.put_pauses.Tie as tie
 
 abbrev Inv-loop : tie.InvT-loop
-Inv-loop out₀ at bundle count pace₀ next₀ i₀ out pace next i = (i ≤ count) × Steady i pace × Left (pausesDrawn unpaced (recordsOf bundle)) out₀ at (pausesDrawn pace (drop i (recordsOf bundle))) next out
+Inv-loop out₀ at bundle count pace₀ next₀ i₀ out pace next i =
+    (i ≤ count) × Steady i pace
+    × Left (pausesDrawn unpaced (recordsOf bundle)) out₀ at (pausesDrawn pace (drop i (recordsOf bundle))) next out
 
 abbrev μ-loop : tie.MeasureT-loop
 μ-loop out₀ at bundle count pace₀ next₀ i₀ out pace next i = count - i
@@ -41,11 +43,16 @@ loop-less c = search needs
 
 loop-again : tie.Need-loop-again Inv-loop μ-loop
 loop-again c =
-    let at-loop = c .before .before .before .before .before .before .before in
+    let back2 = c .before .before in
+    let back4 = back2 .before .before in
+    let back5 = back4 .before in
+    let back6 = back5 .before in
+    let back7 = back6 .before in
+    let at-loop = back7 in
     let s = at-loop .before .before .before .before in
-    let r = rest-rows (s .args .bundle .now) (at-loop .loop .i) (s .args .count) (s .pre) (c .before .before .before .before .before .before .loop-test .taken) in
-    let after = c .before .before .before .before .paced in
-    let drawn = rw (c .before .before .before .before .before .unchecked-row .ensures) at (c .before .before .put-pause .ensures) in
+    let r = rest-rows (s .args .bundle .now) (at-loop .loop .i) (s .args .count) (s .pre) (back6 .loop-test .taken) in
+    let after = back4 .paced in
+    let drawn = rw (back5 .unchecked-row .ensures) at (back2 .put-pause .ensures) in
     (omega arith, after .ensures .1, left-next (at-loop .loop .inv .2) (pauses-next (at-loop .loop .pace) r (after .ensures .0)) drawn)
 
 same-length : tie.Need-same-length Inv-loop μ-loop

@@ -24,7 +24,11 @@ same-length c = search needs
 returns : tie.Need-returns
 unfolding pictureWith
 returns c =
-    four (search needs) (c .before .before .before .before .before .before .before .before .before .before .before .before .before .before .put-head .ensures) (c .before .before .before .before .before .before .before .before .before .before .put-behind .ensures) (c .before .before .before .before .before .before .put-marks .ensures) (c .before .before .put-front .ensures)
+    let back2 = c .before .before in
+    let back6 = back2 .before .before .before .before in
+    let back10 = back6 .before .before .before .before in
+    let back14 = back10 .before .before .before .before in
+    four (search needs) (back14 .put-head .ensures) (back10 .put-behind .ensures) (back6 .put-marks .ensures) (back2 .put-front .ensures)
 
 pub put-picture-spec : {M : Type 1} → statement M
 put-picture-spec =

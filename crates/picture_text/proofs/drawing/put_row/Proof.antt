@@ -64,11 +64,18 @@ same-length c = search needs
 returns : tie.Need-returns
 unfolding rowDrawn
 returns c =
-    let s = c .before .before .before .before .before .before .before .before .before .before .before .before .before .before .before .before .before .before .before .before .before .before .before in
-    let row = c .before .before .before .before .before .before .before .before .before .before .before .before .before .before .before .before .before .before .before .before .unchecked-row in
-    let width = c .before .before .before .before .before .before .before .before .before .before .before .before .before .before .before .before .before .before .before .line-time in
-    let word = rw (body-whole (s .args .bundle .now) (row .result)) at (c .before .before .before .before .before .before .put-word .ensures) in
-    let all = four (search needs) (c .before .before .before .before .before .before .before .before .before .before .before .before .before .before .before .put-verdict .ensures) (c .before .before .before .before .before .before .before .before .before .before .before .put-place .ensures) word (c .before .before .put-box .ensures) in
+    let back2 = c .before .before in
+    let back6 = back2 .before .before .before .before in
+    let back11 = back6 .before .before .before .before .before in
+    let back15 = back11 .before .before .before .before in
+    let back19 = back15 .before .before .before .before in
+    let back20 = back19 .before in
+    let back23 = back20 .before .before .before in
+    let s = back23 in
+    let row = back20 .unchecked-row in
+    let width = back19 .line-time in
+    let word = rw (body-whole (s .args .bundle .now) (row .result)) at (back6 .put-word .ensures) in
+    let all = four (search needs) (back15 .put-verdict .ensures) (back11 .put-place .ensures) word (back2 .put-box .ensures) in
     rw (row .ensures, width .ensures .0) at all
 
 pub put-row-spec : {M : Type 1} → statement M

@@ -17,7 +17,8 @@ use Rattle.picture_text.proofs.drawing.put_rows.Tie as tie
 abbrev Inv-loop : tie.InvT-loop
 Inv-loop out₀ at bundle count position rulings pace₀ next₀ i₀ out pace next i =
     (i ≤ count) × Steady i pace
-    × Left (rowsDrawn position (ruled rulings) unpaced 0 (recordsOf bundle)) out₀ at (rowsDrawn position (ruled rulings) pace i (drop i (recordsOf bundle))) next out
+    × Left (rowsDrawn position (ruled rulings) unpaced 0 (recordsOf bundle)) out₀ at
+    (rowsDrawn position (ruled rulings) pace i (drop i (recordsOf bundle))) next out
 
 abbrev μ-loop : tie.MeasureT-loop
 μ-loop out₀ at bundle count position rulings pace₀ next₀ i₀ out pace next i = count - i
@@ -48,24 +49,35 @@ array-copy-out-ruling c =
     omega (arith, few-rows (s .args .bundle .now) (s .args .count) (s .pre))
 
 put-row-requires : tie.Need-put-row-requires Inv-loop μ-loop
-put-row-requires c κs = (c .before .before .before .before .before .before .before .before .before .before .before .pre, c .before .before .before .before .before .before .loop-test .taken, c .before .before .before .before .paced .ensures .1 .start)
+put-row-requires c κs =
+    let back4 = c .before .before .before .before in
+    let back6 = back4 .before .before in
+    let back11 = back6 .before .before .before .before .before in
+    (back11 .pre, back6 .loop-test .taken, back4 .paced .ensures .1 .start)
 
 loop-less : tie.Need-loop-less Inv-loop μ-loop
 loop-less c = search needs
 
 loop-again : tie.Need-loop-again Inv-loop μ-loop
 loop-again c =
-    let at-loop = c .before .before .before .before .before .before .before .before .before .before in
+    let start = c .before .before .before .before .before .before .before .before .before .before .before .before .before .before in
+    let size : 512 ≡ length (start .args .t6) = search needs in
+    let back2 = c .before .before in
+    let back5 = back2 .before .before .before in
+    let back7 = back5 .before .before in
+    let back8 = back7 .before in
+    let back9 = back8 .before in
+    let back10 = back9 .before in
+    let at-loop = back10 in
     let s = at-loop .before .before .before .before in
     let i = at-loop .loop .i in
-    let test = c .before .before .before .before .before .before .before .before .before .loop-test .taken in
+    let test = back9 .loop-test .taken in
     let r = rest-rows (s .args .bundle .now) i (s .args .count) (s .pre) test in
-    let after = c .before .before .before .before .before .before .before .paced in
-    let own = rw (c .before .before .before .before .before .before .before .before .unchecked-row .ensures) at (c .before .before .before .before .before .if1 .taken) in
-    let size : 512 ≡ length (s .args .t6) = search needs in
+    let after = back7 .paced in
+    let own = rw (back8 .unchecked-row .ensures) at (back5 .if1 .taken) in
     let inside = ruled-at (s .args .t6) i (omega (arith, size, few-rows (s .args .bundle .now) (s .args .count) (s .pre), test)) in
     let next = rows-own (at-loop .loop .pace) r (after .ensures .0) (s .args .position) (ruled (s .args .t6)) i inside own in
-    (omega (arith, test), after .ensures .1, left-next (at-loop .loop .inv .2) next (c .before .before .put-row .ensures))
+    (omega (arith, test), after .ensures .1, left-next (at-loop .loop .inv .2) next (back2 .put-row .ensures))
 
 loop-less-2 : tie.Need-loop-less-2 Inv-loop μ-loop
 loop-less-2 c = search needs

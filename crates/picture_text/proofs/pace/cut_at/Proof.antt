@@ -13,7 +13,8 @@ use Rattle.picture_text.proofs.pace.cut_at.Statement.{statement}
 use Rattle.picture_text.proofs.pace.cut_at.Tie as tie
 
 abbrev Inv-loop : tie.InvT-loop
-Inv-loop bundle count place pace₀ i₀ pace i = (i ≤ count) × Steady i pace × (cutAt place pace (drop i (recordsOf bundle)) ≡ cutAt place unpaced (recordsOf bundle))
+Inv-loop bundle count place pace₀ i₀ pace i =
+    (i ≤ count) × Steady i pace × (cutAt place pace (drop i (recordsOf bundle)) ≡ cutAt place unpaced (recordsOf bundle))
 
 abbrev μ-loop : tie.MeasureT-loop
 μ-loop bundle count place pace₀ i₀ pace i = count - i
@@ -29,11 +30,16 @@ paced-requires c κs = (c .before .before .before .before .pre, c .loop-test .ta
 
 returns : tie.Need-returns Inv-loop μ-loop
 returns c =
-    let at-loop = c .before .before .before .before in
+    let back2 = c .before .before in
+    let back3 = back2 .before in
+    let back4 = back3 .before in
+    let at-loop = back4 in
     let s = at-loop .before .before .before in
     let few = few-rows (s .args .bundle .now) (s .args .count) (s .pre) in
-    let r = rest-rows (s .args .bundle .now) (at-loop .loop .i) (s .args .count) (s .pre) (c .before .before .before .loop-test .taken) in
-    (cut-past (at-loop .loop .pace) r (c .before .before .paced .ensures .0) (s .args .place) (at-loop .loop .inv .2) (c .if1 .taken), omega (arith, few, at-loop .loop .inv .1 .cut))
+    let r = rest-rows (s .args .bundle .now) (at-loop .loop .i) (s .args .count) (s .pre) (back3 .loop-test .taken) in (
+      cut-past (at-loop .loop .pace) r (back2 .paced .ensures .0) (s .args .place) (at-loop .loop .inv .2) (c .if1 .taken),
+      omega (arith, few, at-loop .loop .inv .1 .cut),
+    )
 
 add-i : tie.Need-add-i Inv-loop μ-loop
 add-i c = search needs
@@ -53,8 +59,9 @@ returns-2 : tie.Need-returns-2 Inv-loop μ-loop
 returns-2 c =
     let at-loop = c .before in
     let s = at-loop .before .before .before in
+    let none = no-rows (s .args .bundle .now) (at-loop .loop .i) (s .args .count) (s .pre) (c .loop-test .left) in
     let few = few-rows (s .args .bundle .now) (s .args .count) (s .pre) in (
-      cut-all (s .args .place) (at-loop .loop .pace) (no-rows (s .args .bundle .now) (at-loop .loop .i) (s .args .count) (s .pre) (c .loop-test .left)) (at-loop .loop .inv .2),
+      cut-all (s .args .place) (at-loop .loop .pace) none (at-loop .loop .inv .2),
       omega (arith, few, at-loop .loop .inv .1 .cut),
     )
 

@@ -13,7 +13,8 @@ use Rattle.picture_text.proofs.page.used_positions.Statement.{statement
 use Rattle.picture_text.proofs.page.used_positions.Tie as tie
 
 abbrev Inv-loop : tie.InvT-loop
-Inv-loop bundle count found₀ position₀ left₀ found position left = (position + left ≡ 49) × (found + left ≤ 48) × (found + length (usedFrom (recordsOf bundle) left position) ≡ length (usedPositions (recordsOf bundle)))
+Inv-loop bundle count found₀ position₀ left₀ found position left =
+    (position + left ≡ 49) × (found + left ≤ 48) × (found + length (usedFrom (recordsOf bundle) left position) ≡ length (usedPositions (recordsOf bundle)))
 
 abbrev μ-loop : tie.MeasureT-loop
 μ-loop bundle count found₀ position₀ left₀ found position left = left
