@@ -9,6 +9,7 @@
 #include "../second/replay.h"
 #include "../second/salvage.h"
 #include "../second/sweep.h"
+#include "../second/verdict.h"
 
 #include <inttypes.h>
 #include <stdio.h>
@@ -226,6 +227,61 @@ int answer_list(void)
     if (!take_bytes(&bundle) || !is_whole())
         return 0;
     second_list(bundle.b, bundle.n, stdout, '/');
+    return 1;
+}
+
+static void say_judged(const struct second_judged *j)
+{
+    static const char *const names[] = {"",      "wake", "first",  "resend",  "refused",   "counts",
+                                        "leftover", "late", "second", "damaged", "wrongkind", "unasked"};
+    printf("%s", names[j->verdict]);
+    if (j->verdict == SECOND_UNSENT || j->verdict == SECOND_DAMAGED_LINE)
+        printf(" %d", j->number);
+}
+
+static struct second_judged judged[SECOND_ROWS];
+
+static void say_verdicts(size_t rows)
+{
+    printf("verdicts");
+    for (size_t i = 0; i < rows; i++) {
+        putchar(' ');
+        say_judged(&judged[i]);
+    }
+}
+
+int answer_verdicts(void)
+{
+    size_t rows = 0;
+    if (!take_bytes(&bundle) || !is_whole())
+        return 0;
+    if (!refused(second_verdicts(bundle.b, bundle.n, judged, &rows)))
+        say_verdicts(rows);
+    return 1;
+}
+
+/* The same from the columns. */
+int answer_kept_verdicts(void)
+{
+    static struct second_contents contents;
+    size_t rows = 0;
+    if (!take_bytes(&bundle) || !is_whole())
+        return 0;
+    if (!refused(second_contents(bundle.b, bundle.n, &contents)) &&
+        !refused(second_contents_verdicts(&contents, bundle.b, bundle.n, judged, &rows)))
+        say_verdicts(rows);
+    return 1;
+}
+
+int answer_verdict(void)
+{
+    uint64_t index;
+    if (!take(&index, UINT64_MAX) || !take_bytes(&bundle) || !is_whole())
+        return 0;
+    if (!refused(second_verdict(bundle.b, bundle.n, index, judged))) {
+        printf("verdict ");
+        say_judged(judged);
+    }
     return 1;
 }
 

@@ -12,6 +12,9 @@ int answer_add(void);
 int answer_sweep(void);
 int answer_salvage(void);
 int answer_list(void);
+int answer_verdicts(void);
+int answer_kept_verdicts(void);
+int answer_verdict(void);
 int answer_replay(void);
 
 #endif

@@ -27,6 +27,7 @@ static const struct {
     {"unmark", answer_unmark},
     {"length", answer_length}, {"after", answer_after},
     {"replay", answer_replay},
+    {"verdicts", answer_verdicts}, {"keptverdicts", answer_kept_verdicts}, {"verdict", answer_verdict},
     {"sweep", answer_sweep},
     {"cjtread", answer_cjtread},       {"cjtwrite", answer_cjtwrite},       {"cjtenergy", answer_cjtenergy},
 };

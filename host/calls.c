@@ -16,6 +16,7 @@
 #include "../second/replay.h"
 #include "../second/resistance.h"
 #include "../second/serial.h"
+#include "../second/verdict.h"
 
 #include <stdio.h>
 #include <stdlib.h>
@@ -37,6 +38,7 @@ static struct skarrowith_exchange waiting, exchange;
 static struct skarrowith_meter set_up, meter;
 static struct skarrowith_contents contents;
 static struct skarrowith_salvaged salvaged;
+static struct skarrowith_row_verdict verdicts[ROWS];
 static struct skarrowith_cjt_telegram cjt;
 static struct skarrowith_entry entry;
 
@@ -150,6 +152,13 @@ static uint32_t list_bundle(void) { return skarrowith_bundle_list(bytes, count, 
 static uint32_t replay_for(uint8_t p) { return skarrowith_replay_error(bytes, count, p, 0, 1000, 1000, &tenths, 1); }
 static uint32_t replay_bundle(void) { return replay_for(7); }
 static uint32_t pass_bundle(void) { return replay_for(8); }
+static uint32_t judge_bundle(void) { return skarrowith_verdicts(bytes, count, verdicts, sizeof verdicts, &told); }
+
+static uint32_t judge_contents(void)
+{
+    return skarrowith_contents_verdicts(&contents, sizeof contents, bytes, count, verdicts, sizeof verdicts, &told);
+}
+
 static uint32_t none(void) { return (uint32_t)count; }
 
 static uint32_t read_by_second(void)
@@ -157,6 +166,12 @@ static uint32_t read_by_second(void)
     struct second_telegram t;
     int refusal = second_read(characters, count, &t);
     return refusal == 0 ? (uint32_t)t.kind + 1 : 256 + (uint32_t)refusal;
+}
+
+static uint32_t judge_by_second(void)
+{
+    static struct second_judged judged[SECOND_ROWS];
+    return (uint32_t)second_verdicts(bytes, count, judged, &told);
 }
 
 static uint32_t replay_by_second(void) { return (uint32_t)second_replay(bytes, count, 7, 0, 1000, 1000, &tenths); }
@@ -445,6 +460,8 @@ static const struct {
     {"scan-all", put_contents, scan_all, scan_all_in_file},
     {"replay-bundle", put_talk, replay_bundle, replay_by_second},
     {"pass-bundle", put_talk, pass_bundle, NULL},
+    {"verdicts-bundle", put_bundle, judge_bundle, judge_by_second},
+    {"columns-bundle", put_contents, judge_contents, NULL},
 };
 
 /* ---- the stack: painted, lent to one call, and looked at */

@@ -17,6 +17,7 @@
 #include "../second/salvage.h"
 #include "../second/sweep.h"
 #include "../second/serial.h"
+#include "../second/verdict.h"
 #include "../second/wake.h"
 
 #include <string.h>
@@ -364,6 +365,43 @@ int second_replay(const uint8_t *bundle, size_t n, unsigned position, uint64_t s
                   int64_t *tenths)
 {
     return refusal_in(skarrowith_replay_error(bundle, n, (uint8_t)position, s1, s2, elapsed, tenths, 1));
+}
+
+/* ---- verdicts */
+
+static struct skarrowith_row_verdict verdicts[SECOND_ROWS];
+
+static struct second_judged judged_of(const struct skarrowith_row_verdict *v)
+{
+    return (struct second_judged){(enum second_verdict)v->verdict, v->number};
+}
+
+/* Hands out what was told of so many rows, if it was. */
+static int tell_verdicts(uint32_t answer, struct second_judged *judged, size_t rows)
+{
+    for (size_t i = 0; i < rows && answer == 0; i++)
+        judged[i] = judged_of(&verdicts[i]);
+    return refusal_in(answer);
+}
+
+int second_verdicts(const uint8_t *bundle, size_t n, struct second_judged judged[SECOND_ROWS], size_t *rows)
+{
+    uint32_t answer = skarrowith_verdicts(bundle, n, verdicts, sizeof verdicts, rows);
+    return tell_verdicts(answer, judged, *rows);
+}
+
+int second_contents_verdicts(const struct second_contents *c, const uint8_t *bundle, size_t n,
+                             struct second_judged judged[SECOND_ROWS], size_t *rows)
+{
+    struct skarrowith_contents r = contents_record(c);
+    uint32_t answer = skarrowith_contents_verdicts(&r, sizeof r, bundle, n, verdicts, sizeof verdicts, rows);
+    return tell_verdicts(answer, judged, *rows);
+}
+
+int second_verdict(const uint8_t *bundle, size_t n, uint64_t index, struct second_judged *judged)
+{
+    uint32_t answer = skarrowith_verdict(bundle, n, (size_t)index, verdicts, sizeof *verdicts);
+    return tell_verdicts(answer, judged, 1);
 }
 
 /* ---- CJ/T 188 */

@@ -5,7 +5,8 @@
  * every hundredth, the example bundle cut at every length, and a CJ/T 188 answer with every byte at every place.
  *   compare [SEED [COUNT]]
  * Makes COUNT calls, or a few more. Prints the first on which they differ in full, and fails; fails too where an answer
- * that a function can give was not seen, where no line had one, two or three flips, or where one that had is accepted.
+ * that a function can give, or a verdict, was not seen, where no line had one, two or three flips, or where one that had is
+ * accepted.
  */
 #include "call.h"
 #include "compare_bundle.h"
@@ -17,6 +18,7 @@
 #include "compare_replay.h"
 #include "compare_resistance.h"
 #include "compare_serial.h"
+#include "compare_verdict.h"
 
 #include "../second/chance.h"
 
@@ -43,7 +45,7 @@ static const struct {
     {compare_find, 5},         {compare_words, 10},     {compare_wake, 10},   {compare_gap, 10},
     {compare_either, 5},       {compare_unmark, 20},       {compare_length, 10},    {compare_after, 5},
     {compare_error, 20},       {compare_exchange, 20},  {compare_meter, 12},  {compare_bundle, 15},
-    {compare_resistance, 10},  {compare_temperature, 10}, {compare_replay, 20},
+    {compare_resistance, 10},  {compare_temperature, 10}, {compare_replay, 20}, {compare_verdict, 15},
     {compare_cjt_check, 60},   {compare_cjt_read, 40},  {compare_cjt_write, 40}, {compare_cjt_energy, 20},
 };
 
@@ -75,7 +77,7 @@ int main(int argc, char **argv)
     while (calls_made() < count)
         compare_some();
     all = all_seen();
-    if (!flips_seen() || !all)
+    if (!flips_seen() || !verdicts_seen() || !all)
         return 1;
     printf("compare: seed %" PRIu64 ": %lu calls agree\n", seed, calls_made());
     return 0;

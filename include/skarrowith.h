@@ -636,6 +636,66 @@ uint32_t skarrowith_bundle_list(const uint8_t *bundle, size_t len, uint8_t *out,
 uint32_t skarrowith_replay_error(const uint8_t *bundle, size_t len, uint8_t position, uint64_t s1, uint64_t s2,
                                  uint64_t elapsed, int64_t *tenths, size_t places);
 
+/*
+ * What became of a row of a run. A row sent is a wake-up, the first send of an exchange, a resend, or refused: by the number
+ * of its line's refusal, or by 42 where it is an ack or data. A row heard is a wake-up, or it counts, or is left over (it
+ * began before the end of the last send), late (more than 450 after that end), second (behind the one that decided), damaged
+ * by the number of its line's refusal, of the wrong kind, or was not asked for (the last row sent is no accepted request, or
+ * there is none). Only rows of its own position matter for a row, and wake-ups are as if they were not there.
+ *
+ * A resend is the request of the send before it, if that was the first or second of its exchange and has failed: by the line
+ * that decided it, or by 450 bit times without one when this row begins. Every other request begins an exchange.
+ */
+struct skarrowith_row_verdict {
+    uint16_t verdict; /* one of those below */
+    uint16_t number;  /* of the refusal, for SKARROWITH_VERDICT_REFUSED and SKARROWITH_VERDICT_DAMAGED; else 0 */
+};
+
+#define SKARROWITH_VERDICT_WAKE 1u
+#define SKARROWITH_VERDICT_FIRST_SEND 2u
+#define SKARROWITH_VERDICT_RESEND 3u
+#define SKARROWITH_VERDICT_REFUSED 4u
+#define SKARROWITH_VERDICT_COUNTS 5u
+#define SKARROWITH_VERDICT_LEFT_OVER 6u
+#define SKARROWITH_VERDICT_LATE 7u
+#define SKARROWITH_VERDICT_SECOND 8u
+#define SKARROWITH_VERDICT_DAMAGED 9u
+#define SKARROWITH_VERDICT_WRONG_KIND 10u
+#define SKARROWITH_VERDICT_UNASKED 11u
+
+/*
+ * Tells the verdict of row i. Who wants those of many rows asks for all: one call costs the same.
+ *
+ * verdict, size: takes the verdict; size is sizeof(struct skarrowith_row_verdict).
+ *
+ * Refuses by 21, by 30 to 37 as the check does, and by 39 if there is no such row.
+ */
+uint32_t skarrowith_verdict(const uint8_t *bundle, size_t len, size_t i, struct skarrowith_row_verdict *verdict,
+                            size_t size);
+
+/*
+ * Tells the verdicts of all rows, in one walk.
+ *
+ * verdicts, size: takes a verdict for each row, in their order, and keeps what it has beyond; size is in bytes, so
+ *                 512 * sizeof(struct skarrowith_row_verdict) is always enough.
+ * count:          takes how many there are; not null.
+ *
+ * Refuses by 30 to 37 as the check does, then by 21 if there is no room for all.
+ */
+uint32_t skarrowith_verdicts(const uint8_t *bundle, size_t len, struct skarrowith_row_verdict *verdicts, size_t size,
+                             size_t *count);
+
+/*
+ * The same of columns and the bundle that their bodies lie in, without a check of the bundle. Columns may be of the caller's
+ * own making, a choice of rows, say: their bodies may lie anywhere in the bundle.
+ *
+ * Refuses by 101 if contents_size is another or the count is over 512; then for the rows by 34 as for a bundle's, and by 35
+ * if a body lies past the end of the bundle; then by 21.
+ */
+uint32_t skarrowith_contents_verdicts(const struct skarrowith_contents *contents, size_t contents_size,
+                                      const uint8_t *bundle, size_t len, struct skarrowith_row_verdict *verdicts,
+                                      size_t size, size_t *count);
+
 #ifdef __cplusplus
 }
 #endif

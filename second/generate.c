@@ -10,6 +10,7 @@
 #include "make_replay.h"
 #include "make_serial.h"
 #include "make_telegram.h"
+#include "make_verdict.h"
 #include "number.h"
 
 #include <inttypes.h>
@@ -351,6 +352,30 @@ static void generate_replay(void)
     print_bytes(bundle.b, bundle.n, bundle.rows);
 }
 
+static void print_exchanges(const char *name)
+{
+    some_exchanges(12);
+    printf("%s", name);
+    print_bytes(bundle.b, bundle.n, bundle.rows);
+}
+
+static void generate_verdicts(void)
+{
+    print_exchanges("verdicts");
+}
+
+static void generate_kept_verdicts(void)
+{
+    print_exchanges("keptverdicts");
+}
+
+static void generate_verdict(void)
+{
+    some_exchanges(12);
+    printf("verdict +%" PRIu64, some_row());
+    print_bytes(bundle.b, bundle.n, bundle.rows);
+}
+
 /* ---- CJ/T 188 */
 
 static void generate_cjtread(void)
@@ -431,6 +456,7 @@ int main(int argc, char **argv)
         {"unmark", generate_unmark},
         {"length", generate_length}, {"after", generate_after},
         {"replay", generate_replay},
+        {"verdicts", generate_verdicts}, {"keptverdicts", generate_kept_verdicts}, {"verdict", generate_verdict},
         {"sweep", generate_sweep},
         {"cjtread", generate_cjtread},       {"cjtwrite", generate_cjtwrite},       {"cjtenergy", generate_cjtenergy},
     };

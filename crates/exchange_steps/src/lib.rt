@@ -26,7 +26,7 @@ use states::waits;
 
 mod progress;
 mod requests;
-pub mod states;
+mod states;
 
 // Why a send failed: no line in time, a refused line, or an accepted line that does not fit.
 pub enum Cause {
@@ -77,7 +77,7 @@ pub struct Heard {
 }
 
 // A send of the request has ended at t, and it was so many sends with this one.
-pub fn sending(request: Request, sends: u8, t: Clock) -> Exchange
+fn sending(request: Request, sends: u8, t: Clock) -> Exchange
     ensures { λ r. ⌜ r ≡ sending request sends t ⌝ }
 {
     Exchange {

@@ -3,3 +3,6 @@ pub mod Judging
 pub mod Telling
 pub mod Walking
 pub mod Answering
+pub mod Meaning
+pub mod Example
+pub mod AsBefore

@@ -1,5 +1,5 @@
 -- 01, "The form to use in each place": the number and values for each case of the answer.
-use Prim.Native.Nat.{ℕ, _-_}
+use Prim.Native.Nat.{_-_}
 use mathlib.Core.List.{List, _++_, map}
 use lib.ListN.{length, replicate}
 use Rattle.mbus_rules.specs.Answers.{Answer, reads, refusal}

@@ -10,7 +10,6 @@ use Rattle.bundle_rows.specs.declared.Row.{Row}
 use Rattle.bundle_rows.specs.Rows.{mostRows, blankRow, uncheckedRow, bodyIn}
 use Rattle.bundle_check.specs.Records.{Recorded}
 use Rattle.bundle_check.specs.RowRules.{wrongRows}
-use Rattle.bundle_columns.specs.Columns.{Columns}
 use Rattle.bundle_columns.specs.Record.{columnsSize, columnsIn, columnsFrom}
 use Rattle.bundle_columns.specs.Lookups.{rowKept}
 use Rattle.replay_counting.specs.Ears.{rowWith}

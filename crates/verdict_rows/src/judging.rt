@@ -2,7 +2,6 @@
 ghost use mathlib.Core.Path.{_≡_};
 ghost use Prim.Native.Nat.{_≤_};
 ghost use lib.ListN.{length};
-ghost use Rattle.exchange_steps.specs.Steps.{tickOn};
 ghost use Rattle.replay_counting.specs.Ears.{rowWith};
 ghost use Rattle.mbus_rules.specs.declared.View.the-variants.{Asks};
 ghost use Rattle.verdict_rows.specs.Verdicts.{unfitting, decidedBy, heardVerdict, afterHeard, waited};
@@ -13,10 +12,9 @@ use bench_clock::is_wake;
 use bundle_rows::Row;
 use exchange_replies::fits;
 use exchange_steps::Bench;
+use exchange_steps::Exchange;
 use exchange_steps::State;
 use exchange_steps::Stepped;
-use exchange_steps::sending;
-use exchange_steps::states::waits;
 use mbus_reading::pairs::outline_of;
 use mbus_rules::Request;
 use mbus_rules::View;
@@ -69,14 +67,17 @@ fn heard_verdict(bench: Bench, view: View, t: Clock) -> Verdict
                 return Verdict::LeftOver;
             }
             let state = x.state;
-            let waiting = waits(state);
-            if waiting {
-                let request = x.request;
-                let silent = began.late(t);
-                return decided_by(request, silent, view);
+            match state {
+                State::Waiting => {
+                    let request = x.request;
+                    let silent = began.late(t);
+                    decided_by(request, silent, view)
+                },
+                State::Resend(_) => Verdict::Second,
+                State::Well => Verdict::Second,
+                State::Failed(_) => Verdict::Second,
             }
-            Verdict::Second
-        }
+        },
     }
 }
 
@@ -114,9 +115,16 @@ fn unsent(n: u16) -> Judged
 fn first(request: Request, end: Clock) -> Judged
     ensures { λ r. ⌜ r ≡ firstAs request end ⌝ }
 {
+    let begun = Exchange {
+        request,
+        state: State::Waiting,
+        sends: 1,
+        began: end,
+        last: end,
+    };
     Judged {
         verdict: Verdict::First,
-        bench: Bench::Busy(sending(request, 1, end)),
+        bench: Bench::Busy(begun),
     }
 }
 

@@ -1,9 +1,8 @@
 // The verdicts of contents kept in columns (2026-10 of document 02), whose bodies lie in a bundle.
 ghost use mathlib.Core.Path.{_≡_};
 ghost use lib.ListN.{length};
-ghost use Rattle.mbus_rules.specs.Answers.{reads};
 ghost use Rattle.bundle_columns.specs.Columns.{keptRows};
-ghost use Rattle.bundle_columns.specs.Record.{columnsIn, columnsFrom};
+ghost use Rattle.bundle_columns.specs.Record.{columnsIn};
 ghost use Rattle.verdict_rows.specs.Answering.{verdictsKept};
 ghost use Rattle.verdict_rows.specs.Shown.{shownVerdicts};
 ghost use Rattle.verdict_rows.specs.Walking.{Tried, faultsOf};

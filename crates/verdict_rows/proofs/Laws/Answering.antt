@@ -1,38 +1,37 @@
 -- What is answered of a bundle and of columns, by what was tried of them, and that the rows of both are all walked along.
 use Prim.Native.Nat.{ℕ, zero, suc, _+_, _≤_, _<_}
 use mathlib.Core.Bool.{Bool, true, false, _||_}
-use mathlib.Core.List.{List, [], _∷_, _++_, map}
+use mathlib.Core.List.{List, [], _∷_, _++_}
 use mathlib.Core.Path.{_≡_, refl, sym, ap, ap₂, _∙_}
 use native.Mathlib.Nat.{zero-add}
 use native.Mathlib.Omega.{arith}
 use borrow.Author.Tests.{ltb-false}
 use lib.Dec.{ltb}
-use lib.ListN.{length, getD, take, drop, length-map, List·getD-map}
+use lib.ListN.{length, getD, take, length-map, List·getD-map}
 use lib.Seq.{take-suc, take-all}
-use Rattle.mbus_rules.specs.Answers.{Answer, reads, refusal}
+use Rattle.mbus_rules.specs.Answers.{reads, refusal}
 use Rattle.mbus_rules.specs.Lists.{any}
 use Rattle.mbus_rules.specs.declared.Outcome.the-variants.{Accepted}
 use Rattle.mbus_rules.proofs.Laws.ListLaws.{Gathered, gathered-none, gathered-next, gathered-all}
 use Rattle.mbus_rules.proofs.Laws.Tests.{neither, none-at}
 use Rattle.bundle_rows.specs.declared.Row.{Row}
 use Rattle.bundle_rows.specs.Fields.{wrongField}
-use Rattle.bundle_rows.specs.Rows.{mostRows, blankRow, bodyIn}
+use Rattle.bundle_rows.specs.Rows.{blankRow, bodyIn}
 use Rattle.bundle_rows.proofs.Laws.RowLaws.{field-right}
 use Rattle.bundle_check.specs.Bundles.{checkOf}
-use Rattle.bundle_check.specs.Records.{Recorded, recordsOf}
+use Rattle.bundle_check.specs.Records.{recordsOf}
 use Rattle.bundle_check.specs.RowRules.{wrongRow, rowTime, wrongRows}
 use Rattle.bundle_check.specs.Walks.{endOf}
 use Rattle.bundle_check.proofs.Laws.BodyLaws.{few-rows, unchecked-right, unchecked-inside}
 use Rattle.bundle_check.proofs.Laws.HoldingLaws.{blankRecord}
 use Rattle.bundle_check.proofs.Laws.Walks.{StateWalked, walked-none, walked-next, walked-found, none-wrong}
-use Rattle.bundle_columns.specs.Columns.{Columns, keptRow, keptRows}
+use Rattle.bundle_columns.specs.Columns.{keptRow, keptRows}
 use Rattle.bundle_columns.specs.Record.{columnsIn, columnsFrom}
 use Rattle.bundle_columns.proofs.Laws.Looking.{row-reads}
 use Rattle.bundle_columns.proofs.Laws.Turning.{length-kept, kept-at}
 use Rattle.replay_counting.specs.Ears.{rowWith}
 use Rattle.replay_counting.proofs.Laws.Walking.{record-there, length-records}
 use Rattle.verdict_rows.specs.declared.kept.Faults.{Faults}
-use Rattle.verdict_rows.specs.declared.Verdict.{Verdict}
 use Rattle.verdict_rows.specs.Verdicts.{verdictsOf}
 use Rattle.verdict_rows.specs.Answering.{verdictsIn, bodyPast, recordsKept, verdictsKept}
 use Rattle.verdict_rows.specs.Walking.{orBlank, rowFrom, recordFrom, firsts, recordsFrom, Walkable, Tried, faultsOf}
@@ -144,7 +143,8 @@ module _ {lists : List ℕ} {n : ℕ} (t : Tried lists n) where
           (length-map rows (λ r. rowWith r (bodyIn b r)) ∙ size)
           (λ i h. ap (λ (r : Row). rowWith r (bodyIn b r)) (kept-there i h) ∙ sym (List·getD-map (λ r. rowWith r (bodyIn b r)) rows i blankRow))
 
-      pub kept-reads : record { outcome = Accepted; count = n; rulings = inPlaces (verdictsOf (recordsFrom true lists b n)) } ≡ shownVerdicts (verdictsKept lists b)
+      pub kept-reads :
+          record { outcome = Accepted; count = n; rulings = inPlaces (verdictsOf (recordsFrom true lists b n)) } ≡ shownVerdicts (verdictsKept lists b)
       unfolding verdictsKept
       kept-reads =
           let whole : n ≡ length (verdictsOf (recordsKept (columnsIn lists) b)) =

@@ -1,10 +1,8 @@
 -- One row more: the verdicts of the rows before it stay, and only the exchange of its own position goes on.
 use Prim.Native.Nat.{ℕ, suc, _+_}
-use mathlib.Core.Bool.{Bool, true, false, cond}
 use mathlib.Core.List.{List, [], _∷_, _++_, append-assoc, append-nil}
-use mathlib.Core.Path.{_≡_, refl, sym, ap, ap₂, _∙_}
+use mathlib.Core.Path.{_≡_, refl, sym, ap, _∙_}
 use lib.ListN.{length}
-use Rattle.exchange_steps.specs.declared.Bench.{Bench}
 use Rattle.bundle_check.specs.Records.{Recorded}
 use Rattle.bundle_check.specs.Walks.{endOf}
 use Rattle.verdict_rows.specs.declared.Verdict.{Verdict}

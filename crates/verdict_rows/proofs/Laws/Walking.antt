@@ -1,13 +1,12 @@
 -- The walk along rows, which keeps the exchange of each position and puts the verdict of each row into its place.
 use Prim.Native.Nat.{ℕ, zero, suc, _+_, _-_, _≤_, _<_, zero-le}
-use mathlib.Core.Bool.{Bool, true, false}
 use mathlib.Core.List.{List, [], _∷_, _++_, map, map-append}
 use mathlib.Core.Path.{_≡_, refl, sym, ap, ap₂, _∙_}
 use native.Mathlib.Numerals.{add-one}
 use native.Mathlib.Omega.{arith}
-use borrow.Author.Tests.{eq-eqb, ne-eqb, eqb-true, eqb-false}
+use borrow.Author.Tests.{eqb-true, eqb-false}
 use lib.Dec.{eqb}
-use lib.ListN.{length, getD, take, drop, set, replicate, getD-replicate, length-replicate, length-append, length-set, take-append-drop}
+use lib.ListN.{length, getD, take, drop, set, replicate, getD-replicate, length-append, length-set, take-append-drop}
 use lib.Seq.{take-suc-set, drop-set-lt, drop-drop, getD-set-same, getD-set-other}
 use Rattle.mbus_rules.proofs.Laws.Tests.{by-test}
 use Rattle.bundle_rows.specs.Rows.{mostRows}
@@ -86,7 +85,8 @@ module _ {f : ℕ → Recorded} {n : ℕ} where
           so =
               rw (add-one, take-suc-set rulings i (ruling (judged .verdict)) room, g .so)
               (ap (λ (v : Verdict). map ruling (verdictsOf (firsts f i)) ++ (ruling v ∷ [])) told
-              ∙ sym (ap (map ruling) (verdicts-next (firsts f i) k) ∙ map-append ruling (verdictsOf (firsts f i)) (verdictAfter (benchOf (k .position) (firsts f i)) k ∷ [])));
+              ∙ sym (ap (map ruling) (verdicts-next (firsts f i) k)
+              ∙ map-append ruling (verdictsOf (firsts f i)) (verdictAfter (benchOf (k .position) (firsts f i)) k ∷ [])));
           rest =
               drop-set-lt (i + 1) rulings i (ruling (judged .verdict)) (omega arith) ∙ sym (drop-drop 1 i rulings)
               ∙ ap (drop 1) (g .rest ∙ ap (λ (m : ℕ). replicate m (ruling Unasked)) more);

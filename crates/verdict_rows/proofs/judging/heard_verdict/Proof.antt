@@ -1,4 +1,4 @@
--- `verdict_rows::judging::heard_verdict` meets its contract: each way out by the tests that led there. Assumes nothing.
+-- `verdict_rows::judging::heard_verdict` meets its contract: each way out by the tests and the state that led there. Assumes nothing.
 use mathlib.Core.Path.{sym, _∙_}
 use borrow.Author.Needs.{needs}
 use Rattle.verdict_rows.proofs.judging.heard_verdict.Statement.{statement}
@@ -18,8 +18,8 @@ returns c =
     let back4 = c .before .before .before .before in
     rw (back4 .bench .given .1, sym (c .before .earlier .ensures) ∙ c .if1 .taken)
 
-waits-requires : tie.Need-waits-requires
-waits-requires c κs = search needs
+enum-told-2 : tie.Need-enum-told-2
+enum-told-2 c = search needs
 
 late-requires : tie.Need-late-requires
 late-requires c κs = search needs
@@ -27,28 +27,54 @@ late-requires c κs = search needs
 decided-by-requires : tie.Need-decided-by-requires
 decided-by-requires c κs = search needs
 
+enum-told-3 : tie.Need-enum-told-3
+enum-told-3 c = search needs
+
+enum-told-4 : tie.Need-enum-told-4
+enum-told-4 c = search needs
+
+enum-told-5 : tie.Need-enum-told-5
+enum-told-5 c = search needs
+
 returns-2 : tie.Need-returns-2
-returns-2 c =
-    let back3 = c .before .before .before in
-    let back8 = back3 .before .before .before .before .before in
+returns-2 c = search needs
+
+returns-3 : tie.Need-returns-3
+returns-3 c =
+    let back5 = c .before .before .before .before .before in
     rw (
-      back8 .bench .given .1,
-      sym (back3 .before .before .earlier .ensures) ∙ back3 .before .if1 .left,
-      sym (back3 .waits .ensures) ∙ c .before .before .if2 .taken,
+      back5 .before .before .before .bench .given .1,
+      sym (back5 .earlier .ensures) ∙ c .before .before .before .before .if1 .left,
+      c .before .before .enum-told2 .given .1,
       sym (c .before .late .ensures),
     )
     (c .decided-by .ensures)
 
-returns-3 : tie.Need-returns-3
-returns-3 c = search needs
-
 returns-4 : tie.Need-returns-4
 returns-4 c =
-    let back6 = c .before .before .before .before .before .before in
+    let back3 = c .before .before .before in
     rw (
-      back6 .bench .given .1,
-      sym (c .before .before .before .earlier .ensures) ∙ c .before .before .if1 .left,
-      sym (c .before .waits .ensures) ∙ c .if2 .left,
+      back3 .before .before .before .bench .given .1,
+      sym (back3 .earlier .ensures) ∙ c .before .before .if1 .left,
+      c .enum-told3 .given .1,
+    )
+
+returns-5 : tie.Need-returns-5
+returns-5 c =
+    let back3 = c .before .before .before in
+    rw (
+      back3 .before .before .before .bench .given .1,
+      sym (back3 .earlier .ensures) ∙ c .before .before .if1 .left,
+      c .enum-told4 .given .1,
+    )
+
+returns-6 : tie.Need-returns-6
+returns-6 c =
+    let back3 = c .before .before .before in
+    rw (
+      back3 .before .before .before .bench .given .1,
+      sym (back3 .earlier .ensures) ∙ c .before .before .if1 .left,
+      c .enum-told5 .given .1,
     )
 
 pub heard-verdict-spec : {M : Type 1} → statement M
@@ -59,9 +85,14 @@ heard-verdict-spec =
     enum-known-bench
     earlier-requires
     returns
-    waits-requires
+    enum-told-2
     late-requires
     decided-by-requires
+    enum-told-3
+    enum-told-4
+    enum-told-5
     returns-2
     returns-3
-    returns-4)
+    returns-4
+    returns-5
+    returns-6)

@@ -1,5 +1,5 @@
 -- `verdict_rows::judging::judge` meets its contract: a wake-up, a row sent, or a row heard. Assumes nothing.
-use mathlib.Core.Path.{sym, ap, _∙_}
+use mathlib.Core.Path.{sym, _∙_}
 use Rattle.mbus_characters.proofs.Laws.PairLaws.{length-characters}
 use Rattle.verdict_rows.specs.Verdicts.{verdictAfter, benchAfter}
 use borrow.Author.Needs.{needs}

@@ -1,6 +1,5 @@
 -- `verdict_rows::kept::faults_of` meets its contract: each turn tries one row. Assumes nothing.
 use Prim.Native.Nat.{_-_}
-use native.Mathlib.Omega.{arith}
 use borrow.Author.Needs.{needs}
 use Rattle.verdict_rows.specs.Walking.{Tried}
 use Rattle.verdict_rows.proofs.Laws.Answering.{Tries, tries-none, tries-next, tries-all}

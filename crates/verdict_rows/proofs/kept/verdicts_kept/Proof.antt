@@ -31,7 +31,10 @@ refused-requires c κs = search needs
 returns : tie.Need-returns
 returns c =
     let back2 = c .before .before in
-    c .refused .ensures ∙ ap shownVerdicts (kept-34 (tried (back2 .before)) (now (back2 .before .before .before .before .before .before .before .args .bundle)) (back2 .faults-of .ensures) (c .before .if1 .taken))
+    c .refused .ensures
+    ∙ ap shownVerdicts
+    (kept-34 (tried (back2 .before)) (now (back2 .before .before .before .before .before .before .before .args .bundle)) (back2 .faults-of .ensures)
+    (c .before .if1 .taken))
 
 refused-requires-2 : tie.Need-refused-requires-2
 refused-requires-2 c κs = search needs
@@ -47,8 +50,8 @@ returns-2 c =
 walk-requires : tie.Need-walk-requires
 walk-requires c κs =
     let back2 = c .before .before in
-    walkable-kept (tried (back2 .before)) (now (back2 .before .before .before .before .before .before .before .args .bundle)) (back2 .faults-of .ensures) (c .before .if1 .left)
-    (c .if2 .left)
+    walkable-kept (tried (back2 .before)) (now (back2 .before .before .before .before .before .before .before .args .bundle)) (back2 .faults-of .ensures)
+    (c .before .if1 .left) (c .if2 .left)
 
 enum-known-number : tie.Need-enum-known-number
 enum-known-number c = search needs
@@ -68,7 +71,8 @@ returns-4 c =
     let back4 = c .before .before .before .before in
     let a = back4 .before .before .before .args in
     c .refused3 .ensures
-    ∙ ap shownVerdicts (kept-refused (now (a .columns)) (now (a .bundle)) (not-taken (now (a .columns)) (back4 .count-in .ensures) (c .before .before .number .given .1)))
+    ∙ ap shownVerdicts
+    (kept-refused (now (a .columns)) (now (a .bundle)) (not-taken (now (a .columns)) (back4 .count-in .ensures) (c .before .before .number .given .1)))
 
 pub verdicts-kept-spec : {M : Type 1} → statement M
 verdicts-kept-spec =

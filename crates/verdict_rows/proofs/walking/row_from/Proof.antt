@@ -26,7 +26,8 @@ returns c =
     let back3 = c .before .before .before in
     let a = back3 .before .before .before .args in
     rw (back3 .before .if1 .taken)
-    (ap orBlank (sym (shownRow-same (rowKept (a .contents .now) (a .i)) (reads (c .before .fields .given .0 .0)) (sym (back3 .row .ensures) ∙ c .before .fields .given .1))))
+    (ap orBlank (sym (shownRow-same (rowKept (a .contents .now) (a .i)) (reads (c .before .fields .given .0 .0)) (sym (back3 .row .ensures)
+    ∙ c .before .fields .given .1))))
 
 returns-2 : tie.Need-returns-2
 unfolding uncheckedRow
@@ -35,7 +36,8 @@ returns-2 c =
     let a = back3 .before .before .before .args in
     rw (back3 .before .if1 .taken)
     (c .unchecked-row .ensures
-    ∙ ap orBlank (sym (shownRow-same (rowKept (a .contents .now) (a .i)) (refusal (c .before .enum-told .given .0 .0)) (sym (back3 .row .ensures) ∙ c .before .enum-told .given .1))))
+    ∙ ap orBlank (sym (shownRow-same (rowKept (a .contents .now) (a .i)) (refusal (c .before .enum-told .given .0 .0)) (sym (back3 .row .ensures)
+    ∙ c .before .enum-told .given .1))))
 
 unchecked-row-requires-2 : tie.Need-unchecked-row-requires-2
 unchecked-row-requires-2 c κs = search needs

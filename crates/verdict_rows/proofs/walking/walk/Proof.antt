@@ -1,6 +1,5 @@
 -- `verdict_rows::walking::walk` meets its contract: each turn judges one row. Assumes nothing.
-use Prim.Native.Nat.{_-_, _+_, _≤_, _<_}
-use mathlib.Core.Path.{_≡_, sym, ap, _∙_}
+use Prim.Native.Nat.{_-_}
 use native.Mathlib.Omega.{arith}
 use borrow.Author.Needs.{needs}
 use Rattle.verdict_rows.specs.Walking.{recordFrom}
@@ -64,7 +63,8 @@ loop-again c =
     let there = back3 .row-from .ensures in
     rw there
     (walked-next (back4 .before .loop .inv) (back4 .loop-test .taken)
-    (omega (arith, back4 .before .before .before .before .pre .position (back4 .before .loop .i) (back4 .loop-test .taken))) (rw there at (c .judge-in .ensures)))
+    (omega (arith, back4 .before .before .before .before .pre .position (back4 .before .loop .i) (back4 .loop-test .taken)))
+    (rw there at (c .judge-in .ensures)))
 
 returns : tie.Need-returns Inv-loop μ-loop
 returns c = walked-all (c .before .loop .inv) (c .loop-test .left)
