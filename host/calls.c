@@ -39,6 +39,7 @@ static struct skarrowith_meter set_up, meter;
 static struct skarrowith_contents contents;
 static struct skarrowith_salvaged salvaged;
 static struct skarrowith_row_verdict verdicts[ROWS];
+static uint8_t drawn[SKARROWITH_PICTURE_MOST];
 static struct skarrowith_cjt_telegram cjt;
 static struct skarrowith_entry entry;
 
@@ -158,6 +159,8 @@ static uint32_t judge_contents(void)
 {
     return skarrowith_contents_verdicts(&contents, sizeof contents, bytes, count, verdicts, sizeof verdicts, &told);
 }
+
+static uint32_t draw_bundle(void) { return skarrowith_picture(bytes, count, drawn, sizeof drawn, &told); }
 
 static uint32_t none(void) { return (uint32_t)count; }
 
@@ -462,6 +465,7 @@ static const struct {
     {"pass-bundle", put_talk, pass_bundle, NULL},
     {"verdicts-bundle", put_bundle, judge_bundle, judge_by_second},
     {"columns-bundle", put_contents, judge_contents, NULL},
+    {"picture-bundle", put_bundle, draw_bundle, NULL},
 };
 
 /* ---- the stack: painted, lent to one call, and looked at */

@@ -15,6 +15,7 @@
 #include "compare_exchange.h"
 #include "compare_line.h"
 #include "compare_meter.h"
+#include "compare_picture.h"
 #include "compare_replay.h"
 #include "compare_resistance.h"
 #include "compare_serial.h"
@@ -45,7 +46,7 @@ static const struct {
     {compare_find, 5},         {compare_words, 10},     {compare_wake, 10},   {compare_gap, 10},
     {compare_either, 5},       {compare_unmark, 20},       {compare_length, 10},    {compare_after, 5},
     {compare_error, 20},       {compare_exchange, 20},  {compare_meter, 12},  {compare_bundle, 15},
-    {compare_resistance, 10},  {compare_temperature, 10}, {compare_replay, 20}, {compare_verdict, 15},
+    {compare_resistance, 10},  {compare_temperature, 10}, {compare_replay, 20}, {compare_verdict, 15}, {compare_picture, 4},
     {compare_cjt_check, 60},   {compare_cjt_read, 40},  {compare_cjt_write, 40}, {compare_cjt_energy, 20},
 };
 
