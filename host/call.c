@@ -11,7 +11,7 @@
 #include <stdlib.h>
 #include <string.h>
 
-enum { LENT_MOST = BYTES_MOST + 64, MARGIN = 32, POOL = 4, ANSWERS = 512 };
+enum { LENT_MOST = SKARROWITH_PICTURE_MOST + 64, MARGIN = 32, POOL = 4, ANSWERS = 512 };
 
 /* Every function, with answers and refusals of which each must be seen. */
 static const struct {
@@ -51,6 +51,7 @@ static const struct {
     [ROW_VERDICTS] = {"skarrowith_verdicts", "0", "21 30 31 32 33 34 35 36 37"},
     [CONTENTS_VERDICTS] = {"skarrowith_contents_verdicts", "0", "21 34 35 101"},
     [REPEATS] = {"skarrowith_repeats", "0", "21 30 31 32 33 34 35 36 37"},
+    [PICTURE] = {"skarrowith_picture", "0", "21 30 31 32 33 34 35 36 37"},
     [BUNDLE_SALVAGE] = {"skarrowith_bundle_salvage", "0", "21 30 31 32 33 38"},
     [BUNDLE_SWEEP] = {"skarrowith_bundle_sweep", "0", "30 31 32 33 34 35 36 37"},
     [CJT_CHECK_LINE] = {"skarrowith_cjt_check_line", "1 2", "1 2 3 17 80 81 82 83 84 85"},

@@ -40,6 +40,7 @@ enum function {
     ROW_VERDICTS,
     CONTENTS_VERDICTS,
     REPEATS,
+    PICTURE,
     BUNDLE_SALVAGE,
     BUNDLE_SWEEP,
     CJT_CHECK_LINE,

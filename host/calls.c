@@ -40,6 +40,7 @@ static struct skarrowith_meter set_up, meter;
 static struct skarrowith_contents contents;
 static struct skarrowith_salvaged salvaged;
 static struct skarrowith_row_verdict verdicts[ROWS];
+static uint8_t drawn[SKARROWITH_PICTURE_MOST];
 static struct skarrowith_cjt_telegram cjt;
 static struct skarrowith_entry entry;
 static struct skarrowith_meaning meaning;
@@ -163,6 +164,8 @@ static uint32_t judge_contents(void)
 }
 
 static uint32_t repeat_bundle(void) { return skarrowith_repeats(bytes, count, characters, MOST, &told); }
+static uint32_t draw_bundle(void) { return skarrowith_picture(bytes, count, drawn, sizeof drawn, &told); }
+
 static uint32_t none(void) { return (uint32_t)count; }
 
 static uint32_t read_by_second(void)
@@ -510,6 +513,7 @@ static const struct {
     {"verdicts-bundle", put_talk, judge_bundle, judge_by_second},
     {"columns-bundle", put_kept_talk, judge_contents, NULL},
     {"repeat-bundle", put_readings, repeat_bundle, NULL},
+    {"picture-bundle", put_bundle, draw_bundle, NULL},
 };
 
 /* ---- the stack: painted, lent to one call, and looked at */

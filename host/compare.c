@@ -15,6 +15,7 @@
 #include "compare_exchange.h"
 #include "compare_line.h"
 #include "compare_meter.h"
+#include "compare_picture.h"
 #include "compare_repeat.h"
 #include "compare_replay.h"
 #include "compare_resistance.h"
@@ -47,7 +48,7 @@ static const struct {
     {compare_either, 5},       {compare_unmark, 20},       {compare_length, 10},    {compare_after, 5},
     {compare_error, 20},       {compare_exchange, 20},  {compare_meter, 12},  {compare_bundle, 15},
     {compare_resistance, 10},  {compare_temperature, 10}, {compare_replay, 20}, {compare_verdict, 15},
-    {compare_repeat, 10},
+    {compare_repeat, 10},       {compare_picture, 4},
     {compare_cjt_check, 60},   {compare_cjt_read, 40},  {compare_cjt_write, 40}, {compare_cjt_energy, 20},
 };
 

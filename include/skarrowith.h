@@ -857,6 +857,21 @@ uint32_t skarrowith_contents_verdicts(const struct skarrowith_contents *contents
  */
 uint32_t skarrowith_repeats(const uint8_t *bundle, size_t len, uint16_t *rows, size_t places, size_t *count);
 
+/* Bytes that are always enough for a picture. */
+#define SKARROWITH_PICTURE_MOST 262144u
+
+/*
+ * Draws a bundle as an SVG picture, which opens in any browser: time to the right, a lane for each position that has rows,
+ * each row a box as long as its line took, in the colour of its verdict, the reply window of each send behind it, and in
+ * words what the row is where the pointer rests on it. A pause in which nothing was sent, heard or waited for is cut short.
+ *
+ * out, out_len: takes the text in its first bytes, and nothing beyond. SKARROWITH_PICTURE_MOST bytes are always enough.
+ * written:      takes how many bytes the text has, and is not null; no zero byte ends it.
+ *
+ * Refuses by 30 to 37 as the check does, then by 21 if there are fewer bytes than the text has.
+ */
+uint32_t skarrowith_picture(const uint8_t *bundle, size_t len, uint8_t *out, size_t out_len, size_t *written);
+
 #ifdef __cplusplus
 }
 #endif

@@ -148,23 +148,29 @@ static int is_wake(const uint16_t *line, size_t n)
     return same == n && n >= 459 && n <= 502;
 }
 
-static void list_row(const uint8_t *bundle, struct second_row row, FILE *to, int end)
+void second_word(const uint8_t *bundle, const struct second_row *row, FILE *to)
 {
     static const char *const words[] = {"ack", "read", "enter", "leave", "data"};
-    uint16_t line[SECOND_BODY / 2];
+    uint16_t line[SECOND_BODY / 2] = {0};
     struct second_telegram t;
-    size_t n = row.length / 2;
+    size_t n = row->length / 2;
     int refusal;
     for (size_t i = 0; i < n; i++)
-        line[i] = (uint16_t)second_number(bundle + row.offset + 2 * i, 2);
-    fprintf(to, "%u,%s,%lu,", row.position, row.direction == 0 ? "sent" : "heard", (unsigned long)row.time);
+        line[i] = (uint16_t)second_number(bundle + row->offset + 2 * i, 2);
     refusal = second_read(line, n, &t);
     if (is_wake(line, n))
-        fprintf(to, "wake%c", end);
+        fprintf(to, "wake");
     else if (refusal != 0)
-        fprintf(to, "refused %d%c", refusal, end);
+        fprintf(to, "refused %d", refusal);
     else
-        fprintf(to, "%s%c", words[t.kind], end);
+        fprintf(to, "%s", words[t.kind]);
+}
+
+static void list_row(const uint8_t *bundle, struct second_row row, FILE *to, int end)
+{
+    fprintf(to, "%u,%s,%lu,", row.position, row.direction == 0 ? "sent" : "heard", (unsigned long)row.time);
+    second_word(bundle, &row, to);
+    fputc(end, to);
 }
 
 void second_list(const uint8_t *bundle, size_t n, FILE *to, int end)

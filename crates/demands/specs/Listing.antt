@@ -16,7 +16,7 @@ use Rattle.bundle_check.specs.Example.{sixteen}
 use Rattle.bench_clock.specs.Wakes.{isWake}
 use Rattle.listing_column.specs.Columns.{columnOf}
 use Rattle.host_words.specs.Words.{text}
-use Rattle.listing_text.specs.Texts.{digitsIn}
+use Rattle.text_filling.specs.Decimals.{digitsIn}
 use Rattle.listing_text.specs.Listings.{refusedText, wordOf, rowText, linesFor, listed, listingOf}
 
 -- The 16 bytes of 01's example give, whole:

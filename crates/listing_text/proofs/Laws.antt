@@ -1,5 +1,4 @@
 -- What follows from the definitions, invariants of loops among it.
-pub mod Texts
 pub mod Writing
 pub mod LineLaws
 pub mod Shown

@@ -1,5 +1,4 @@
 -- What document 01 says of the listing of a run bundle.
-pub mod Texts
 pub mod Listings
 pub mod Writing
 pub mod Shown

@@ -15,7 +15,7 @@ use Rattle.bundle_rows.specs.Rows.{bodyIn}
 use Rattle.mbus_rules.specs.Host.{chars}
 use Rattle.bundle_check.specs.Bundles.{contentsOf, checkOf}
 use Rattle.host_words.specs.Words.{text}
-use Rattle.listing_text.specs.Texts.{decimal}
+use Rattle.text_filling.specs.Decimals.{decimal}
 
 -- or, say, refused 3
 abbrev pub refusedText : ℕ → List ℕ

@@ -47,7 +47,7 @@ fn word_for(view: View) -> Line
 }
 
 // The word for a body.
-fn word_of(body: &[u8]) -> Line
+pub(crate) fn word_of(body: &[u8]) -> Line
     ensures { λ r. ⌜ Holds 18 r (wordOf (chars (now (body .entry)))) ⌝ }
 {
     match column_of(body) {

@@ -2,36 +2,16 @@
 ghost use mathlib.Core.Path.{_≡_};
 ghost use mathlib.Core.List.{[], _++_};
 ghost use Prim.Native.Nat.{_+_, _≤_};
-ghost use lib.ListN.{length, take, drop};
-ghost use Rattle.listing_text.specs.Texts.{decimal};
+ghost use lib.ListN.{length};
+ghost use Rattle.text_filling.specs.Decimals.{decimal};
 ghost use Rattle.listing_text.specs.Writing.{lineText, Holds};
 use bytes_lent::lay;
+use text_filling::put_number;
 
 // A short text, in the first places.
 pub(crate) struct Line {
     pub(crate) bytes: [u8; 48],
     pub(crate) size: usize,
-}
-
-// The decimal digits of a number, in the last places.
-struct Digits {
-    bytes: [u8; 10],
-    start: usize,
-}
-
-fn digits_of(n: u32) -> Digits
-    ensures { λ r. ⌜ (r .start ≤ 9) × (length (r .bytes) ≡ 10) × (drop (r .start) (r .bytes) ≡ decimal n) ⌝ }
-{
-    let mut bytes = [0u8; 10];
-    bytes[9] = (48 + n % 10) as u8;
-    let mut start = 9;
-    let mut rest = n / 10;
-    while 0 < rest {
-        start -= 1;
-        bytes[start] = (48 + rest % 10) as u8;
-        rest = rest / 10;
-    }
-    Digits { bytes, start }
 }
 
 // A text with nothing in it.
@@ -71,8 +51,8 @@ pub(crate) fn with_number(line: Line, n: u32) -> Line
     requires { ⌜ line .size + 10 ≤ 48 ⌝ }
     ensures { λ r. ⌜ Holds (line .size + 10) r (lineText line ++ decimal n) ⌝ }
 {
-    let digits = digits_of(n);
-    let start = digits.start;
-    let bytes = digits.bytes;
-    with(line, &bytes[start..])
+    let at = line.size;
+    let mut all = line.bytes;
+    let size = put_number(&mut all, at, n as u64);
+    Line { bytes: all, size }
 }

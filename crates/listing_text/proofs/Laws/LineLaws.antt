@@ -14,7 +14,7 @@ use Rattle.bundle_rows.specs.Rows.{blankRow}
 use Rattle.bundle_check.specs.Bundles.{contentsOf, checkOf}
 use Rattle.listing_text.specs.declared.texts.Line.{Line}
 use Rattle.host_words.specs.Words.{text}
-use Rattle.listing_text.specs.Texts.{decimal}
+use Rattle.text_filling.specs.Decimals.{decimal}
 use Rattle.listing_text.specs.Listings.{directionText, rowText, lineFor, linesFor, refusedText, firstLine, listingOf}
 use Rattle.listing_text.specs.Writing.{lineText, Holds}
 use Rattle.listing_text.proofs.Laws.Writing.{take-copied}

@@ -36,30 +36,10 @@ use Rattle.host_words.specs.Words.{text}
 use Rattle.listing_column.specs.declared.Column.the-variants.{Wake, Reads}
 use Rattle.listing_column.specs.Columns.{columnOf}
 use Rattle.bench_clock.specs.Wakes.{isWake}
-use Rattle.listing_text.specs.Texts.{digitsIn, decimal, lastDigit}
+use Rattle.text_filling.specs.Decimals.{decimal}
+use Rattle.text_filling.proofs.Laws.DecimalLaws.{decimal-few}
 use Rattle.listing_text.specs.Listings.{wordFor, columnText, wordOf, directionText, rowText, lineFor, linesFor, listed, listingOf, firstLine, refusedText}
 use Rattle.bundle_check.proofs.Laws.BodyLaws.{row-right, count-rows, few-rows}
-
--- ---- a number below 10 ^ k has at most k digits
-more-digits : (t : Bool) (n k : ℕ) (l : List ℕ) → eqb n 0 ≡ t → n < 10 ^ k → ((j : ℕ) → n / 10 < 10 ^ j → length l ≤ j)
-    → length (cond t [] (l ++ lastDigit n)) ≤ k
-more-digits true n k l e h g = zero-le
-more-digits false n zero l e h g = absurd (eqb-false n 0 e (omega arith))
-more-digits false n (suc k) l e h g =
-    let p : n < 10 ^ k * 10 = rw pow-suc at h in
-    let m : n / 10 < 10 ^ k = omega arith in
-    omega (arith, length-append l (lastDigit n), g k m)
-
-digits-few : (f k n : ℕ) → n < 10 ^ k → length (digitsIn f n) ≤ k
-unfolding digitsIn
-digits-few zero k n h = zero-le
-digits-few (suc f) k n h = more-digits (eqb n 0) n k (digitsIn f (n / 10)) refl h (λ j. digits-few f j (n / 10))
-
-decimal-few : (k n : ℕ) → n < 10 ^ suc k → length (decimal n) ≤ suc k
-decimal-few k n h =
-    let p : n < 10 ^ k * 10 = rw pow-suc at h in
-    let m : n / 10 < 10 ^ k = omega arith in
-    omega (arith, length-append (digitsIn (n / 10) (n / 10)) (lastDigit n), digits-few (n / 10) k (n / 10) m)
 
 -- ---- every refusal number of a line and of a bundle has two digits
 data Small {A : Type 0} : Answer A → Type 0 where

@@ -1,45 +1,30 @@
--- `listing_text::texts::with_number` meets its contract: the digits are put behind the text. Assumes nothing.
-use Prim.Native.Nat.{ℕ, _-_}
-use mathlib.Core.List.{List, _++_}
-use mathlib.Core.Path.{ap, _∙_}
+-- `listing_text::texts::with_number` meets its contract: the digits stand behind the text. Assumes nothing.
+use Rattle.text_filling.proofs.Laws.WritingLaws.{put-front, writes-length}
+use Rattle.text_filling.proofs.Laws.DecimalLaws.{decimal-few}
+use Rattle.text_filling.specs.Decimals.{decimal}
+use lib.ListN.{length}
 use native.Mathlib.Omega.{arith}
-use lib.Seq.{take-all}
-use Rattle.listing_text.specs.Writing.{lineText}
+use Prim.Native.Nat.{_+_, _≤_, _^_, _<_}
+use mathlib.Core.Path.{_≡_, _∙_}
 use borrow.Author.Needs.{needs}
-use lib.ListN.{drop, length-drop}
 use Rattle.listing_text.proofs.texts.with_number.Statement.{statement}
 use Rattle.listing_text.proofs.texts.with_number.Tie as tie
 
-digits-of-requires : tie.Need-digits-of-requires
-digits-of-requires c κs = search needs
+slice-aggregate-put-number : tie.Need-slice-aggregate-put-number
+slice-aggregate-put-number c = search needs
 
-sub-with : tie.Need-sub-with
-sub-with c = search needs
-
-part-with-start : tie.Need-part-with-start
-part-with-start c = search needs
-
-part-with-end : tie.Need-part-with-end
-part-with-end c = search needs
-
-with-requires : tie.Need-with-requires
-with-requires c κs = search needs
+put-number-requires : tie.Need-put-number-requires
+put-number-requires c κs = search needs
 
 returns : tie.Need-returns
 returns c =
-    let back4 = c .before .before .before .before in
-    let back5 = back4 .before in
-    let d = back4 .digits-of in
-    record {
-      small = omega (arith, c .with .ensures .small, length-drop (d .result .start) (d .result .bytes));
-      whole = c .with .ensures .whole;
-      so =
-          c .with .ensures .so ∙ ap (λ (l : List ℕ). lineText (back5 .args .line) ++ l)
-          (take-all (10 - d .result .start) (drop (d .result .start) (d .result .bytes)) (omega (arith, length-drop (d .result .start) (d .result .bytes)))
-          ∙ d .ensures .2);
-    }
+    let a = c .before .before .before .before .args in
+    let w = c .before .put-number .ensures in
+    let size : 48 ≡ length (a .line .bytes) = search needs in
+    let small : a .n < 10 ^ 10 = omega arith in
+    let few : length (decimal (a .n)) ≤ 10 = decimal-few 9 (a .n) small in
+    let front = put-front w (omega (arith, few, size)) (omega (arith, size)) in
+    record { small = omega (arith, few, front .0); whole = writes-length w ∙ search needs; so = front .1 }
 
 pub with-number-spec : {M : Type 1} → statement M
-with-number-spec =
-    tie.close
-    (tie.spec digits-of-requires sub-with part-with-start part-with-end with-requires returns)
+with-number-spec = tie.close (tie.spec slice-aggregate-put-number put-number-requires returns)

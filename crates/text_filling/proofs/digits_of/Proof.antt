@@ -1,11 +1,11 @@
--- `listing_text::texts::digits_of` meets its contract: the loop spells the number from its last digit on. Assumes nothing.
+-- `text_filling::digits_of` meets its contract: the loop spells the number from its last digit on. Assumes nothing.
 use native.Mathlib.Omega.{arith}
 use borrow.Author.Needs.{needs}
 use mathlib.Core.Path.{refl}
 use lib.ListN.{replicate}
-use Rattle.listing_text.proofs.Laws.Texts.{Spelled, spelled-first, spelled-more, spelled-next, spelled-all}
-use Rattle.listing_text.proofs.texts.digits_of.Statement.{statement}
-use Rattle.listing_text.proofs.texts.digits_of.Tie as tie
+use Rattle.text_filling.proofs.Laws.DecimalLaws.{Spelled, spelled-first, spelled-more, spelled-next, spelled-all}
+use Rattle.text_filling.proofs.digits_of.Statement.{statement}
+use Rattle.text_filling.proofs.digits_of.Tie as tie
 
 abbrev Inv-loop : tie.InvT-loop
 Inv-loop n bytes₀ start₀ rest₀ bytes start rest = Spelled n start rest bytes
@@ -23,7 +23,7 @@ array-write-bytes : tie.Need-array-write-bytes Inv-loop μ-loop
 array-write-bytes c = search needs
 
 loop-holds : tie.Need-loop-holds Inv-loop μ-loop
-loop-holds c = spelled-first (c .args .n) (replicate 10 0) (omega arith) refl
+loop-holds c = spelled-first (c .args .n) (replicate 20 0) (omega arith) refl
 
 sub-start : tie.Need-sub-start Inv-loop μ-loop
 sub-start c = omega (arith, spelled-more (c .before .loop .inv) (c .loop-test .taken))

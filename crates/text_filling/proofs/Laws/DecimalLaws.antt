@@ -1,15 +1,15 @@
--- Laws of `specs/Texts`.
-use Prim.Native.Nat.{ℕ, zero, suc, _+_, _-_, _*_, _/_, _%_, _^_, _≤_, _<_}
-use mathlib.Core.Bool.{cond}
+-- Laws of `specs/Decimals`.
+use Prim.Native.Nat.{ℕ, zero, suc, _+_, _-_, _*_, _/_, _%_, _^_, _≤_, _<_, zero-le}
+use mathlib.Core.Bool.{Bool, true, false, cond}
 use mathlib.Core.List.{List, [], _∷_, _++_, append-assoc}
 use mathlib.Core.Path.{_≡_, refl, sym, ap, _∙_, subst}
 use native.Mathlib.Nat.{pow-suc}
 use native.Mathlib.Omega.{arith}
-use borrow.Author.Tests.{ne-eqb}
+use borrow.Author.Tests.{ne-eqb, eqb-false}
 use lib.Dec.{eqb}
-use lib.ListN.{length, drop, set, length-set, drop-of-length-le}
+use lib.ListN.{length, drop, set, length-set, length-append, drop-of-length-le}
 use lib.Seq.{drop-cons, getD-set-same, drop-set-lt}
-use Rattle.listing_text.specs.Texts.{lastDigit, digitsIn, digits, decimal}
+use Rattle.text_filling.specs.Decimals.{lastDigit, digitsIn, digits, decimal}
 
 -- Laws: more room changes nothing; the last digit of a number that is not 0, and the digits before it.
 room : (k j n : ℕ) → n ≤ k → n ≤ j → digitsIn k n ≡ digitsIn j n
@@ -34,19 +34,19 @@ drop-set l i v h =
 
 -- A loop that spells: the digits to come and those that stand in the last places are the number.
 pub record Spelled (n start rest : ℕ) (bytes : List ℕ) : Type 0 where
-  pub near : start ≤ 9
+  pub near : start ≤ 19
   pub small : rest < 10 ^ start
-  pub same : length bytes ≡ 10
+  pub same : length bytes ≡ 20
   pub so : digits rest ++ drop start bytes ≡ decimal n
 
-pub spelled-first : (n : ℕ) (bytes : List ℕ) → n < 10 ^ 10 → length bytes ≡ 10 → Spelled n 9 (n / 10) (set bytes 9 (48 + n % 10))
+pub spelled-first : (n : ℕ) (bytes : List ℕ) → n < 10 ^ 20 → length bytes ≡ 20 → Spelled n 19 (n / 10) (set bytes 19 (48 + n % 10))
 spelled-first n bytes h e = record {
   near = omega arith;
   small = omega arith;
-  same = length-set bytes 9 (48 + n % 10) ∙ e;
+  same = length-set bytes 19 (48 + n % 10) ∙ e;
   so =
       ap (λ (l : List ℕ). digits (n / 10) ++ l)
-      (drop-set bytes 9 (48 + n % 10) (omega arith) ∙ ap (λ (l : List ℕ). (48 + n % 10) ∷ l) (drop-of-length-le bytes {i = 10} (omega arith)));
+      (drop-set bytes 19 (48 + n % 10) (omega arith) ∙ ap (λ (l : List ℕ). (48 + n % 10) ∷ l) (drop-of-length-le bytes {i = 20} (omega arith)));
 }
 
 step : {n s rest : ℕ} {bytes : List ℕ} → Spelled n (suc s) rest bytes → 0 < rest → Spelled n s (rest / 10) (set bytes s (48 + rest % 10))
@@ -75,3 +75,24 @@ unfolding digitsIn
 spelled-all {n} {start} {rest} {bytes} g h =
     let none : rest ≡ 0 = omega arith in
     rw none at (g .so)
+
+-- ---- a number below 10 ^ k has at most k digits
+more-digits : (t : Bool) (n k : ℕ) (l : List ℕ) → eqb n 0 ≡ t → n < 10 ^ k → ((j : ℕ) → n / 10 < 10 ^ j → length l ≤ j)
+    → length (cond t [] (l ++ lastDigit n)) ≤ k
+more-digits true n k l e h g = zero-le
+more-digits false n zero l e h g = absurd (eqb-false n 0 e (omega arith))
+more-digits false n (suc k) l e h g =
+    let p : n < 10 ^ k * 10 = rw pow-suc at h in
+    let m : n / 10 < 10 ^ k = omega arith in
+    omega (arith, length-append l (lastDigit n), g k m)
+
+digits-few : (f k n : ℕ) → n < 10 ^ k → length (digitsIn f n) ≤ k
+unfolding digitsIn
+digits-few zero k n h = zero-le
+digits-few (suc f) k n h = more-digits (eqb n 0) n k (digitsIn f (n / 10)) refl h (λ j. digits-few f j (n / 10))
+
+pub decimal-few : (k n : ℕ) → n < 10 ^ suc k → length (decimal n) ≤ suc k
+decimal-few k n h =
+    let p : n < 10 ^ k * 10 = rw pow-suc at h in
+    let m : n / 10 < 10 ^ k = omega arith in
+    omega (arith, length-append (digitsIn (n / 10) (n / 10)) (lastDigit n), digits-few (n / 10) k (n / 10) m)

@@ -1,0 +1,7 @@
+-- What follows from the definitions, invariants of loops among it.
+pub mod Rows
+pub mod TimingLaws
+pub mod PageLaws
+pub mod DrawingLaws
+pub mod Drawn
+pub mod Shown

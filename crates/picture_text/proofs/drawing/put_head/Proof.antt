@@ -1,0 +1,40 @@
+-- `picture_text::drawing::put_head` meets its contract: four texts. Assumes nothing.
+use Rattle.text_filling.proofs.Laws.WritingLaws.{four}
+use native.Mathlib.Omega.{arith}
+use borrow.Author.Needs.{needs}
+use Rattle.picture_text.proofs.drawing.put_head.Statement.{statement}
+use Rattle.picture_text.proofs.drawing.put_head.Tie as tie
+
+put-opens-requires : tie.Need-put-opens-requires
+put-opens-requires c κs = search needs
+
+put-style-requires : tie.Need-put-style-requires
+put-style-requires c κs = search needs
+
+put-title-requires : tie.Need-put-title-requires
+put-title-requires c κs = search needs
+
+put-legend-requires : tie.Need-put-legend-requires
+put-legend-requires c κs = search needs
+
+same-length : tie.Need-same-length
+same-length c = search needs
+
+returns : tie.Need-returns
+returns c =
+    let back2 = c .before .before in
+    let back6 = back2 .before .before .before .before in
+    let back10 = back6 .before .before .before .before in
+    let back14 = back10 .before .before .before .before in
+    four (search needs) (back14 .put-opens .ensures) (back10 .put-style .ensures) (back6 .put-title .ensures) (back2 .put-legend .ensures)
+
+pub put-head-spec : {M : Type 1} → statement M
+put-head-spec =
+    tie.close
+    (tie.spec
+    put-opens-requires
+    put-style-requires
+    put-title-requires
+    put-legend-requires
+    same-length
+    returns)

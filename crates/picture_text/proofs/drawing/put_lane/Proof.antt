@@ -1,0 +1,41 @@
+-- `picture_text::drawing::put_lane` meets its contract: three texts. Assumes nothing.
+use Rattle.picture_text.specs.Pictures.{laneDrawn}
+use Rattle.text_filling.proofs.Laws.WritingLaws.{three}
+use native.Mathlib.Omega.{arith}
+use borrow.Author.Needs.{needs}
+use Rattle.picture_text.proofs.drawing.put_lane.Statement.{statement}
+use Rattle.picture_text.proofs.drawing.put_lane.Tie as tie
+
+put-lane-open-requires : tie.Need-put-lane-open-requires
+put-lane-open-requires c κs = search needs
+
+put-rows-requires : tie.Need-put-rows-requires
+put-rows-requires c κs = search needs
+
+slice-aggregate-put : tie.Need-slice-aggregate-put
+slice-aggregate-put c = search needs
+
+put-requires : tie.Need-put-requires
+put-requires c κs = search needs
+
+same-length : tie.Need-same-length
+same-length c = search needs
+
+returns : tie.Need-returns
+unfolding laneDrawn
+returns c =
+    let back2 = c .before .before in
+    let back7 = back2 .before .before .before .before .before in
+    let back11 = back7 .before .before .before .before in
+    three (search needs) (back11 .put-lane-open .ensures) (back7 .put-rows .ensures) (back2 .put .ensures)
+
+pub put-lane-spec : {M : Type 1} → statement M
+put-lane-spec =
+    tie.close
+    (tie.spec
+    put-lane-open-requires
+    put-rows-requires
+    slice-aggregate-put
+    put-requires
+    same-length
+    returns)

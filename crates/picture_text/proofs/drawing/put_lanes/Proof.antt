@@ -1,0 +1,106 @@
+-- `picture_text::drawing::put_lanes` meets its contract: a lane for each position that has rows, one after the other. Assumes nothing.
+use borrow.Author.Needs.{needs}
+use Rattle.picture_text.proofs.Laws.DrawingLaws.{lanes-next, lanes-none}
+use Rattle.picture_text.proofs.Laws.PageLaws.{used-own, used-other, used-none}
+use Rattle.picture_text.specs.Pictures.{ruled, lanesDrawn}
+use Rattle.picture_text.specs.Pages.{usedFrom, usedPositions}
+use Rattle.text_filling.proofs.Laws.WritingLaws.{Left, left-all, left-next, left-none}
+use Rattle.bundle_check.specs.Records.{recordsOf}
+use native.Mathlib.Omega.{arith}
+use mathlib.Core.Path.{_≡_, refl, sym, ap, _∙_}
+use Prim.Native.Nat.{_+_, _*_, _≤_}
+use Rattle.picture_text.proofs.drawing.put_lanes.Statement.{statement}
+use Rattle.picture_text.proofs.drawing.put_lanes.Tie as tie
+
+abbrev Inv-loop : tie.InvT-loop
+Inv-loop out₀ at bundle count page rulings next₀ y₀ position₀ left₀ out next y position left =
+    (position + left ≡ 49) × (y + 24 * left ≤ 96 + 24 * 48)
+    × Left (lanesDrawn page (ruled rulings) (recordsOf bundle) 96 (usedPositions (recordsOf bundle))) out₀ at
+    (lanesDrawn page (ruled rulings) (recordsOf bundle) y (usedFrom (recordsOf bundle) left position)) next out
+
+abbrev μ-loop : tie.MeasureT-loop
+μ-loop out₀ at bundle count page rulings next₀ y₀ position₀ left₀ out next y position left = left
+
+loop-holds : tie.Need-loop-holds Inv-loop μ-loop
+loop-holds c = (refl, omega arith, left-all (search needs) (search needs))
+
+has-rows-requires : tie.Need-has-rows-requires Inv-loop μ-loop
+has-rows-requires c κs = search needs
+
+add-position : tie.Need-add-position Inv-loop μ-loop
+add-position c = search needs
+
+sub-left : tie.Need-sub-left Inv-loop μ-loop
+sub-left c = search needs
+
+put-lane-requires : tie.Need-put-lane-requires Inv-loop μ-loop
+put-lane-requires c κs = (c .before .before .before .before .before .before .before .pre, omega (arith, c .before .before .before .before .loop .inv .1))
+
+add-y : tie.Need-add-y Inv-loop μ-loop
+add-y c = search needs
+
+loop-less : tie.Need-loop-less Inv-loop μ-loop
+loop-less c = search needs
+
+loop-again : tie.Need-loop-again Inv-loop μ-loop
+loop-again c =
+    let back2 = c .before .before in
+    let back4 = back2 .before .before in
+    let back5 = back4 .before in
+    let back6 = back5 .before in
+    let back7 = back6 .before in
+    let at-loop = back7 in
+    let a = at-loop .before .before .before .args in
+    let ks = recordsOf (a .bundle .now) in
+    let l = at-loop .loop in
+    let inv = l .inv in
+    let used = used-own ks (l .position) (back6 .loop-test .taken) (sym (back4 .if1 .taken) ∙ back5 .has-rows .ensures) in
+    let next = lanes-next (a .page) (ruled (a .rulings)) ks (l .y) used in (
+      omega (arith, inv .0, back6 .loop-test .taken),
+      omega (arith, inv .1, back6 .loop-test .taken),
+      left-next (inv .2) next (back2 .put-lane .ensures),
+    )
+
+loop-less-2 : tie.Need-loop-less-2 Inv-loop μ-loop
+loop-less-2 c = search needs
+
+loop-again-2 : tie.Need-loop-again-2 Inv-loop μ-loop
+loop-again-2 c =
+    let at-loop = c .before .before .before in
+    let a = at-loop .before .before .before .args in
+    let ks = recordsOf (a .bundle .now) in
+    let l = at-loop .loop in
+    let inv = l .inv in
+    let used = used-other ks (l .position) (c .before .before .loop-test .taken) (sym (c .if1 .left) ∙ c .before .has-rows .ensures) in
+    (omega (arith, inv .0, c .before .before .loop-test .taken), omega (arith, inv .1, c .before .before .loop-test .taken), rw used at (inv .2))
+
+same-length : tie.Need-same-length Inv-loop μ-loop
+same-length c = c .before .loop .inv .2 .same
+
+returns : tie.Need-returns Inv-loop μ-loop
+returns c =
+    let at-loop = c .before in
+    let a = at-loop .before .before .before .args in
+    let ks = recordsOf (a .bundle .now) in
+    let l = at-loop .loop in
+    let none = lanes-none (a .page) (ruled (a .rulings)) ks (l .y) (used-none ks (l .position) (c .loop-test .left)) in
+    left-none (rw none at (l .inv .2))
+
+pub put-lanes-spec : {M : Type 1} → statement M
+put-lanes-spec =
+    tie.close
+    (tie.spec
+    Inv-loop
+    μ-loop
+    loop-holds
+    has-rows-requires
+    add-position
+    sub-left
+    put-lane-requires
+    add-y
+    loop-less
+    loop-again
+    loop-less-2
+    loop-again-2
+    same-length
+    returns)

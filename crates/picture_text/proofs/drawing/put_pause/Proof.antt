@@ -1,0 +1,46 @@
+-- `picture_text::drawing::put_pause` meets its contract, by cases. Assumes nothing.
+use Rattle.text_filling.proofs.Laws.WritingLaws.{nothing}
+use native.Mathlib.Omega.{arith}
+use borrow.Author.Needs.{needs}
+use Rattle.picture_text.proofs.drawing.put_pause.Statement.{statement}
+use Rattle.picture_text.proofs.drawing.put_pause.Tie as tie
+
+less-requires : tie.Need-less-requires
+less-requires c κs = search needs
+
+less-requires-2 : tie.Need-less-requires-2
+less-requires-2 c κs = search needs
+
+slice-aggregate-fill : tie.Need-slice-aggregate-fill
+slice-aggregate-fill c = search needs
+
+slice-aggregate-fill-2 : tie.Need-slice-aggregate-fill-2
+slice-aggregate-fill-2 c = search needs
+
+fill-requires : tie.Need-fill-requires
+fill-requires c κs = search needs
+
+same-length : tie.Need-same-length
+same-length c = search needs
+
+returns : tie.Need-returns
+returns c =
+    let x = c .before .before .before .before .before .before .before .less in
+    let width = c .before .before .before .before .before .before .less2 in
+    rw (c .before .before .before .before .before .before .before .before .if1 .taken, ← (x .ensures), ← (width .ensures)) (c .before .before .fill .ensures)
+
+returns-2 : tie.Need-returns-2
+returns-2 c = rw (c .if1 .left) (nothing (omega arith))
+
+pub put-pause-spec : {M : Type 1} → statement M
+put-pause-spec =
+    tie.close
+    (tie.spec
+    less-requires
+    less-requires-2
+    slice-aggregate-fill
+    slice-aggregate-fill-2
+    fill-requires
+    same-length
+    returns
+    returns-2)

@@ -1,0 +1,83 @@
+-- `picture_text::drawing::put_pauses` meets its contract: one pause after the other. Assumes nothing.
+use borrow.Author.Needs.{needs}
+use Rattle.picture_text.proofs.Laws.DrawingLaws.{pauses-next, pauses-none}
+use Rattle.picture_text.specs.Pictures.{pausesDrawn}
+use Rattle.picture_text.proofs.Laws.Rows.{rest-rows, no-rows}
+use Rattle.picture_text.specs.Timing.{unpaced, Steady}
+use Rattle.text_filling.proofs.Laws.WritingLaws.{Left, left-all, left-next, left-none}
+use Rattle.bundle_check.specs.Records.{recordsOf}
+use lib.ListN.{drop}
+use native.Mathlib.Omega.{arith}
+use Prim.Native.Nat.{_-_, _≤_, zero-le}
+use Rattle.picture_text.proofs.drawing.put_pauses.Statement.{statement}
+use Rattle.picture_text.proofs.drawing.put_pauses.Tie as tie
+
+abbrev Inv-loop : tie.InvT-loop
+Inv-loop out₀ at bundle count pace₀ next₀ i₀ out pace next i =
+    (i ≤ count) × Steady i pace
+    × Left (pausesDrawn unpaced (recordsOf bundle)) out₀ at (pausesDrawn pace (drop i (recordsOf bundle))) next out
+
+abbrev μ-loop : tie.MeasureT-loop
+μ-loop out₀ at bundle count pace₀ next₀ i₀ out pace next i = count - i
+
+unpaced-requires : tie.Need-unpaced-requires Inv-loop μ-loop
+unpaced-requires c κs = search needs
+
+loop-holds : tie.Need-loop-holds Inv-loop μ-loop
+loop-holds c = rw (c .unpaced .ensures) (zero-le, record { cut = zero-le; busy = zero-le; start = zero-le }, left-all (search needs) (search needs))
+
+unchecked-row-requires : tie.Need-unchecked-row-requires Inv-loop μ-loop
+unchecked-row-requires c κs = search needs
+
+paced-requires : tie.Need-paced-requires Inv-loop μ-loop
+paced-requires c κs = (c .before .before .before .before .before .before .pre, c .before .loop-test .taken, c .before .before .loop .inv .1)
+
+put-pause-requires : tie.Need-put-pause-requires Inv-loop μ-loop
+put-pause-requires c κs = search needs
+
+add-i : tie.Need-add-i Inv-loop μ-loop
+add-i c = search needs
+
+loop-less : tie.Need-loop-less Inv-loop μ-loop
+loop-less c = search needs
+
+loop-again : tie.Need-loop-again Inv-loop μ-loop
+loop-again c =
+    let back2 = c .before .before in
+    let back4 = back2 .before .before in
+    let back5 = back4 .before in
+    let back6 = back5 .before in
+    let back7 = back6 .before in
+    let at-loop = back7 in
+    let s = at-loop .before .before .before .before in
+    let r = rest-rows (s .args .bundle .now) (at-loop .loop .i) (s .args .count) (s .pre) (back6 .loop-test .taken) in
+    let after = back4 .paced in
+    let drawn = rw (back5 .unchecked-row .ensures) at (back2 .put-pause .ensures) in
+    (omega arith, after .ensures .1, left-next (at-loop .loop .inv .2) (pauses-next (at-loop .loop .pace) r (after .ensures .0)) drawn)
+
+same-length : tie.Need-same-length Inv-loop μ-loop
+same-length c = c .before .loop .inv .2 .same
+
+returns : tie.Need-returns Inv-loop μ-loop
+returns c =
+    let at-loop = c .before in
+    let s = at-loop .before .before .before .before in
+    let none = no-rows (s .args .bundle .now) (at-loop .loop .i) (s .args .count) (s .pre) (c .loop-test .left) in
+    left-none (rw (pauses-none (at-loop .loop .pace) none) at (at-loop .loop .inv .2))
+
+pub put-pauses-spec : {M : Type 1} → statement M
+put-pauses-spec =
+    tie.close
+    (tie.spec
+    Inv-loop
+    μ-loop
+    unpaced-requires
+    loop-holds
+    unchecked-row-requires
+    paced-requires
+    put-pause-requires
+    add-i
+    loop-less
+    loop-again
+    same-length
+    returns)

@@ -1,0 +1,129 @@
+// The sizes of a picture.
+ghost use mathlib.Core.Path.{_≡_};
+ghost use Prim.Native.Nat.{_≤_};
+ghost use lib.ListN.{length};
+ghost use Rattle.mbus_rules.specs.Answers.{reads};
+ghost use Rattle.bundle_check.specs.Bundles.{checkOf};
+ghost use Rattle.bundle_check.specs.Records.{recordsOf};
+ghost use Rattle.picture_text.specs.Pages.{hasRows, usedPositions, scaleFor, fieldsFor, pageFor, pageOf, Bounded};
+use crate::pace::less;
+use crate::pace::most;
+use crate::pace::pace_of;
+use bundle_rows::unchecked_row;
+
+// How many rows and lanes there are; the bit times of a px; how many fields of 240 px, and their bit times; how wide the lanes are, where the numbers
+// on their right stand and how wide the whole is; where the lanes end and how high the whole is; and the bit times that the lanes show.
+pub(crate) struct Page {
+    pub(crate) rows: u64,
+    pub(crate) lanes: u64,
+    pub(crate) scale: u64,
+    pub(crate) fields: u64,
+    pub(crate) step: u64,
+    pub(crate) wide: u64,
+    pub(crate) right: u64,
+    pub(crate) width: u64,
+    pub(crate) bottom: u64,
+    pub(crate) height: u64,
+    pub(crate) span: u64,
+}
+
+// A position has rows.
+pub(crate) fn has_rows(bundle: &[u8], count: usize, position: u8) -> bool
+    requires { ⌜ checkOf (now bundle) ≡ reads count ⌝ }
+    ensures { λ r. ⌜ r ≡ hasRows position (recordsOf (now (bundle .entry))) ⌝ }
+{
+    for i in 0..count {
+        let row = unchecked_row(bundle, i);
+        let own = row.position == position;
+        if own {
+            return true;
+        }
+    }
+    false
+}
+
+// How many positions have rows.
+fn used_positions(bundle: &[u8], count: usize) -> u64
+    requires { ⌜ checkOf (now bundle) ≡ reads count ⌝ }
+    ensures { λ r. ⌜ (r ≡ length (usedPositions (recordsOf (now (bundle .entry))))) × (r ≤ 48) ⌝ }
+{
+    let mut found: u64 = 0;
+    let mut position: u8 = 1;
+    let mut left: u8 = 48;
+    while 0 < left {
+        let own = has_rows(bundle, count, position);
+        position += 1;
+        left -= 1;
+        if own {
+            found += 1;
+            continue;
+        }
+    }
+    found
+}
+
+// The bit times of a px.
+fn scale_for(end: u64) -> u64
+    ensures { λ r. ⌜ (r ≡ scaleFor end) × (5 ≤ r) × (r ≤ 200) ⌝ }
+{
+    if end < 150_000 {
+        return 5;
+    }
+    if end < 300_000 {
+        return 10;
+    }
+    if end < 600_000 {
+        return 20;
+    }
+    if end < 1_500_000 {
+        return 50;
+    }
+    if end < 3_000_000 {
+        return 100;
+    }
+    200
+}
+
+// How many fields there are.
+fn fields_for(scale: u64, end: u64) -> u64
+    requires { ⌜ (5 ≤ scale) × (scale ≤ 200) × (end ≤ 8589934592) ⌝ }
+    ensures { λ r. ⌜ (r ≡ fieldsFor scale end) × (r ≤ 8589934597) ⌝ }
+{
+    let step = 240 * scale;
+    let whole = end / step;
+    most(5, whole + 1)
+}
+
+// The sizes for so many rows and lanes, of what ends at a place.
+fn page_for(rows: u64, lanes: u64, end: u64) -> Page
+    requires { ⌜ (lanes ≤ 48) × (end ≤ 8589934592) ⌝ }
+    ensures { λ r. ⌜ (r ≡ pageFor rows lanes end) × Bounded r ⌝ }
+{
+    let scale = scale_for(end);
+    let fields = fields_for(scale, end);
+    let step = 240 * scale;
+    Page {
+        rows,
+        lanes,
+        scale,
+        fields,
+        step,
+        wide: 240 * fields,
+        right: 240 * fields + 70,
+        width: 240 * fields + 120,
+        bottom: 24 * lanes + 96,
+        height: 24 * lanes + 112,
+        span: step * fields,
+    }
+}
+
+// The sizes of the picture of an accepted bundle.
+pub(crate) fn page_of(bundle: &[u8], count: usize) -> Page
+    requires { ⌜ checkOf (now bundle) ≡ reads count ⌝ }
+    ensures { λ r. ⌜ (r ≡ pageOf (recordsOf (now (bundle .entry)))) × Bounded r ⌝ }
+{
+    let lanes = used_positions(bundle, count);
+    let pace = pace_of(bundle, count);
+    let end = less(pace.busy, pace.cut);
+    page_for(count as u64, lanes, end)
+}

@@ -1,0 +1,3 @@
+-- What follows from the definitions, invariants of loops among it.
+pub mod DecimalLaws
+pub mod WritingLaws
