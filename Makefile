@@ -97,6 +97,8 @@ try: all
 	bin/pages
 	program/test $(abspath $(PROGRAM)) $(shell bin/machine run)
 	python/test $(abspath $(SHARED))
+	bin/needed python3
+	bin/look examples/night-shift.svg
 	host/try-install
 	host/try-package
 

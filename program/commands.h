@@ -4,6 +4,7 @@
  */
 COMMAND(list, "", "[FILE]", "the rows of a run bundle")
 COMMAND(show, "ct", "[-c] [-t] [FILE]", "what happened in a run: rows with verdicts, positions, warnings")
+COMMAND(picture, "o:", "[-o OUT] [FILE]", "the same as a picture, in SVG")
 COMMAND(check, "c", "[-c] [FILE]", "what each line is")
 COMMAND(read, "c", "[-c] [FILE]", "what each line is, and all that it says")
 COMMAND(sweep, "p:o:", "[-p POSITION] [-o OUT] [FILE]", "a bundle without wake-ups and the rows of a position")

@@ -33,7 +33,7 @@ static int print_usage(FILE *to)
         "FILE is a run bundle. For check and read it is text, in each line of which the characters of a line stand as words of\n"
         "hexadecimal digits, the parity bit received as bit 8: 1E5, or 110 15B 1FE 059 116. Behind # stands a comment. Lines are\n"
         "M-Bus lines, and with -c CJ/T 188 lines.\n"
-        "Without FILE, or for -, standard input is read; without OUT, or for -, a bundle goes to standard output.\n"
+        "Without FILE, or for -, standard input is read; without OUT, or for -, a bundle or a picture goes to standard output.\n"
         "Exit status: 0 done, 1 refused by the rules, 2 wrong usage, or a file that cannot be read or written.\n",
         to);
     return DONE;

@@ -65,7 +65,7 @@ static uint64_t lay_out(const uint8_t *bundle, size_t n, size_t rows)
 
 static unsigned scale_for(uint64_t end)
 {
-    static const unsigned scales[] = {5, 10, 20, 50, 100};
+    static const unsigned scales[] = {20, 50, 100};
     for (size_t i = 0; i < sizeof scales / sizeof scales[0]; i++)
         if (end / scales[i] < 30000)
             return scales[i];

@@ -26,13 +26,7 @@ usedPositions ks = usedFrom ks 48 1
 
 -- The bit times of a px: the least of these with which what happened is under 30,000 px wide, and 200 at most.
 abbrev pub scaleFor : ℕ → ℕ
-scaleFor end =
-    cond (ltb end 150000) 5
-    (cond (ltb end 300000) 10
-    (cond (ltb end 600000) 20
-    (cond (ltb end 1500000) 50
-    (cond (ltb end 3000000) 100
-    200))))
+scaleFor end = cond (ltb end 600000) 20 (cond (ltb end 1500000) 50 (cond (ltb end 3000000) 100 200))
 
 -- Fields of 240 px, at least five, so that there is room for the legend.
 abbrev pub fieldsFor : ℕ → ℕ → ℕ

@@ -64,14 +64,8 @@ fn used_positions(bundle: &[u8], count: usize) -> u64
 
 // The bit times of a px.
 fn scale_for(end: u64) -> u64
-    ensures { λ r. ⌜ (r ≡ scaleFor end) × (5 ≤ r) × (r ≤ 200) ⌝ }
+    ensures { λ r. ⌜ (r ≡ scaleFor end) × (20 ≤ r) × (r ≤ 200) ⌝ }
 {
-    if end < 150_000 {
-        return 5;
-    }
-    if end < 300_000 {
-        return 10;
-    }
     if end < 600_000 {
         return 20;
     }
@@ -86,7 +80,7 @@ fn scale_for(end: u64) -> u64
 
 // How many fields there are.
 fn fields_for(scale: u64, end: u64) -> u64
-    requires { ⌜ (5 ≤ scale) × (scale ≤ 200) × (end ≤ 8589934592) ⌝ }
+    requires { ⌜ (20 ≤ scale) × (scale ≤ 200) × (end ≤ 8589934592) ⌝ }
     ensures { λ r. ⌜ (r ≡ fieldsFor scale end) × (r ≤ 8589934597) ⌝ }
 {
     let step = 240 * scale;

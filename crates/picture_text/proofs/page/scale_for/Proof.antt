@@ -27,45 +27,11 @@ returns-3 c = (
 )
 
 returns-4 : tie.Need-returns-4
-returns-4 c =
-    let back2 = c .before .before in
-    let back3 = back2 .before in (
-      simp (le-ltb _ _ (back3 .if1 .left), le-ltb _ _ (back2 .if2 .left), le-ltb _ _ (c .before .if3 .left), lt-ltb _ _ (c .if4 .taken)),
-      omega arith,
-      omega arith,
-    )
-
-returns-5 : tie.Need-returns-5
-returns-5 c =
-    let back2 = c .before .before in
-    let back3 = back2 .before in
-    let back4 = back3 .before in (
-      simp (
-        le-ltb _ _ (back4 .if1 .left),
-        le-ltb _ _ (back3 .if2 .left),
-        le-ltb _ _ (back2 .if3 .left),
-        le-ltb _ _ (c .before .if4 .left),
-        lt-ltb _ _ (c .if5 .taken),
-      ),
-      omega arith,
-      omega arith,
-    )
-
-returns-6 : tie.Need-returns-6
-returns-6 c =
-    let back2 = c .before .before in
-    let back3 = back2 .before in
-    let back4 = back3 .before in (
-      simp (
-        le-ltb _ _ (back4 .if1 .left),
-        le-ltb _ _ (back3 .if2 .left),
-        le-ltb _ _ (back2 .if3 .left),
-        le-ltb _ _ (c .before .if4 .left),
-        le-ltb _ _ (c .if5 .left),
-      ),
-      omega arith,
-      omega arith,
-    )
+returns-4 c = (
+  simp (le-ltb _ _ (c .before .before .if1 .left), le-ltb _ _ (c .before .if2 .left), le-ltb _ _ (c .if3 .left)),
+  omega arith,
+  omega arith,
+)
 
 pub scale-for-spec : {M : Type 1} → statement M
-scale-for-spec = tie.close (tie.spec returns returns-2 returns-3 returns-4 returns-5 returns-6)
+scale-for-spec = tie.close (tie.spec returns returns-2 returns-3 returns-4)
