@@ -8,6 +8,8 @@ ghost use Rattle.bytes_numbers.specs.Numbers.{number, bytesOf, Numbered}
 ghost use Rattle.bytes_numbers.specs.Records.{wordsOf, recordOf};
 use bytes_lent::lay;
 
+pub mod signed;
+
 // The byte at a place, 0 past the end.
 pub fn byte_at(s: &[u8], i: usize) -> u8
     ensures { λ r. ⌜ r ≡ getD (now (s .entry)) i 0 ⌝ }

@@ -1,4 +1,3 @@
 -- What follows from the definitions, invariants of loops among it.
 pub mod Recorded
 pub mod TelegramLaws
-pub mod TwosComplement

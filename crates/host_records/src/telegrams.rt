@@ -1,10 +1,7 @@
 // The record of a telegram.
 ghost use mathlib.Core.Path.{_≡_};
-ghost use Prim.Native.Nat.{_+_, _^_, _<_, _≤_};
-ghost use lib.IntN.{negsuc};
+ghost use Prim.Native.Nat.{_+_, _≤_};
 ghost use lib.ListN.{length};
-ghost use mir.Syntax.{w64};
-ghost use mir.Val.{toZ, ofZ};
 ghost use Rattle.bytes_numbers.specs.Numbers.{bytesOf};
 ghost use Rattle.mbus_rules.specs.declared.Value.the-variants.{Time};
 ghost use Rattle.mbus_rules.specs.Telegrams.{shown};
@@ -15,6 +12,8 @@ use bytes_lent::lay;
 use bytes_numbers::bytes_of;
 use bytes_numbers::number_at;
 use bytes_numbers::put_record;
+use bytes_numbers::signed::count_of;
+use bytes_numbers::signed::word_of;
 use mbus_rules::Decimal;
 use mbus_rules::Entry;
 use mbus_rules::Header;
@@ -49,34 +48,6 @@ fn moment_word(m: Moment) -> u64
     let date = m.year as u64 + 256 * m.month as u64 + 65536 * m.day as u64;
     let time = m.hour as u64 + 256 * m.minute as u64 + 65536 * m.second as u64;
     date + 16777216 * time + 281474976710656 * m.weekday as u64
-}
-
-// A number in two's complement. Written so that the back end sees that nothing is to be done.
-fn word_of(count: i64) -> u64
-    ensures { λ r. ⌜ r ≡ ofZ w64 count ⌝ }
-{
-    if count < 0 {
-        return 0xFFFF_FFFF_FFFF_FFFF - (-(count + 1)) as u64;
-    }
-    count as u64
-}
-
-// The number that is so much below -1.
-fn below_one(more: u64) -> i64
-    requires { ⌜ more < 2 ^ 63 ⌝ }
-    ensures { λ r. ⌜ r ≡ negsuc more ⌝ }
-{
-    -(more as i64) - 1
-}
-
-// The number that a word is in two's complement.
-fn count_of(word: u64) -> i64
-    ensures { λ r. ⌜ r ≡ toZ w64 word ⌝ }
-{
-    if word < 0x8000_0000_0000_0000 {
-        return word as i64;
-    }
-    below_one(0xFFFF_FFFF_FFFF_FFFF - word)
 }
 
 // The eight bytes of a value as one word: they are then written at once, whichever sort it is.

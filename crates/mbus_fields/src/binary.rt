@@ -1,8 +1,7 @@
 // Binary: two's complement, low byte first.
 ghost use mathlib.Core.Path.{_≡_};
 ghost use mathlib.Core.Bool.{cond};
-ghost use Prim.Native.Nat.{_-_, _^_, _<_, _≤_, min};
-ghost use lib.IntN.{pos, negsuc};
+ghost use Prim.Native.Nat.{_+_, _-_, _^_, _≤_, min};
 ghost use lib.ListN.{take};
 ghost use Rattle.mbus_rules.specs.Binary.{fitsBinary};
 ghost use Rattle.mbus_fields.specs.Fields.{codedOf};
@@ -10,6 +9,7 @@ use crate::digits::is_below_zero;
 use crate::digits::mark_of;
 use crate::digits::size_of;
 use bytes_numbers::number_at;
+use bytes_numbers::signed::count_of;
 
 // What the bytes hold in binary: the highest bit is set, and the number that they are.
 pub struct Coded {
@@ -28,23 +28,16 @@ fn most_of(width: usize) -> u64
     (mark / 15 - 1) * 16 + 15
 }
 
-// The number that is so many below minus one.
-fn below_minus_one(size: u64) -> i64
-    requires { ⌜ size < 2 ^ 63 ⌝ }
-    ensures { λ r. ⌜ r ≡ negsuc size ⌝ }
-{
-    -(size as i64) - 1
-}
-
-// A number below half of what the bytes hold is itself, and another is as far below zero as it is below all of them and one more.
-fn count_in(word: u64, most: u64, falls: bool) -> i64
-    requires { ⌜ (word ≤ most) × (cond falls (most - word) word < 2 ^ 63) ⌝ }
-    ensures { λ r. ⌜ r ≡ cond falls (negsuc (most - word)) (pos word) ⌝ }
+// A word of bytes that hold at most so much, as one of eight bytes: where the highest bit is set, so is each above it.
+fn extended(word: u64, most: u64, falls: bool) -> u64
+    requires { ⌜ word ≤ most ⌝ }
+    ensures { λ r. ⌜ r ≡ cond falls (word + (2 ^ 64 - 1 - most)) word ⌝ }
 {
     if falls {
-        return below_minus_one(most - word);
+        word + (0xFFFF_FFFF_FFFF_FFFF - most)
+    } else {
+        word
     }
-    word as i64
 }
 
 // What the first eight bytes hold in binary.
@@ -54,7 +47,7 @@ pub fn coded_of(value: &[u8]) -> Coded
     let word = number_at(value, 0, 8);
     let most = most_of(value.len());
     let falls = most / 2 < word;
-    let count = count_in(word, most, falls);
+    let count = count_of(extended(word, most, falls));
     Coded { falls, count }
 }
 

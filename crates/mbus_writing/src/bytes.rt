@@ -17,6 +17,7 @@ ghost use Rattle.mbus_writing.specs.Laying.{FrameClosed, BytesLaid, Data
 use crate::digits::two_digits;
 use bytes_lent::lay;
 use bytes_numbers::bytes_of;
+use bytes_numbers::signed::word_of;
 use mbus_characters::sum_of;
 use mbus_fields::digits::is_below_zero;
 use mbus_fields::digits::size_of;
@@ -75,12 +76,8 @@ fn widened(b: [u8; 6]) -> [u8; 8]
 fn binary_eight(count: i64) -> [u8; 8]
     ensures { λ r. ⌜ r ≡ binaryBytes 8 count ⌝ }
 {
-    let below = is_below_zero(count);
-    let size = size_of(count);
-    if below {
-        return bytes_of(0xFFFF_FFFF_FFFF_FFFF - (size - 1));
-    }
-    bytes_of(size)
+    let word = word_of(count);
+    bytes_of(word)
 }
 
 // The value in eight bytes, of which the width says how many count.

@@ -2,19 +2,22 @@
 use Prim.Native.Nat.{ℕ, zero, suc, _+_, _-_, _*_, _/_, _^_, _≤_, _<_, min}
 use mathlib.Core.Bool.{true, false, cond, true≢false, false≢true}
 use mathlib.Core.List.{List, [], _∷_}
-use mathlib.Core.Path.{_≡_, refl, sym, ap, _∙_}
+use mathlib.Core.Path.{_≡_, refl, sym, _∙_}
 use native.Mathlib.Nat.{pow-succ', one-le-pow, pow-le-pow-right}
 use native.Mathlib.Omega.{arith}
 use borrow.Author.Tests.{ltb-true, ltb-false, leb-true, leb-false, lt-ltb, le-ltb, le-leb, lt-leb}
 use lib.Dec.{ltb, leb}
 use lib.IntN.{ℤ, pos, negsuc, natAbs}
 use lib.ListN.{length}
+use mir.Syntax.{w64}
+use mir.Val.{toZ}
 use Rattle.mbus_rules.specs.Bytes.{Bytes}
 use Rattle.mbus_rules.specs.Numbers.{number}
 use Rattle.mbus_rules.specs.Binary.{negative, binaryOf, fitsBinary}
 use Rattle.mbus_rules.specs.Signs.{belowZero}
 use Rattle.mbus_rules.proofs.Laws.Tests.{by-test}
 use Rattle.mbus_rules.proofs.Laws.NumberLaws.{number-below}
+use Rattle.bytes_numbers.proofs.Laws.TwosComplement.{count-above, count-below}
 use Rattle.mbus_fields.specs.declared.binary.Coded.{Coded}
 use Rattle.mbus_fields.specs.Fields.{codedOf, markOf}
 
@@ -67,22 +70,30 @@ module _ (b : List ℕ) (h : Bytes b) (l : length b ≤ 8) where
   abbrev all : ℕ
   all = 256 ^ length b
 
-  word-fits : cond (negative b) (all - 1 - number b) (number b) < 2 ^ 63
-  word-fits =
-      let wide : all ≤ 256 ^ 8 = pow-le-pow-right (omega arith) {j = 8} l in
-      by-test (negative b) (λ t. rw t (omega (arith, leb-true all (2 * number b) t))) (λ t. rw t (omega (arith, leb-false all (2 * number b) t)))
+  -- the word with its highest bit in every place above
+  word-coded : toZ w64 (cond (negative b) (number b + (2 ^ 64 - 1 - (all - 1))) (number b)) ≡ binaryOf b
+  word-coded = by-test (negative b) falls rises
+    where
+      wide : all ≤ 256 ^ 8
+      wide = pow-le-pow-right (omega arith) {j = 8} l
 
-  word-coded : cond (negative b) (negsuc (all - 1 - number b)) (pos (number b)) ≡ binaryOf b
-  word-coded =
-      let size : all - number b ≡ suc (all - 1 - number b) = omega (arith, number-below b h) in
-      by-test (negative b) (λ t. rw (t, size)) (λ t. rw t)
+      falls : negative b ≡ true → toZ w64 (cond (negative b) (number b + (2 ^ 64 - 1 - (all - 1))) (number b)) ≡ binaryOf b
+      falls t =
+          let half : all ≤ 2 * number b = leb-true all (2 * number b) t in
+          let size : all - number b ≡ suc (0xFFFFFFFFFFFFFFFF - (number b + (2 ^ 64 - 1 - (all - 1)))) = omega (arith, wide, number-below b h) in
+          rw (t, size) (sym (count-below (number b + (2 ^ 64 - 1 - (all - 1))) (omega (arith, wide))))
+
+      rises : negative b ≡ false → toZ w64 (cond (negative b) (number b + (2 ^ 64 - 1 - (all - 1))) (number b)) ≡ binaryOf b
+      rises t =
+          let half : 2 * number b < all = leb-false all (2 * number b) t in
+          rw t (sym (count-above (number b) (omega (arith, wide))))
 
   -- the word and the greatest that the bytes hold: what they are read as
   module _ {w m : ℕ} (ew : w ≡ number b) (em : m ≡ all - 1) where
-    pub coded-fits : (w ≤ m) × (cond (ltb (m / 2) w) (m - w) w < 2 ^ 63)
-    coded-fits = rw (ew, em, ← word-falls b) (omega (arith, number-below b h), word-fits)
+    pub word-inside : w ≤ m
+    word-inside = rw (ew, em) (omega (arith, number-below b h))
 
-    pub coded-word : {z : ℤ} → z ≡ cond (ltb (m / 2) w) (negsuc (m - w)) (pos w)
+    pub coded-word : {z : ℤ} → z ≡ toZ w64 (cond (ltb (m / 2) w) (w + (2 ^ 64 - 1 - m)) w)
         → _≡_ {A = Coded} (record { falls = ltb (m / 2) w; count = z }) (codedOf b)
     coded-word e = rw (e, ew, em, ← word-falls b, word-coded)
 

@@ -1,6 +1,6 @@
 -- Laws of `specs/Laying`.
 use Prim.Native.Nat.{ℕ, zero, suc, _+_, _*_, _-_, _/_, _%_, _^_, _≤_, _<_, zero-le}
-use mathlib.Core.Bool.{Bool, true, false, not, _&&_, true≢false, false≢true}
+use mathlib.Core.Bool.{true, false, not, _&&_, false≢true}
 use mathlib.Core.List.{List, [], _∷_, _++_, map, append-assoc, append-nil}
 use mathlib.Core.Path.{_≡_, refl, sym, ap, ap₂, subst, _∙_}
 use native.Mathlib.Nat.{zero-add, not-suc-le-zero, pow-succ', pow-le-pow-right}
@@ -175,21 +175,6 @@ binary-cut : (w : ℕ) (z : ℤ) → w ≤ 8 → fitsBinary w z ≡ true → tak
 binary-cut w (pos n) h f = bytes-first w 8 n h
 binary-cut w (negsuc n) h f =
     bytes-first w 8 (256 ^ 8 - suc n) h ∙ below-cut 8 w n h (omega (arith, leb-true (2 * suc n) (256 ^ w) f))
-
--- eight bytes of binary, by the sign and the size
-pub below-some : (z : ℤ) → belowZero z ≡ true → 1 ≤ natAbs z
-below-some (pos n) e = absurd (false≢true e)
-below-some (negsuc n) e = omega arith
-
-pub binary-below : (z : ℤ) → belowZero z ≡ true → bytesOf 8 (18446744073709551615 - (natAbs z - 1)) ≡ binaryBytes 8 z
-binary-below (pos n) e = absurd (false≢true e)
-binary-below (negsuc n) e =
-    let same : 18446744073709551615 - (suc n - 1) ≡ 256 ^ 8 - suc n = omega arith in
-    ap (bytesOf 8) same
-
-pub binary-above : (z : ℤ) → belowZero z ≡ false → bytesOf 8 (natAbs z) ≡ binaryBytes 8 z
-binary-above (pos n) e = refl
-binary-above (negsuc n) e = absurd (true≢false e)
 
 -- digits have at most six bytes
 packed-most : (st : ℕ) → isBinary st ≡ false → widthOf st ≤ 6

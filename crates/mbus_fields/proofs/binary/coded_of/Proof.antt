@@ -6,11 +6,12 @@ use mathlib.Core.Path.{_≡_, sym, ap, _∙_}
 use native.Mathlib.Omega.{arith}
 use denote.Ref.{now}
 use mir.Syntax.{w64}
+use mir.Val.{toZ}
 use mir.ValLaws.{toZ-ofZ}
 use lib.ListN.{length, take, length-take}
 use Rattle.mbus_rules.specs.Bytes.{Bytes}
 use Rattle.mbus_rules.proofs.Laws.ByteLaws.{bytes-each, bytes-take}
-use Rattle.mbus_fields.proofs.Laws.CodeLaws.{coded-fits, coded-word}
+use Rattle.mbus_fields.proofs.Laws.CodeLaws.{word-inside, coded-word}
 use Rattle.mbus_fields.proofs.binary.coded_of.Statement.{statement}
 use Rattle.mbus_fields.proofs.binary.coded_of.Tie as tie
 
@@ -38,14 +39,18 @@ most c =
     let cut : length (take 8 value) ≡ min (length value) 8 = omega (arith, length-take 8 value) in
     c .most-of .ensures ∙ sym (ap (λ (k : ℕ). 256 ^ k - 1) cut)
 
-count-in-requires : tie.Need-count-in-requires
-count-in-requires c κs = coded-fits (bytes c) (known c) (few c) (c .before .number-at .ensures .so) (most c)
+extended-requires : tie.Need-extended-requires
+extended-requires c κs = word-inside (bytes c) (known c) (few c) (c .before .number-at .ensures .so) (most c)
+
+count-of-requires : tie.Need-count-of-requires
+count-of-requires c κs = search needs
 
 returns : tie.Need-returns
 returns c =
-    let n = c .count-in in
+    let n = c .count-of in
+    let m = c .before .before in
     rw (toZ-ofZ w64 (n .result) (record { sfits = n .ok }))
-    (coded-word (bytes (c .before)) (known (c .before)) (few (c .before)) (c .before .before .number-at .ensures .so) (most (c .before)) (n .ensures))
+    (coded-word (bytes m) (known m) (few m) (m .before .number-at .ensures .so) (most m) (n .ensures ∙ ap (toZ w64) (c .before .extended .ensures)))
 
 pub coded-of-spec : {M : Type 1} → statement M
-coded-of-spec = tie.close (tie.spec number-at-requires most-of-requires count-in-requires returns)
+coded-of-spec = tie.close (tie.spec number-at-requires most-of-requires extended-requires count-of-requires returns)

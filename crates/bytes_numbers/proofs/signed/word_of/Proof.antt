@@ -1,4 +1,4 @@
--- `host_records::telegrams::word_of` meets its contract: below zero, one more than the number is turned round. Assumes nothing.
+-- `bytes_numbers::signed::word_of` meets its contract: below zero, one more than the number is turned round. Assumes nothing.
 use borrow.Author.Needs.{needs}
 use native.Mathlib.Omega.{arith}
 use Prim.Native.Nat.{_-_}
@@ -9,9 +9,9 @@ use mir.Syntax.{w64}
 use mir.ValLaws.{toZ-ofZ}
 use Rattle.mbus_rules.specs.Signs.{belowZero}
 use Rattle.mbus_rules.proofs.Laws.Negation.{negation-fits, under, risen, turned, below-tested, above-cast}
-use Rattle.host_records.proofs.Laws.TwosComplement.{word-below, word-above}
-use Rattle.host_records.proofs.telegrams.word_of.Statement.{statement}
-use Rattle.host_records.proofs.telegrams.word_of.Tie as tie
+use Rattle.bytes_numbers.proofs.Laws.TwosComplement.{word-below, word-above}
+use Rattle.bytes_numbers.proofs.signed.word_of.Statement.{statement}
+use Rattle.bytes_numbers.proofs.signed.word_of.Tie as tie
 
 below : (c : tie.Then1) → belowZero (c .before .args .count) ≡ true
 below c = sym (below-tested (c .before .args .count) (c .before .fits .count)) ∙ c .if1 .taken

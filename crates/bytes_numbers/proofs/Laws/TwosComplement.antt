@@ -8,6 +8,8 @@ use lib.IntN.{ℤ, pos, negsuc, natAbs}
 use mir.Syntax.{w64}
 use mir.Val.{toZ, ofZ}
 use Rattle.mbus_rules.specs.Signs.{belowZero}
+use Rattle.mbus_rules.specs.Binary.{binaryBytes}
+use Rattle.bytes_numbers.specs.Numbers.{bytesOf}
 
 -- ---- from a number to its word, by its size
 
@@ -18,6 +20,11 @@ word-below (negsuc n) e = omega arith
 pub word-above : (z : ℤ) → belowZero z ≡ false → natAbs z ≡ ofZ w64 z
 word-above (pos n) e = refl
 word-above (negsuc n) e = absurd (true≢false e)
+
+-- its bytes are the number in eight bytes of binary
+pub word-bytes : (z : ℤ) → bytesOf 8 (ofZ w64 z) ≡ binaryBytes 8 z
+word-bytes (pos n) = refl
+word-bytes (negsuc n) = refl
 
 -- ---- and back
 

@@ -1,12 +1,12 @@
--- `host_records::telegrams::count_of` meets its contract. Assumes nothing.
+-- `bytes_numbers::signed::count_of` meets its contract. Assumes nothing.
 use borrow.Author.Needs.{needs}
 use mathlib.Core.Path.{_∙_}
 use lib.IntN.{pos}
 use mir.Syntax.{w64}
 use mir.ValLaws.{toZ-ofZ}
-use Rattle.host_records.proofs.Laws.TwosComplement.{count-above, count-below}
-use Rattle.host_records.proofs.telegrams.count_of.Statement.{statement}
-use Rattle.host_records.proofs.telegrams.count_of.Tie as tie
+use Rattle.bytes_numbers.proofs.Laws.TwosComplement.{count-above, count-below}
+use Rattle.bytes_numbers.proofs.signed.count_of.Statement.{statement}
+use Rattle.bytes_numbers.proofs.signed.count_of.Tie as tie
 
 cast-result : tie.Need-cast-result
 cast-result c = search needs

@@ -1,11 +1,11 @@
--- `host_records::telegrams::below_one` meets its contract. Assumes nothing.
+-- `bytes_numbers::signed::below_one` meets its contract. Assumes nothing.
 use borrow.Author.Needs.{needs}
 use lib.IntN.{negsuc}
 use mir.Syntax.{w64}
 use mir.ValLaws.{toZ-ofZ}
 use Rattle.mbus_rules.proofs.Laws.Negation.{negation-fits, negated, lowered}
-use Rattle.host_records.proofs.telegrams.below_one.Statement.{statement}
-use Rattle.host_records.proofs.telegrams.below_one.Tie as tie
+use Rattle.bytes_numbers.proofs.signed.below_one.Statement.{statement}
+use Rattle.bytes_numbers.proofs.signed.below_one.Tie as tie
 
 cast-result : tie.Need-cast-result
 cast-result c = search needs
