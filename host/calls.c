@@ -387,6 +387,12 @@ static void put_talk(void)
     second_put_number(last + 2 * 61, 2, second_character(0x03));
 }
 
+static void put_kept_talk(void)
+{
+    put_talk();
+    make_contents();
+}
+
 /* A run that is full of wake-ups: one of 459 characters before each read, 68 of both. */
 static void put_woken(void)
 {
@@ -463,9 +469,9 @@ static const struct {
     {"scan-all", put_contents, scan_all, scan_all_in_file},
     {"replay-bundle", put_talk, replay_bundle, replay_by_second},
     {"pass-bundle", put_talk, pass_bundle, NULL},
-    {"verdicts-bundle", put_bundle, judge_bundle, judge_by_second},
-    {"columns-bundle", put_contents, judge_contents, NULL},
-    {"picture-bundle", put_bundle, draw_bundle, NULL},
+    {"verdicts-bundle", put_talk, judge_bundle, judge_by_second},
+    {"columns-bundle", put_kept_talk, judge_contents, NULL},
+    {"picture-bundle", put_talk, draw_bundle, NULL},
 };
 
 /* ---- the stack: painted, lent to one call, and looked at */

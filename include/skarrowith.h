@@ -680,7 +680,7 @@ uint32_t skarrowith_verdict(const uint8_t *bundle, size_t len, size_t i, struct 
  *                 512 * sizeof(struct skarrowith_row_verdict) is always enough.
  * count:          takes how many there are; not null.
  *
- * Refuses by 30 to 37 as the check does, then by 21 if there is no room for all.
+ * Refuses by 30 to 37 as the check does, then by 21 if there is no room for all. It takes 11,000 bytes of stack.
  */
 uint32_t skarrowith_verdicts(const uint8_t *bundle, size_t len, struct skarrowith_row_verdict *verdicts, size_t size,
                              size_t *count);

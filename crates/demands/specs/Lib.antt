@@ -25,6 +25,7 @@ pub mod Runs
 pub mod WrongEnds
 pub mod Replay
 pub mod Sweep
+pub mod Verdicts
 pub mod Values
 pub mod Weekdays
 pub mod Signs

@@ -52,6 +52,9 @@ use Rattle.listing_text.proofs.Laws.Shown as listings
 use Rattle.replay_counting.specs.declared.Counted.{Counted}
 use Rattle.replay_counting.specs.Shown.{shownCounting}
 use Rattle.replay_error.specs.Shown.{shownReplay}
+use Rattle.verdict_rows.specs.Shown.{shownVerdicts}
+use Rattle.host_verdicts.specs.Told.{answerIn, verdictFound}
+use Rattle.host_verdicts.proofs.Laws.Told as verdicts
 
 -- Two answers that are shown alike are the same.
 abbrev pub Apart : {A B : Type 0} → (Answer A → B) → Type 0
@@ -165,3 +168,10 @@ replay-apart numbers (refusal m) (refusal n) e = cc
 replay-apart numbers (refusal m) (reads x) e = cc
 replay-apart numbers (reads x) (refusal n) e = cc
 replay-apart numbers (reads x) (reads y) e = cc
+
+-- the verdicts in their places, and one found
+pub verdicts-apart : Apart shownVerdicts
+verdicts-apart a b e = sym (verdicts.answer-back a) ∙ ap answerIn e ∙ verdicts.answer-back b
+
+pub verdict-found-apart : Apart verdictFound
+verdict-found-apart = verdicts.verdictFound-same

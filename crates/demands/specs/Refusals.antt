@@ -1,6 +1,6 @@
 -- Demand 1: any input gets a result. The definitions are total and every public function answers by one of them; here is, for each order of
 -- refusals, which numbers it can give. What a refusal leaves is in `Unchanged`.
-use Prim.Native.Nat.{ℕ, zero, suc, _+_, _-_, _%_}
+use Prim.Native.Nat.{ℕ, zero, suc, _+_, _-_, _%_, _*_}
 use mathlib.Core.Bool.{Bool, true, false, cond, not, _||_}
 use mathlib.Core.List.{List, [], _∷_, _++_, map}
 use mathlib.Core.Path.{_≡_, refl, sym, ap, subst, _∙_}
@@ -56,6 +56,7 @@ use Rattle.bundle_check.specs.RowRules.{wrongRow, wrongRows, wrongPlaces, bodie
 use Rattle.bundle_check.specs.Bundles.{mostBytes, countOf, contentsOf, opened, checkRows, checkOf}
 use Rattle.bundle_check.specs.Records.{Recorded, recordsOf, rowFor}
 use Rattle.bundle_check.specs.Handing.{placeOf, rowAt, bodyAt}
+use Rattle.bundle_columns.specs.Columns.{keptRows}
 use Rattle.bundle_columns.specs.Record.{columnsSize, columnsIn, columnsFrom}
 use Rattle.bundle_columns.specs.Lookups.{isPosition, inFront, firstFrom, rowKept, bodyKept, nextKept}
 use Rattle.bundle_columns.specs.Shown.{columnsInto, contentsInto}
@@ -85,6 +86,8 @@ use Rattle.host_exchange.specs.Calls.{sendEndedFor, tickFor}
 use Rattle.host_meter.specs.Calls as meters
 use Rattle.host_meter.specs.Calls.{setUpFor, measureFor}
 use Rattle.host_bundle.specs.Rows.{rowInto, keptInto}
+use Rattle.verdict_rows.specs.Answering.{verdictsIn, bodyPast, verdictsKept}
+use Rattle.host_verdicts.specs.Told.{verdictsInto, verdictInto}
 
 -- A refusal, if the answer is one, has one of these numbers.
 unfoldable pub By : {A : Type 0} → List ℕ → Answer A → Type 0
@@ -603,3 +606,32 @@ unfolding any
 measure-for-by b v e t =
     follow-by _ (meterFrom b) _ (more (101 ∷ []) _ _ refl (meter-record-by b))
     (λ m. more (70 ∷ 71 ∷ []) _ _ refl (measure-by m v e t))
+
+-- the verdicts of rows: of a bundle, and of columns with the bundle that their bodies lie in
+pub verdicts-by : (b : List ℕ) → By bundleNumbers (verdictsIn b)
+unfolding verdictsIn
+verdicts-by b = within-by _ _ (checkOf b) (bundle-by b)
+
+pub kept-verdicts-by : (lists b : List ℕ) → By (101 ∷ 34 ∷ 35 ∷ []) (verdictsKept lists b)
+unfolding any verdictsKept
+kept-verdicts-by lists b =
+    follow-by _ (columnsFrom lists) _ (more (101 ∷ []) _ _ refl (lists-by lists))
+    (λ c. refuse-by _ 34 (wrongRows 0 (keptRows c)) _ refl (refuse-by _ 35 (any (bodyPast (length b)) (keptRows c)) _ refl (reads-by _ _)))
+
+-- and for C: all of them, and one
+pub verdicts-into-by : (b out : List ℕ) → By (21 ∷ bundleNumbers) (verdictsInto (verdictsIn b) out)
+unfolding any
+verdicts-into-by b out =
+    follow-by _ (verdictsIn b) _ (more bundleNumbers _ _ refl (verdicts-by b)) (λ v. needs-by _ (4 * length v) out _ refl (reads-by _ _))
+
+pub kept-verdicts-into-by : (lists b out : List ℕ) → By (101 ∷ 34 ∷ 35 ∷ 21 ∷ []) (verdictsInto (verdictsKept lists b) out)
+unfolding any
+kept-verdicts-into-by lists b out =
+    follow-by _ (verdictsKept lists b) _ (more (101 ∷ 34 ∷ 35 ∷ []) _ _ refl (kept-verdicts-by lists b))
+    (λ v. needs-by _ (4 * length v) out _ refl (reads-by _ _))
+
+pub verdict-into-by : (b : List ℕ) (i : ℕ) (out : List ℕ) → By (21 ∷ 39 ∷ bundleNumbers) (verdictInto (verdictsIn b) i out)
+unfolding any
+verdict-into-by b i out =
+    needs-by _ 4 out _ refl
+    (follow-by _ (verdictsIn b) _ (more bundleNumbers _ _ refl (verdicts-by b)) (λ v. refuse-by _ 39 (leb (length v) i) _ refl (reads-by _ _)))

@@ -40,6 +40,8 @@ use Rattle.host_bundle.specs.Lent.{Gives}
 use Rattle.host_bundle.specs.Bundled.{AddsIn, ListsIn}
 use Rattle.host_bundle.specs.Salvaging.{SalvagesIn}
 use Rattle.host_sweep.specs.Sweeping.{SweepsIn}
+use Rattle.verdict_rows.specs.declared.Verdict.{Verdict}
+use Rattle.host_verdicts.specs.Told.{GivesVerdicts}
 
 -- Any two results that the promise allows are the same. (A result is the answer, and beside it what is left in each thing lent.)
 abbrev pub Settled : {R : Type 0} → (R → Type 0) → Type 0
@@ -128,6 +130,11 @@ list-settled b out written x y p q i =
 pub salvage-settled : (b out told : List ℕ) → Settled (λ (x : (ℕ × List ℕ) × List ℕ). SalvagesIn b out told (x .0 .0) (x .1) (x .0 .1))
 salvage-settled b out told x y p q i =
     (leaves-settled _ _ _ told (x .0) (y .0) (p .tells) (q .tells) i, equation _ (x .1) (y .1) (p .holds) (q .holds) i)
+
+pub verdicts-settled : (a : Answer (List Verdict)) (out : List ℕ) (count : ℕ)
+    → Settled (λ (x : (ℕ × List ℕ) × ℕ). GivesVerdicts a out count (x .0 .0) (x .0 .1) (x .1))
+verdicts-settled a out count x y p q i =
+    (leaves-settled _ _ a out (x .0) (y .0) (p .tells) (q .tells) i, equation _ (x .1) (y .1) (p .counts) (q .counts) i)
 
 pub words-settled : (said : Answer (List ℕ)) (out : List ℕ) → Settled (λ (x : ℕ × List ℕ). Says said out (x .0) (x .1))
 words-settled said out x y p q = two-equations _ _ x y (p .answer, p .holds) (q .answer, q .holds)

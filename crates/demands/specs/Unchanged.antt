@@ -8,7 +8,7 @@ use denote.Ref.{RefT, now}
 use Rattle.bench_clock.specs.declared.Clock.{Clock}
 use Rattle.bench_clock.specs.Wakes.{wakeOf, wakeLine}
 use Rattle.mbus_rules.specs.declared.Telegram.{Telegram}
-use Rattle.mbus_rules.specs.Answers.{Answer, refusal, follow}
+use Rattle.mbus_rules.specs.Answers.{Answer, refusal, within, follow}
 use Rattle.mbus_rules.specs.Writing.{writeLine}
 use Rattle.bytes_lent.specs.Lent.{told, stored, done, Leaves}
 use Rattle.mbus_writing.specs.declared.Written.{Written}
@@ -48,6 +48,8 @@ use Rattle.host_bundle.specs.Lent.{Gives, leftIn}
 use Rattle.host_bundle.specs.Bundled.{AddsIn, ListsIn}
 use Rattle.host_bundle.specs.Salvaging.{salvageFor, SalvagesIn}
 use Rattle.host_sweep.specs.Sweeping.{SweepsIn}
+use Rattle.verdict_rows.specs.declared.Verdict.{Verdict}
+use Rattle.host_verdicts.specs.Told.{recordsTold, GivesVerdicts}
 
 -- The number alone, and what was lent as it was.
 pub record Untouched {B : Type 0} (n r : ℕ) (before after : B) : Type 0 where
@@ -150,6 +152,14 @@ module _ (n : ℕ) where
       → ListsIn b out written r after now → after ≡ out
   places-unchanged b out written r after now e p =
       by-answer (stored (λ (m : ℕ). listingOf b) out) out (λ m. refl) (listedIn (listingOf b) out) n after e (p .holds)
+
+  -- verdicts, and how many there are
+  pub verdicts-unchanged : (a : Answer (List Verdict)) (out : List ℕ) (count r : ℕ) (after : List ℕ) (now : ℕ) → a ≡ refusal n
+      → GivesVerdicts a out count r after now → (after ≡ out) × (now ≡ count)
+  verdicts-unchanged a out count r after now e p = (
+    by-answer (stored recordsTold out) out (λ m. refl) a n after e (p .tells .left),
+    by-answer (λ x. leftIn count (within (λ verdicts. length verdicts) x)) count (λ m. refl) a n now e (p .counts),
+  )
 
   -- words
   pub says-untouched : (said : Answer (List ℕ)) (out : List ℕ) (r : ℕ) (after : List ℕ) → follow said (fitted out) ≡ refusal n
