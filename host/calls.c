@@ -513,7 +513,7 @@ static const struct {
     {"verdicts-bundle", put_talk, judge_bundle, judge_by_second},
     {"columns-bundle", put_kept_talk, judge_contents, NULL},
     {"repeat-bundle", put_readings, repeat_bundle, NULL},
-    {"picture-bundle", put_bundle, draw_bundle, NULL},
+    {"picture-bundle", put_talk, draw_bundle, NULL},
 };
 
 /* ---- the stack: painted, lent to one call, and looked at */

@@ -5,3 +5,4 @@ pub mod PageLaws
 pub mod DrawingLaws
 pub mod Drawn
 pub mod Shown
+pub mod Meaning

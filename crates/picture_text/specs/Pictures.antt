@@ -1,6 +1,7 @@
 -- The picture of a run: time to the right and a lane for each position.
 use Prim.Native.Nat.{ℕ, zero, suc, _+_}
 use mathlib.Core.Bool.{cond}
+use mathlib.Core.Path.{_≡_}
 use mathlib.Core.List.{List, [], _∷_, _++_, map}
 use lib.Dec.{eqb}
 use lib.ListN.{getD}
@@ -58,6 +59,12 @@ pictureWith p vs ks =
     ++ ((pausesOpenText p ++ (pausesDrawn unpaced ks ++ text "</svg>\n"))
     ++ (marksDrawn p ks (p .fields + 1) 60 0
     ++ (lanesDrawn p vs ks 96 (usedPositions ks) ++ text "</svg>\n")))
+
+-- A text stands in another.
+pub record Inside (s whole : List ℕ) : Type 0 where
+  pub front : List ℕ
+  pub back : List ℕ
+  pub so : whole ≡ front ++ (s ++ back)
 
 -- The picture of what a bundle holds, each row with its verdict.
 unfoldable pub pictureOf : List ℕ → List ℕ
