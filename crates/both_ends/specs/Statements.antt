@@ -78,8 +78,8 @@ pub record BothTold (ends : Ends) (m : Meter) (hs : List Happening) (request : R
 
 -- Of an exchange begun with the request at `first`, and whatever then happens up to `end`: under 4,320,000 between them, nothing on its way at the
 -- beginning, all times rising together, the meter's last step among them, and up to three bits flipped in a line.
-abbrev pub Told : Ends → Request → Type 0
-Told ends request =
+abbrev pub ToldTo : Ends → Request → Type 0
+ToldTo ends request =
     (first end : Clock) → end .0 < first .0 + returnTime
     → (m : Meter) → m .last .0 ≤ first .0
     → (hs : List Happening) → Rising (first .0) (end .0) hs → Fair ends (opening request first m) hs
@@ -87,8 +87,8 @@ Told ends request =
 
 -- Entering, at every address and with each of the three methods,
 abbrev pub Entering : Ends → Type 0
-Entering ends = (a s : ℕ) → a < 256 → isMethod s ≡ true → Told ends (Enter a s)
+Entering ends = (a s : ℕ) → a < 256 → isMethod s ≡ true → ToldTo ends (Enter a s)
 
 -- and leaving.
 abbrev pub Leaving : Ends → Type 0
-Leaving ends = (a : ℕ) → a < 256 → Told ends (Leave a)
+Leaving ends = (a : ℕ) → a < 256 → ToldTo ends (Leave a)

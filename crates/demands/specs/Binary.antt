@@ -160,9 +160,9 @@ negative-refused st unit b t n = rw (t, n)
 -- ---- joules
 
 -- unit bytes 08 to 0F: the quantity energy, 10^n J; 00 to 07 are Wh
-pub joules : (n : ℕ) → n < 8 → (inJoules (8 + n) ≡ true) × (inJoules n ≡ false) × (quantityOf (8 + n) ≡ energy) × (powerOf (8 + n) ≡ pos n)
+pub joules-are-energy : (n : ℕ) → n < 8 → (inJoules (8 + n) ≡ true) × (inJoules n ≡ false) × (quantityOf (8 + n) ≡ energy) × (powerOf (8 + n) ≡ pos n)
 unfolding quantityOf powerOf
-joules n h =
+joules-are-energy n h =
     let low : leb 0x08 (8 + n) ≡ true = le-leb 0x08 (8 + n) (omega arith) in
     let high : leb (8 + n) 0x0F ≡ true = le-leb (8 + n) 0x0F (omega arith) in
     let all : leb 0x00 (8 + n) ≡ true = le-leb 0x00 (8 + n) (omega arith) in

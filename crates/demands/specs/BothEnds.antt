@@ -20,7 +20,7 @@ use Rattle.both_ends.proofs.Laws.Ends as laws
 
 -- If entering ends well, the meter is in verification with that method. If it ends badly, the meter either has entered or is, the time of its last
 -- step aside, as it would be without the exchange, with only its own measuring and 30 minute return at work. In both cases its totals were cleared at
--- most once, and only if it came from use. (`Told` has the hypotheses, one a line, and `BothTold` what is said. That the meter is asked by its own
+-- most once, and only if it came from use. (`ToldTo` has the hypotheses, one a line, and `BothTold` what is said. That the meter is asked by its own
 -- address or FE is not among them: of a meter that is not, it holds too.)
 pub entering : Entering ownEnds
 entering = laws.entering

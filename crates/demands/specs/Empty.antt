@@ -37,7 +37,7 @@ use Rattle.mbus_whole.specs.Wholes.{lineLength, Agree}
 use Rattle.mbus_either.specs.declared.Interface.the-variants.{Mbus, Optical}
 use Rattle.mbus_either.specs.Interfaces.{LiveLine, liveOn, findEither}
 use Rattle.host_either.specs.Finding.{lineInterface}
-use Rattle.serial_marks.specs.Marks.{marked}
+use Rattle.serial_marks.specs.Marks.{portMarked}
 use Rattle.serial_marks.specs.Unmarking.{Unmarking, unmarkedIn}
 use Rattle.exchange_replies.specs.Fits.{fits}
 use Rattle.exchange_steps.specs.declared.Cause.the-variants.{Silent}
@@ -191,7 +191,7 @@ length-never-known program mute d =
 -- ---- characters from a serial port: what is made of bytes in so many places
 
 abbrev pub GivesBack : (ℕ → List ℕ → List ℕ) → Type 0
-GivesBack made = (cs : List ℕ) → any over cs ≡ false → (k : ℕ) → made (length cs + k) (pieces marked cs) ≡ cs
+GivesBack made = (cs : List ℕ) → any over cs ≡ false → (k : ℕ) → made (length cs + k) (pieces portMarked cs) ≡ cs
 
 pub rules-give-back : GivesBack (λ room bytes. unmarkedIn room bytes .characters)
 rules-give-back cs h k = ap (λ (u : Unmarking). u .characters) (serial.characters-back cs h k)
@@ -209,7 +209,7 @@ byte-first (b ∷ s) = mod-lt b (lit< tt)
 pub drops-the-parity-bit : (bytesOf : ℕ → List ℕ → List ℕ) → GivesBack (λ room bytes. map byteOf (bytesOf room bytes)) → ⊥
 unfolding any
 drops-the-parity-bit bytesOf d =
-    omega (arith, ap (λ (s : List ℕ). at s 0) (d (0x1E5 ∷ []) refl 0), byte-first (bytesOf 1 (pieces marked (0x1E5 ∷ []))))
+    omega (arith, ap (λ (s : List ℕ). at s 0) (d (0x1E5 ∷ []) refl 0), byte-first (bytesOf 1 (pieces portMarked (0x1E5 ∷ []))))
 
 -- and one that works it out from the byte alone: that of an ack with wrong parity is 0
 alone : (x b : ℕ) → x < 2 → 256 * x + b ≡ 0x0E5 → b ≡ 0xE5
@@ -231,7 +231,7 @@ carried-first (b ∷ s) e = not-carried b e
 
 pub works-it-out : (bytesOf : ℕ → List ℕ → List ℕ) → GivesBack (λ room bytes. map carrier (bytesOf room bytes)) → ⊥
 unfolding any
-works-it-out bytesOf d = carried-first (bytesOf 1 (pieces marked (0x0E5 ∷ []))) (ap (λ (s : List ℕ). at s 0) (d (0x0E5 ∷ []) refl 0))
+works-it-out bytesOf d = carried-first (bytesOf 1 (pieces portMarked (0x0E5 ∷ []))) (ap (λ (s : List ℕ). at s 0) (d (0x0E5 ∷ []) refl 0))
 
 -- ---- a simulated meter: what it answers to a step
 

@@ -14,7 +14,7 @@ use Rattle.mbus_rules.specs.Flips.{flipBit}
 use Rattle.mbus_rules.specs.Lines.{Accepted}
 use Rattle.mbus_rules.proofs.Laws.LineCode.{line-code}
 use Rattle.bytes_lent.specs.Pieces.{pieces}
-use Rattle.serial_marks.specs.Marks.{marked, wronged, Beginning}
+use Rattle.serial_marks.specs.Marks.{portMarked, wronged, Beginning}
 use Rattle.serial_marks.specs.declared.First.the-variants.{Finished}
 use Rattle.serial_marks.specs.Unmarking.{first, unmarkedIn}
 use Rattle.serial_marks.specs.Pieces.{Piece, received, byPieces}
@@ -24,16 +24,16 @@ use Rattle.serial_marks.proofs.Laws.SoundLaws as sound
 
 -- Every list of characters 0 to 511, marked by the port and unmarked with room enough, is given back, the parity bits among it.
 pub characters-back : (cs : List ℕ) → any over cs ≡ false → (k : ℕ)
-    → unmarkedIn (length cs + k) (pieces marked cs) ≡ record { used = length (pieces marked cs); characters = cs }
+    → unmarkedIn (length cs + k) (pieces portMarked cs) ≡ record { used = length (pieces portMarked cs); characters = cs }
 characters-back = unmarking.marked-back
 
 -- And in any pieces, the marks cut anywhere, where each call has room for as many characters as there are bytes in all: nothing is left.
-pub pieces-back : (cs : List ℕ) → any over cs ≡ false → (ps : List Piece) → received ps ≡ pieces marked cs
-    → any (λ (p : Piece). ltb (p .room) (length (pieces marked cs))) ps ≡ false → byPieces [] ps ≡ record { characters = cs; left = [] }
+pub pieces-back : (cs : List ℕ) → any over cs ≡ false → (ps : List Piece) → received ps ≡ pieces portMarked cs
+    → any (λ (p : Piece). ltb (p .room) (length (pieces portMarked cs))) ps ≡ false → byPieces [] ps ≡ record { characters = cs; left = [] }
 pieces-back = by-piece.all-heard
 
 -- Whatever room each call has, nothing is lost and nothing comes twice: what was heard, and what is still made of what is left, is the list.
-pub nothing-is-lost : (cs : List ℕ) → any over cs ≡ false → (ps : List Piece) → received ps ≡ pieces marked cs
+pub nothing-is-lost : (cs : List ℕ) → any over cs ≡ false → (ps : List Piece) → received ps ≡ pieces portMarked cs
     → byPieces [] ps .characters ++ unmarkedIn (length cs) (byPieces [] ps .left) .characters ≡ cs
 nothing-is-lost = by-piece.nothing-lost
 
@@ -62,7 +62,7 @@ made-are-characters = sound.made-in-range
 -- What is accepted as a line was received with right parity, all of it: the bytes used are the marked bytes of its characters, and an odd one's
 -- begin by FF 00.
 pub accepted-was-right : (room : ℕ) (bytes : List ℕ) → Bytes bytes → Accepted (unmarkedIn room bytes .characters)
-    → (any odd (unmarkedIn room bytes .characters) ≡ false) × (take (unmarkedIn room bytes .used) bytes ≡ pieces marked (unmarkedIn room bytes .characters))
+    → (any odd (unmarkedIn room bytes .characters) ≡ false) × (take (unmarkedIn room bytes .used) bytes ≡ pieces portMarked (unmarkedIn room bytes .characters))
 accepted-was-right room bytes h a =
     let even = line-code .sound (unmarkedIn room bytes .characters) a .even in
     (even, sym (sound.passed-as-marked room bytes h even))

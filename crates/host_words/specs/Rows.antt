@@ -18,5 +18,5 @@ firstRow [] = []
 firstRow (b ∷ s) = cond (eqb b 10) [] (b ∷ firstRow s)
 
 -- row n; 100 where it is empty
-abbrev pub rowIn : List ℕ → ℕ → Answer (List ℕ)
-rowIn s n = refuse 100 (eqb (length (firstRow (rowsFrom n s))) 0) (reads (firstRow (rowsFrom n s)))
+abbrev pub rowOfWords : List ℕ → ℕ → Answer (List ℕ)
+rowOfWords s n = refuse 100 (eqb (length (firstRow (rowsFrom n s))) 0) (reads (firstRow (rowsFrom n s)))

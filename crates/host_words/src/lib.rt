@@ -5,7 +5,7 @@ ghost use lib.ListN.{length, take, drop};
 ghost use Rattle.mbus_rules.specs.Answers.{reads};
 ghost use Rattle.host_words.specs.Refusals.{textOf, numberAsked};
 ghost use Rattle.host_words.specs.Saying.{Says};
-ghost use Rattle.host_words.specs.Rows.{rowsFrom, firstRow, rowIn};
+ghost use Rattle.host_words.specs.Rows.{rowsFrom, firstRow, rowOfWords};
 
 // Where row n of the words begins. Each row ends with a line feed; the first is row 0.
 fn row_start(words: &[u8], n: u32) -> usize
@@ -61,7 +61,7 @@ fn say(out: &mut [u8], words: &[u8]) -> u32
 // The same of row n; an empty row has no words.
 fn say_row(out: &mut [u8], words: &[u8], n: u32) -> u32
     requires { ⌜ length (now words) < 4096 ⌝ }
-    ensures { λ r. ⌜ Says (rowIn (now (words .entry)) n) (now (out .entry)) r (now (out .exit)) ⌝ }
+    ensures { λ r. ⌜ Says (rowOfWords (now (words .entry)) n) (now (out .entry)) r (now (out .exit)) ⌝ }
 {
     let from = row_start(words, n);
     let rest = &words[from..];

@@ -12,9 +12,9 @@ use Rattle.mbus_rules.specs.Answers.{refusal}
 use Rattle.mbus_rules.specs.Lines.{wrongStart, readBody, readFrame, readLine}
 
 -- what is then known: by what it is refused; or that only the rules on bytes are left, and the bytes, in the first places, and their sum
-abbrev pub Taken : List ℕ → List ℕ → Outcome → ℕ → Type 0
-Taken s low (Refused n) sum = readLine s ≡ refusal n
-Taken s low Accepted sum =
+abbrev pub TakenBytes : List ℕ → List ℕ → Outcome → ℕ → Type 0
+TakenBytes s low (Refused n) sum = readLine s ≡ refusal n
+TakenBytes s low Accepted sum =
     (readLine s ≡ readFrame readBody (map byteOf s)) × (take (length s) low ≡ map byteOf s) × (sum ≡ total (map byteOf s) % 256)
 
 -- the refusal of more than 261 characters, which no form has: 2 or 3, then 4 by the first byte, and 5

@@ -5,7 +5,7 @@ ghost use lib.ListN.{length};
 ghost use Rattle.mbus_rules.specs.Lines.{readLine};
 ghost use Rattle.mbus_rules.specs.Telegrams.{shown};
 ghost use Rattle.mbus_rules.specs.Views.{viewed, viewIn};
-ghost use Rattle.mbus_reading.specs.Taking.{Taken};
+ghost use Rattle.mbus_reading.specs.Taking.{TakenBytes};
 use body::outline_in;
 use body::read_in;
 use mbus_characters::Gathering;
@@ -30,7 +30,7 @@ pub mod taking;
 // Takes a line in by one walk over its characters. The bytes of a line that has at most MOST of them go into the first places.
 fn take_in(line: &[u16], out: &mut [u8]) -> Gathering
     requires { ⌜ 261 ≤ length (now out) ⌝ }
-    ensures { λ r. ⌜ Taken (now (line .entry)) (now (out .exit)) (r .outcome) (r .sum) ⌝ }
+    ensures { λ r. ⌜ TakenBytes (now (line .entry)) (now (out .exit)) (r .outcome) (r .sum) ⌝ }
 {
     let count = line.len();
     if MOST < count {

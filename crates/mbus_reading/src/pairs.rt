@@ -8,7 +8,7 @@ ghost use Rattle.mbus_rules.specs.Host.{chars};
 ghost use Rattle.mbus_rules.specs.Lines.{readLine};
 ghost use Rattle.mbus_rules.specs.Lists.{total};
 ghost use Rattle.mbus_rules.specs.Views.{viewed};
-ghost use Rattle.mbus_reading.specs.Taking.{Taken};
+ghost use Rattle.mbus_reading.specs.Taking.{TakenBytes};
 use crate::body::outline_in;
 use crate::taking::MOST;
 use crate::taking::far_of;
@@ -30,7 +30,7 @@ const FEW: usize = 5;
 // still to be told.
 fn take_few(bytes: &[u8], out: &mut [u8]) -> Outcome
     requires { ⌜ (0 < length (now bytes) / 2) × (length (now bytes) / 2 ≤ length (now out)) ⌝ }
-    ensures { λ r. ⌜ Taken (chars (now (bytes .entry))) (now (out .exit)) r (total (map byteOf (chars (now (bytes .entry)))) % 256) ⌝ }
+    ensures { λ r. ⌜ TakenBytes (chars (now (bytes .entry))) (now (out .exit)) r (total (map byteOf (chars (now (bytes .entry)))) % 256) ⌝ }
 {
     let mut i = 0;
     while i < bytes.len() / 2 {

@@ -21,17 +21,17 @@ use Rattle.replay_counting.specs.declared.ear.Turn.{Turn}
 use Rattle.replay_counting.specs.Counting.{isSent, rowView, looked}
 
 -- after a sent row: open for the answer to an accepted read, from its end on
-abbrev pub opened : View → ℕ → Ear
-opened (Asks (Read address)) end = Open address end
-opened (Asks (Enter address method)) end = Deaf
-opened (Asks (Leave address)) end = Deaf
-opened (Refused n) end = Deaf
-opened Ack end = Deaf
-opened (Data address) end = Deaf
+abbrev pub earOpened : View → ℕ → Ear
+earOpened (Asks (Read address)) end = Open address end
+earOpened (Asks (Enter address method)) end = Deaf
+earOpened (Asks (Leave address)) end = Deaf
+earOpened (Refused n) end = Deaf
+earOpened Ack end = Deaf
+earOpened (Data address) end = Deaf
 
 -- the same, from the start of the send's first character and its bytes
 abbrev pub openedAfter : ℕ → List ℕ → Ear
-openedAfter time body = opened (viewed (readLine (chars body))) (time + 11 * length (chars body))
+openedAfter time body = earOpened (viewed (readLine (chars body))) (time + 11 * length (chars body))
 
 -- a row that does not count
 abbrev pub uncounted : Ear → Turn

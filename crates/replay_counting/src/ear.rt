@@ -6,7 +6,7 @@ ghost use Rattle.mbus_rules.specs.Host.{chars};
 ghost use Rattle.mbus_rules.specs.Lines.{readLine};
 ghost use Rattle.mbus_rules.specs.Views.{viewed};
 ghost use Rattle.bundle_rows.specs.Rows.{uncheckedRow};
-ghost use Rattle.replay_counting.specs.Ears.{opened, openedAfter, fitsInTime, heardBy, rowWith, rowIn, passedBy};
+ghost use Rattle.replay_counting.specs.Ears.{earOpened, openedAfter, fitsInTime, heardBy, rowWith, rowIn, passedBy};
 use bench_clock::Clock;
 use bench_clock::is_wake;
 use bundle_rows::Row;
@@ -33,7 +33,7 @@ const CHARACTER: u64 = 11;
 
 // After a sent row: open for the answer to an accepted read.
 fn opened(view: View, end: u64) -> Ear
-    ensures { λ r. ⌜ r ≡ opened view end ⌝ }
+    ensures { λ r. ⌜ r ≡ earOpened view end ⌝ }
 {
     match view {
         View::Refused(_) => Ear::Deaf,

@@ -10,8 +10,8 @@ use Rattle.mbus_rules.specs.Flips.{flipBit}
 
 -- "The way erroneous bytes are marked is with two preceding bytes, \377 and \0."
 -- "A valid byte \377 is passed to the program as two bytes, \377 \377." Every other byte is passed as itself.
-abbrev pub marked : ℕ → List ℕ
-marked c =
+abbrev pub portMarked : ℕ → List ℕ
+portMarked c =
     cond (odd c)
     (0xFF ∷ 0x00 ∷ byteOf c ∷ [])
     (cond (eqb (byteOf c) 0xFF)

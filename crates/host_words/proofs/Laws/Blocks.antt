@@ -13,7 +13,7 @@ use Rattle.mbus_rules.specs.Answers.{Answer, reads, refusal}
 use Rattle.mbus_rules.proofs.Laws.Tests.{everyBelow, below, by-test, neither}
 use Rattle.host_words.specs.Refusals.{Row, refusalTexts, textOf, wordsIn}
 use Rattle.host_words.specs.Words.{text}
-use Rattle.host_words.specs.Rows.{rowIn, rowsFrom, firstRow}
+use Rattle.host_words.specs.Rows.{rowOfWords, rowsFrom, firstRow}
 
 -- the words of an answer, none of a refusal
 abbrev wordsOr : Answer (List ℕ) → List ℕ
@@ -55,22 +55,22 @@ alike-eq (refusal m) (refusal n) e = ap refusal (eqb-true m n e)
 -- ---- the rows of a block, and what comes behind them, up to a number
 module _ (first count most : ℕ) where
   abbrev rightAt : ℕ → Bool
-  rightAt k = alike (rowIn (block first count) k) (textOf (first + k))
+  rightAt k = alike (rowOfWords (block first count) k) (textOf (first + k))
 
-  right : everyBelow most rightAt ≡ true → (n : ℕ) → first ≤ n → n < first + most → rowIn (block first count) (n - first) ≡ textOf n
+  right : everyBelow most rightAt ≡ true → (n : ℕ) → first ≤ n → n < first + most → rowOfWords (block first count) (n - first) ≡ textOf n
   right all n h g =
       let whole : first + (n - first) ≡ n = omega arith in
-      alike-eq (rowIn (block first count) (n - first)) (textOf (first + (n - first))) (below most rightAt all (n - first) (omega arith)) ∙ ap textOf whole
+      alike-eq (rowOfWords (block first count) (n - first)) (textOf (first + (n - first))) (below most rightAt all (n - first) (omega arith)) ∙ ap textOf whole
 
-pub row-of-lines : (n : ℕ) → n < 30 → rowIn (block 0 22) n ≡ textOf n
+pub row-of-lines : (n : ℕ) → n < 30 → rowOfWords (block 0 22) n ≡ textOf n
 unfolding block same alike textOf wordsIn rowsFrom firstRow
 row-of-lines n h = rw sub-zero at (right 0 22 30 refl n (omega arith) (omega arith))
 
-pub row-of-bundles : (n : ℕ) → 30 ≤ n → n < 50 → rowIn (block 30 14) (n - 30) ≡ textOf n
+pub row-of-bundles : (n : ℕ) → 30 ≤ n → n < 50 → rowOfWords (block 30 14) (n - 30) ≡ textOf n
 unfolding block same alike textOf wordsIn rowsFrom firstRow
 row-of-bundles n g h = right 30 14 20 refl n g (omega arith)
 
-pub row-of-steps : (n : ℕ) → 50 ≤ n → n < 102 → rowIn (block 50 52) (n - 50) ≡ textOf n
+pub row-of-steps : (n : ℕ) → 50 ≤ n → n < 102 → rowOfWords (block 50 52) (n - 50) ≡ textOf n
 unfolding block same alike textOf wordsIn rowsFrom firstRow
 row-of-steps n g h = right 50 52 52 refl n g (omega arith)
 

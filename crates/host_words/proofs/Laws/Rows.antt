@@ -11,7 +11,7 @@ use lib.ListN.{length, take, drop, getD, length-drop, drop-of-length-le}
 use lib.Seq.{drop-cons, take-suc, take-all, length-take-le}
 use Rattle.mbus_rules.specs.Answers.{reads}
 use Rattle.host_words.specs.Saying.{Says}
-use Rattle.host_words.specs.Rows.{rowsFrom, firstRow, rowIn}
+use Rattle.host_words.specs.Rows.{rowsFrom, firstRow, rowOfWords}
 
 -- Laws: nothing is left behind the end; one byte on, over a line feed or within a row.
 rows-none : (n : ℕ) → rowsFrom n [] ≡ []
@@ -124,8 +124,8 @@ module _ {s : List ℕ} {n place size : ℕ} (l : Located s n place size) where
   found-size : length (firstRow (rowsFrom n s)) ≡ size
   found-size = ap length found-row ∙ size-in
 
-  pub row-missing : (out : List ℕ) → eqb size 0 ≡ true → Says (rowIn s n) out (256 + 100) out
+  pub row-missing : (out : List ℕ) → eqb size 0 ≡ true → Says (rowOfWords s n) out (256 + 100) out
   row-missing out e = record { answer = rw (found-size, e); holds = rw (found-size, e) }
 
-  pub row-said : {out after : List ℕ} {r : ℕ} → eqb size 0 ≡ false → Says (reads (take size (cut s place))) out r after → Says (rowIn s n) out r after
+  pub row-said : {out after : List ℕ} {r : ℕ} → eqb size 0 ≡ false → Says (reads (take size (cut s place))) out r after → Says (rowOfWords s n) out r after
   row-said e said = rw (found-size, e, found-row) said

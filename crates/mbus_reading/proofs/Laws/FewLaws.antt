@@ -22,7 +22,7 @@ use Rattle.mbus_characters.proofs.Laws.PairLaws.{length-characters, length-lows
 use Rattle.mbus_characters.proofs.Laws.StoreLaws.{stored-none, stored-next}
 use Rattle.mbus_shape.specs.Shapes.{shapeBody}
 use Rattle.mbus_shape.proofs.Laws.LeftLaws.{brief-few}
-use Rattle.mbus_reading.specs.Taking.{Taken}
+use Rattle.mbus_reading.specs.Taking.{TakenBytes}
 use Rattle.mbus_reading.proofs.Laws.TakingLaws.{sound-line}
 
 pub record Walked (b : List ℕ) (low : List ℕ) (i : ℕ) (now : List ℕ) : Type 0 where
@@ -67,7 +67,7 @@ module _ {b low : List ℕ} {i : ℕ} {now : List ℕ} (w : Walked b low i now) 
     stored = stored-next (w .stored) (omega (arith, length-lows b)) (ap byteOf e ∙ sym (at-bytes (chars b) i));
   }
 
-  pub walked-all : length b / 2 ≤ i → Taken (chars b) now Accepted (total (map byteOf (chars b)) % 256)
+  pub walked-all : length b / 2 ≤ i → TakenBytes (chars b) now Accepted (total (map byteOf (chars b)) % 256)
   walked-all h = (
     sound-line (chars b) (w .some) (sym (characters-all b (w .in-range) h)) (sym (characters-all b (w .even) h)),
     ap (take (length (chars b))) (copied-all (w .stored) (omega (arith, length-lows b)))
@@ -76,7 +76,7 @@ module _ {b low : List ℕ} {i : ℕ} {now : List ℕ} (w : Walked b low i now) 
   )
 
 -- few characters have no header and no entries: the shape is the outline
-pub few-is : (s low : List ℕ) (sum : ℕ) {n : ℕ} {v : View} → length s ≤ 5 → n ≡ length s → Taken s low Accepted sum
+pub few-is : (s low : List ℕ) (sum : ℕ) {n : ℕ} {v : View} → length s ≤ 5 → n ≡ length s → TakenBytes s low Accepted sum
     → v ≡ viewed (refuse 5 (isLong (take n low)) (readFrame shapeBody (take n low))) → v ≡ viewed (readLine s)
 few-is s low sum h en t e =
     e ∙ ap (λ (k : ℕ). viewed (refuse 5 (isLong (take k low)) (readFrame shapeBody (take k low)))) en

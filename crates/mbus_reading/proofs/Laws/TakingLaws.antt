@@ -24,7 +24,7 @@ use Rattle.mbus_characters.specs.Gathering.{sound, gathered}
 use Rattle.mbus_characters.proofs.Laws.GatherLaws.{sound-is, low-is, sum-is}
 use Rattle.mbus_shape.specs.Shapes.{frameBy}
 use Rattle.mbus_shape.proofs.Laws.WholeLaws.{frame-whole}
-use Rattle.mbus_reading.specs.Taking.{Taken, farBy}
+use Rattle.mbus_reading.specs.Taking.{TakenBytes, farBy}
 
 -- ---- more than 261 characters
 
@@ -73,7 +73,7 @@ sound-line s some in-range even = rw (ne-eqb (length s) 0 (omega arith), in-rang
 taken-chain : (s low : List ℕ) (sum : ℕ) (none over odd : Bool) (x : Answer Telegram)
     → readLine s ≡ refuse 1 none (refuse 2 over (refuse 3 odd x))
     → (x ≡ readFrame readBody (map byteOf s)) × (take (length s) low ≡ map byteOf s) × (sum ≡ total (map byteOf s) % 256)
-    → Taken s low (cond none (Refused 1) (outcomeShown (refuse 2 over (refuse 3 odd (reads tt))))) sum
+    → TakenBytes s low (cond none (Refused 1) (outcomeShown (refuse 2 over (refuse 3 odd (reads tt))))) sum
 taken-chain s low sum true over odd x e h = e
 taken-chain s low sum false true odd x e h = e
 taken-chain s low sum false false true x e h = e
@@ -82,21 +82,21 @@ taken-chain s low sum false false false x e h = (e ∙ h .0, h .1, h .2)
 -- what the code gathered
 module _ (s places low : List ℕ) {g : Gathering} (room : length s ≤ length places) (e : g ≡ gathered (take (length places) s))
     (stored : low ≡ copied places 0 (map byteOf (take (length places) s))) where
-  pub taken-near : {n : ℕ} {o : Outcome} → n ≡ length s → o ≡ cond (eqb n 0) (Refused 1) (g .outcome) → Taken s low o (g .sum)
+  pub taken-near : {n : ℕ} {o : Outcome} → n ≡ length s → o ≡ cond (eqb n 0) (Refused 1) (g .outcome) → TakenBytes s low o (g .sum)
   unfolding readLine
   taken-near {n} {o} en eo =
       let same : cond (eqb n 0) (Refused 1) (g .outcome) ≡ cond (eqb (length s) 0) (Refused 1) (outcomeShown (sound s)) =
       rw (en, sound-is s places low room e stored) in
-      subst (λ (p : Outcome). Taken s low p (g .sum)) (sym (eo ∙ same))
+      subst (λ (p : Outcome). TakenBytes s low p (g .sum)) (sym (eo ∙ same))
       (taken-chain s low (g .sum) (eqb (length s) 0) (any over s) (any odd s) (readFrame readBody (map byteOf s)) refl
       (refl, low-is s places low room e stored, sum-is s places low room e stored))
 
-  pub taken-some : 0 < length s → Taken s low (g .outcome) (g .sum)
+  pub taken-some : 0 < length s → TakenBytes s low (g .outcome) (g .sum)
   taken-some some = taken-near {o = g .outcome} refl (rw (ne-eqb (length s) 0 (omega arith)))
 
 -- by the outcome that the code found
-pub taken-as : (s low : List ℕ) (sum : ℕ) {o p : Outcome} → o ≡ p → Taken s low o sum → Taken s low p sum
-taken-as s low sum e t = subst (λ (q : Outcome). Taken s low q sum) e t
+pub taken-as : (s low : List ℕ) (sum : ℕ) {o p : Outcome} → o ≡ p → TakenBytes s low o sum → TakenBytes s low p sum
+taken-as s low sum e t = subst (λ (q : Outcome). TakenBytes s low q sum) e t
 
 -- ---- what is left for the rules on bytes
 
@@ -109,6 +109,6 @@ module _ (s low : List ℕ) {n : ℕ} (en : n ≡ length s) (cut : take n low �
   cut-room = omega (arith, cut-count, length-take n low)
 
 -- They are asked of the bytes that were stored, by their sum.
-pub taken-frame : (s low : List ℕ) (sum : ℕ) {n : ℕ} → n ≡ length s → Taken s low Accepted sum → frameBy sum readBody (take n low) ≡ readLine s
+pub taken-frame : (s low : List ℕ) (sum : ℕ) {n : ℕ} → n ≡ length s → TakenBytes s low Accepted sum → frameBy sum readBody (take n low) ≡ readLine s
 taken-frame s low sum en t =
     ap (λ (k : ℕ). frameBy sum readBody (take k low)) en ∙ ap (frameBy sum readBody) (t .1) ∙ frame-whole readBody s (t .2) ∙ sym (t .0)

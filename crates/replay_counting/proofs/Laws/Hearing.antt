@@ -17,11 +17,11 @@ use Rattle.replay_counting.specs.declared.ear.Ear.{Ear}
 use Rattle.replay_counting.specs.declared.ear.Ear.the-variants.{Deaf, Open}
 use Rattle.replay_counting.specs.declared.ear.Turn.{Turn}
 use Rattle.replay_counting.specs.Counting.{isSent, rowView, looked, sendEnd, beginsFrom, countsAfter, counts, onward, keptIf, numbersFrom}
-use Rattle.replay_counting.specs.Ears.{opened, uncounted, heardBy, turnOf, passedBy}
+use Rattle.replay_counting.specs.Ears.{earOpened, uncounted, heardBy, turnOf, passedBy}
 
 -- what is open after a send that is one, with whether a row that could decide was heard since
 abbrev openFor : Bool → Bool → View → ℕ → Ear
-openFor sent heard view end = cond (sent && not heard) (opened view end) Deaf
+openFor sent heard view end = cond (sent && not heard) (earOpened view end) Deaf
 
 abbrev pub earOf : List Recorded → Ear
 earOf [] = Deaf

@@ -13,7 +13,7 @@ use lib.Seq.{drop-cons}
 use Rattle.mbus_rules.specs.Characters.{byteOf, odd, carrier}
 use Rattle.mbus_rules.proofs.Laws.Tests.{by-test}
 use Rattle.mbus_rules.proofs.Laws.CharacterLaws.{carrier-byte}
-use Rattle.serial_marks.specs.Marks.{marked, wronged, Beginning}
+use Rattle.serial_marks.specs.Marks.{portMarked, wronged, Beginning}
 use Rattle.serial_marks.specs.Unmarking.{first, afterMark, afterZero}
 use Rattle.serial_marks.specs.declared.First.{First}
 use Rattle.serial_marks.specs.declared.First.the-variants.{Finished, Unfinished}
@@ -95,7 +95,7 @@ first-left (b ∷ s) e =
 
 -- ---- a character that was marked stands first as itself
 
-pub first-marked : (c : ℕ) → c ≤ 511 → (s : List ℕ) → first (marked c ++ s) ≡ Finished (length (marked c)) c
+pub first-marked : (c : ℕ) → c ≤ 511 → (s : List ℕ) → first (portMarked c ++ s) ≡ Finished (length (portMarked c)) c
 first-marked c h s =
     by-test (odd c) (λ o. rw o (ap (Finished 3) (wronged-back c h o)))
     (λ o. by-test (eqb (byteOf c) 0xFF)

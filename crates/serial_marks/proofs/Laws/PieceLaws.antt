@@ -14,7 +14,7 @@ use Rattle.mbus_rules.specs.Lists.{any}
 use Rattle.mbus_rules.specs.Characters.{over}
 use Rattle.mbus_rules.proofs.Laws.Tests.{neither}
 use Rattle.bytes_lent.specs.Pieces.{pieces}
-use Rattle.serial_marks.specs.Marks.{marked, Beginning}
+use Rattle.serial_marks.specs.Marks.{portMarked, Beginning}
 use Rattle.serial_marks.specs.Unmarking.{Unmarking, unmarkedIn}
 use Rattle.serial_marks.specs.Pieces.{Piece, Hearing, received, byPieces}
 use Rattle.serial_marks.proofs.Laws.UnmarkingLaws.{nothing, after, after-nothing, after-after, within-both}
@@ -57,15 +57,15 @@ cut-by-pieces left (p ∷ ps) =
 
 -- ---- characters that were marked
 
-module _ (cs : List ℕ) (sound : any over cs ≡ false) (ps : List Piece) (e : received ps ≡ pieces marked cs) where
-  whole : Cut (pieces marked cs) (byPieces [] ps)
+module _ (cs : List ℕ) (sound : any over cs ≡ false) (ps : List Piece) (e : received ps ≡ pieces portMarked cs) where
+  whole : Cut (pieces portMarked cs) (byPieces [] ps)
   whole = rw e at (cut-by-pieces [] ps)
 
   all-made : after (whole .n) (byPieces [] ps .characters) (unmarkedIn (length cs) (byPieces [] ps .left))
-      ≡ record { used = length (pieces marked cs); characters = cs }
+      ≡ record { used = length (pieces portMarked cs); characters = cs }
   all-made =
       sym (whole .so (length cs))
-      ∙ ap (λ (i : ℕ). unmarkedIn i (pieces marked cs)) (add-comm (length (byPieces [] ps .characters)) (length cs))
+      ∙ ap (λ (i : ℕ). unmarkedIn i (pieces portMarked cs)) (add-comm (length (byPieces [] ps .characters)) (length cs))
       ∙ marked-back cs sound (length (byPieces [] ps .characters))
 
   -- whatever the rooms: what was heard, and what is still made of what is left, is the list
@@ -87,17 +87,17 @@ begun left (p ∷ ps) n b fits rooms =
     begun kept ps n (full-room (p .room) s (omega (arith, length-append left (p .bytes))))
     (omega (arith, length-append kept (received ps), length-drop (unmarkedIn (p .room) s .used) s, length-append left (p .bytes))) (both .1)
 
-module _ (cs : List ℕ) (sound : any over cs ≡ false) (ps : List Piece) (e : received ps ≡ pieces marked cs)
-    (rooms : any (λ (p : Piece). ltb (p .room) (length (pieces marked cs))) ps ≡ false) where
+module _ (cs : List ℕ) (sound : any over cs ≡ false) (ps : List Piece) (e : received ps ≡ pieces portMarked cs)
+    (rooms : any (λ (p : Piece). ltb (p .room) (length (pieces portMarked cs))) ps ≡ false) where
   pub all-heard : byPieces [] ps ≡ record { characters = cs; left = [] }
   all-heard =
       let h : Hearing = byPieces [] ps in
-      let last : Beginning (h .left) = begun [] ps (length (pieces marked cs)) (inl refl) (omega (arith, ap length e)) rooms in
-      let made : after (whole cs sound ps e .n) (h .characters) nothing ≡ record { used = length (pieces marked cs); characters = cs } =
+      let last : Beginning (h .left) = begun [] ps (length (pieces portMarked cs)) (inl refl) (omega (arith, ap length e)) rooms in
+      let made : after (whole cs sound ps e .n) (h .characters) nothing ≡ record { used = length (pieces portMarked cs); characters = cs } =
       ap (after (whole cs sound ps e .n) (h .characters)) (sym (none-of-beginning (length cs) (h .left) last)) ∙ all-made cs sound ps e in
       let both : _≡_ {A = Unmarking} (record { used = whole cs sound ps e .n; characters = h .characters })
-      (record { used = length (pieces marked cs); characters = cs }) =
+      (record { used = length (pieces portMarked cs); characters = cs }) =
       sym (after-nothing (whole cs sound ps e .n) (h .characters)) ∙ made in
       let gone : h .left ≡ [] =
-      whole cs sound ps e .rest ∙ ap (λ (u : Unmarking). drop (u .used) (pieces marked cs)) both ∙ drop-length (pieces marked cs) in
+      whole cs sound ps e .rest ∙ ap (λ (u : Unmarking). drop (u .used) (pieces portMarked cs)) both ∙ drop-length (pieces portMarked cs) in
       ap₂ (λ (c l : List ℕ). record { characters = c; left = l }) (ap (λ (u : Unmarking). u .characters) both) gone

@@ -15,7 +15,7 @@ use Rattle.mbus_rules.proofs.Laws.ByteLaws.{bytes-drop}
 use Rattle.mbus_rules.proofs.Laws.CharacterLaws.{byte-carrier, carrier-even, carrier-in-range}
 use Rattle.mbus_rules.proofs.Laws.Tests.{neither}
 use Rattle.bytes_lent.specs.Pieces.{pieces}
-use Rattle.serial_marks.specs.Marks.{marked, wronged}
+use Rattle.serial_marks.specs.Marks.{portMarked, wronged}
 use Rattle.serial_marks.specs.Unmarking.{first, afterMark, afterZero, Unmarking, unmarkedIn}
 use Rattle.serial_marks.specs.declared.First.{First}
 use Rattle.serial_marks.specs.declared.First.the-variants.{Finished, Unfinished}
@@ -26,7 +26,7 @@ use Rattle.serial_marks.proofs.Laws.UnmarkingLaws.{stop, step, no-room}
 -- The character is in range, and where its parity is even the bytes are those by which it is passed on.
 record Sound (n c : ℕ) (s : List ℕ) : Type 0 where
   range : over c ≡ false
-  passed : odd c ≡ false → take n s ≡ marked c
+  passed : odd c ≡ false → take n s ≡ portMarked c
 
 Right : First → List ℕ → Type 0
 Right Unfinished s = Unit {0}
@@ -41,11 +41,11 @@ wrong-sound : (n b : ℕ) (s : List ℕ) → b < 256 → Sound n (wronged b) s
 wrong-sound n b s h =
     record { range = le-ltb 511 (wronged b) (wronged-in-range b h); passed = λ e. absurd (true≢false (sym (wronged-odd b h) ∙ e)) }
 
-ff-marked : marked (carrier 0xFF) ≡ 0xFF ∷ 0xFF ∷ []
+ff-marked : portMarked (carrier 0xFF) ≡ 0xFF ∷ 0xFF ∷ []
 unfolding carrier odd onesIn
 ff-marked = refl
 
-plain-marked : (b : ℕ) → b < 256 → eqb b 0xFF ≡ false → marked (carrier b) ≡ b ∷ []
+plain-marked : (b : ℕ) → b < 256 → eqb b 0xFF ≡ false → portMarked (carrier b) ≡ b ∷ []
 plain-marked b h e = rw (carrier-even b h, byte-carrier b h, e)
 
 zero-right : (x y : ℕ) (s : List ℕ) → Bytes s → Right (afterZero s) (x ∷ y ∷ s)
@@ -86,7 +86,7 @@ made-in-range (suc room) s h =
 
 -- Where all parities are even, the bytes used are the marked bytes of the characters: none of them was marked as wrong.
 pub passed-as-marked : (room : ℕ) (s : List ℕ) → Bytes s → any odd (unmarkedIn room s .characters) ≡ false
-    → pieces marked (unmarkedIn room s .characters) ≡ take (unmarkedIn room s .used) s
+    → pieces portMarked (unmarkedIn room s .characters) ≡ take (unmarkedIn room s .used) s
 unfolding any
 passed-as-marked zero s h o = rw (no-room s)
 passed-as-marked (suc room) s h o =

@@ -13,7 +13,7 @@ use Rattle.mbus_rules.specs.Lists.{any}
 use Rattle.mbus_rules.specs.Characters.{over}
 use Rattle.mbus_rules.proofs.Laws.Tests.{neither}
 use Rattle.bytes_lent.specs.Pieces.{pieces}
-use Rattle.serial_marks.specs.Marks.{marked, Beginning}
+use Rattle.serial_marks.specs.Marks.{portMarked, Beginning}
 use Rattle.serial_marks.specs.Unmarking.{first, Unmarking, unmarkedIn}
 use Rattle.serial_marks.specs.declared.First.the-variants.{Finished, Unfinished}
 use Rattle.serial_marks.proofs.Laws.FirstLaws.{by-first, first-on, first-left, first-marked}
@@ -124,30 +124,30 @@ none-of-beginning k s b = stop k s (unfinished s b)
 -- ---- every list of characters that was marked is given back, whatever comes behind it
 
 pub marked-on : (cs : List ℕ) → any over cs ≡ false → (k : ℕ) (q : List ℕ)
-    → unmarkedIn (length cs + k) (pieces marked cs ++ q) ≡ after (length (pieces marked cs)) cs (unmarkedIn k q)
+    → unmarkedIn (length cs + k) (pieces portMarked cs ++ q) ≡ after (length (pieces portMarked cs)) cs (unmarkedIn k q)
 unfolding any
 marked-on [] h k q = rw (zero-add k, zero-add (unmarkedIn k q .used))
 marked-on (c ∷ cs) h k q =
     let both = neither (over c) (any over cs) h in
     let small : c ≤ 511 = ltb-false 511 c (both .0) in
-    let rest : List ℕ = pieces marked cs in
+    let rest : List ℕ = pieces portMarked cs in
     let more : suc (length cs) + k ≡ suc (length cs + k) = omega arith in
-    let whole : unmarkedIn (suc (length cs + k)) (marked c ++ (rest ++ q)) ≡ after (length (marked c)) (c ∷ []) (unmarkedIn (length cs + k) (rest ++ q)) =
-    step (length cs + k) (marked c ++ (rest ++ q)) (first-marked c small (rest ++ q))
-    ∙ ap (λ (l : List ℕ). after (length (marked c)) (c ∷ []) (unmarkedIn (length cs + k) l)) (drop-append-seam (marked c) (rest ++ q)) in
-    ap₂ unmarkedIn more (append-assoc (marked c) rest q)
+    let whole : unmarkedIn (suc (length cs + k)) (portMarked c ++ (rest ++ q)) ≡ after (length (portMarked c)) (c ∷ []) (unmarkedIn (length cs + k) (rest ++ q)) =
+    step (length cs + k) (portMarked c ++ (rest ++ q)) (first-marked c small (rest ++ q))
+    ∙ ap (λ (l : List ℕ). after (length (portMarked c)) (c ∷ []) (unmarkedIn (length cs + k) l)) (drop-append-seam (portMarked c) (rest ++ q)) in
+    ap₂ unmarkedIn more (append-assoc (portMarked c) rest q)
     ∙ whole
-    ∙ ap (after (length (marked c)) (c ∷ [])) (marked-on cs (both .1) k q)
-    ∙ after-after (length (marked c)) (length rest) (c ∷ []) cs (unmarkedIn k q)
-    ∙ ap (λ (n : ℕ). after n (c ∷ cs) (unmarkedIn k q)) (sym (length-append (marked c) rest))
+    ∙ ap (after (length (portMarked c)) (c ∷ [])) (marked-on cs (both .1) k q)
+    ∙ after-after (length (portMarked c)) (length rest) (c ∷ []) cs (unmarkedIn k q)
+    ∙ ap (λ (n : ℕ). after n (c ∷ cs) (unmarkedIn k q)) (sym (length-append (portMarked c) rest))
 
 pub none-of-none : (k : ℕ) → unmarkedIn k [] ≡ nothing
 none-of-none k = stop k [] refl
 
 pub marked-back : (cs : List ℕ) → any over cs ≡ false → (k : ℕ)
-    → unmarkedIn (length cs + k) (pieces marked cs) ≡ record { used = length (pieces marked cs); characters = cs }
+    → unmarkedIn (length cs + k) (pieces portMarked cs) ≡ record { used = length (pieces portMarked cs); characters = cs }
 marked-back cs h k =
-    ap (unmarkedIn (length cs + k)) (sym (append-nil (pieces marked cs)))
+    ap (unmarkedIn (length cs + k)) (sym (append-nil (pieces portMarked cs)))
     ∙ marked-on cs h k []
-    ∙ ap (after (length (pieces marked cs)) cs) (none-of-none k)
-    ∙ after-nothing (length (pieces marked cs)) cs
+    ∙ ap (after (length (pieces portMarked cs)) cs) (none-of-none k)
+    ∙ after-nothing (length (pieces portMarked cs)) cs

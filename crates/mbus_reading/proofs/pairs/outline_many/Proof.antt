@@ -8,7 +8,7 @@ use lib.ListN.{take, length-replicate}
 use Rattle.mbus_rules.specs.Host.{chars}
 use Rattle.mbus_rules.specs.Views.{viewed}
 use Rattle.mbus_characters.proofs.Laws.PairLaws.{length-characters}
-use Rattle.mbus_reading.specs.Taking.{Taken}
+use Rattle.mbus_reading.specs.Taking.{TakenBytes}
 use Rattle.mbus_reading.proofs.Laws.TakingLaws.{taken-some, taken-as, cut-count, taken-frame}
 use Rattle.mbus_reading.proofs.pairs.outline_many.Statement.{statement}
 use Rattle.mbus_reading.proofs.pairs.outline_many.Tie as tie
@@ -27,7 +27,7 @@ gather-requires c κs = search needs
 
 -- the line is taken in
 taken : (c : tie.After-gather)
-    → Taken (chars (now (c .before .before .before .before .before .before .args .bytes))) (c .gather .last .1 .0) (c .gather .result .outcome)
+    → TakenBytes (chars (now (c .before .before .before .before .before .before .args .bytes))) (c .gather .last .1 .0) (c .gather .result .outcome)
     (c .gather .result .sum)
 taken c =
     let b = now (c .before .before .before .before .before .before .args .bytes) in
