@@ -132,7 +132,8 @@ marked-on (c ∷ cs) h k q =
     let small : c ≤ 511 = ltb-false 511 c (both .0) in
     let rest : List ℕ = pieces portMarked cs in
     let more : suc (length cs) + k ≡ suc (length cs + k) = omega arith in
-    let whole : unmarkedIn (suc (length cs + k)) (portMarked c ++ (rest ++ q)) ≡ after (length (portMarked c)) (c ∷ []) (unmarkedIn (length cs + k) (rest ++ q)) =
+    let whole : unmarkedIn (suc (length cs + k)) (portMarked c ++ (rest ++ q))
+    ≡ after (length (portMarked c)) (c ∷ []) (unmarkedIn (length cs + k) (rest ++ q)) =
     step (length cs + k) (portMarked c ++ (rest ++ q)) (first-marked c small (rest ++ q))
     ∙ ap (λ (l : List ℕ). after (length (portMarked c)) (c ∷ []) (unmarkedIn (length cs + k) l)) (drop-append-seam (portMarked c) (rest ++ q)) in
     ap₂ unmarkedIn more (append-assoc (portMarked c) rest q)
