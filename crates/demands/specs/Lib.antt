@@ -26,6 +26,7 @@ pub mod WrongEnds
 pub mod Replay
 pub mod Sweep
 pub mod Verdicts
+pub mod Picture
 pub mod Values
 pub mod Weekdays
 pub mod Signs
