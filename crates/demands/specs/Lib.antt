@@ -27,6 +27,7 @@ pub mod Replay
 pub mod Repeats
 pub mod Sweep
 pub mod Verdicts
+pub mod Picture
 pub mod Values
 pub mod Weekdays
 pub mod Signs

@@ -52,6 +52,8 @@ use Rattle.listing_text.proofs.Laws.Shown as listings
 use Rattle.replay_counting.specs.declared.Counted.{Counted}
 use Rattle.replay_counting.specs.Shown.{shownCounting}
 use Rattle.replay_error.specs.Shown.{shownReplay}
+use Rattle.picture_text.specs.Shown.{shownDrawn}
+use Rattle.picture_text.proofs.Laws.Shown as drawings
 use Rattle.verdict_rows.specs.Shown.{shownVerdicts}
 use Rattle.host_verdicts.specs.Told.{verdictsAnswer, verdictFound}
 use Rattle.host_verdicts.proofs.Laws.Told as verdicts
@@ -149,6 +151,10 @@ swept-apart = sweeps.shownSwept-same
 
 pub listed-apart : Apart shownListed
 listed-apart = listings.shownListed-same
+
+-- drawing
+pub drawn-apart : Apart shownDrawn
+drawn-apart = drawings.shownDrawn-same
 
 -- the replay: the rows that count, and the error, whatever their numbers are
 abbrev numbered : Counted → List ℕ

@@ -64,6 +64,8 @@ use Rattle.bundle_salvage.specs.Salvaging.{tellOf, leadingRows, salvageOf, salv
 use Rattle.bundle_adding.specs.Adding.{lastTime, grown, noRoom, addOf}
 use Rattle.bundle_sweep.specs.Sweeping.{sweptBundle, sweepOf}
 use Rattle.listing_text.specs.Shown.{listedIn}
+use Rattle.picture_text.specs.Pictures.{pictureOf}
+use Rattle.picture_text.specs.Shown.{drawnIn}
 use Rattle.replay_counting.specs.Counting.{answersOf, countingOf}
 use Rattle.replay_calendar.specs.Days.{interval}
 use Rattle.replay_error.specs.Errors.{volumeOver, wrongInterval, errorByC1, errorOfFigures, rowTells, lastOf, errorFrom, replayOf}
@@ -611,6 +613,12 @@ unfolding any
 measure-for-by b v e t =
     follow-by _ (meterFrom b) _ (more (101 ∷ []) _ _ refl (meter-record-by b))
     (λ m. more (70 ∷ 71 ∷ []) _ _ refl (measure-by m v e t))
+
+-- the picture of a bundle
+pub drawing-by : (b out : List ℕ) → By (21 ∷ bundleNumbers) (drawnIn b out)
+unfolding any
+drawing-by b out =
+    placed-by _ (length (pictureOf b)) out _ refl (within-by _ _ (checkOf b) (more bundleNumbers _ _ refl (bundle-by b)))
 
 -- the verdicts of rows: of a bundle, and of columns with the bundle that their bodies lie in
 pub verdicts-by : (b : List ℕ) → By bundleNumbers (verdictsIn b)

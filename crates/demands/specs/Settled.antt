@@ -28,6 +28,10 @@ use Rattle.bundle_adding.specs.declared.Added.{Added}
 use Rattle.bundle_adding.specs.Shown.{Adds}
 use Rattle.listing_text.specs.declared.Listed.{Listed}
 use Rattle.listing_text.specs.Shown.{Lists}
+use Rattle.text_filling.specs.Putting.{PutAt}
+use Rattle.picture_text.specs.declared.Drawn.{Drawn}
+use Rattle.picture_text.specs.Shown.{Draws}
+use Rattle.host_picture.specs.Pictured.{DrawsIn}
 use Rattle.host_words.specs.Saying.{Says}
 use Rattle.host_serial.specs.Calls.{UnmarksFor}
 use Rattle.exchange_steps.specs.declared.Exchange.{Exchange}
@@ -80,6 +84,12 @@ salvaging-settled b before x y p q = two-equations _ _ x y (p .answer, p .left) 
 pub listing-settled : (b before : List ℕ) → Settled (λ (x : Listed × List ℕ). Lists b before (x .0) (x .1))
 listing-settled b before x y p q = two-equations _ _ x y (p .answer, p .holds) (q .answer, q .holds)
 
+pub drawing-settled : (b before : List ℕ) → Settled (λ (x : Drawn × List ℕ). Draws b before (x .0) (x .1))
+drawing-settled b before x y p q = two-equations _ _ x y (p .answer, p .holds) (q .answer, q .holds)
+
+pub putting-settled : (text before : List ℕ) (at : ℕ) → Settled (λ (x : List ℕ × ℕ). PutAt text before at (x .1) (x .0))
+putting-settled text before at x y p q = two-equations _ _ x y (p .holds, p .count) (q .holds, q .count)
+
 -- ---- and for C
 
 -- lines, search, wake-up, error, rows, and the record of an exchange or of a meter
@@ -125,6 +135,10 @@ sweep-settled buffer filled position x y p q i =
 
 pub list-settled : (b out : List ℕ) (written : ℕ) → Settled (λ (x : (ℕ × ℕ) × List ℕ). ListsIn b out written (x .0 .0) (x .1) (x .0 .1))
 list-settled b out written x y p q i =
+    (gives-settled _ written (x .0) (y .0) (p .gives) (q .gives) i, equation _ (x .1) (y .1) (p .holds) (q .holds) i)
+
+pub picture-settled : (b out : List ℕ) (written : ℕ) → Settled (λ (x : (ℕ × ℕ) × List ℕ). DrawsIn b out written (x .0 .0) (x .1) (x .0 .1))
+picture-settled b out written x y p q i =
     (gives-settled _ written (x .0) (y .0) (p .gives) (q .gives) i, equation _ (x .1) (y .1) (p .holds) (q .holds) i)
 
 pub salvage-settled : (b out told : List ℕ) → Settled (λ (x : (ℕ × List ℕ) × List ℕ). SalvagesIn b out told (x .0 .0) (x .1) (x .0 .1))

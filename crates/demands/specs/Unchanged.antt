@@ -48,6 +48,10 @@ use Rattle.host_bundle.specs.Lent.{Gives, leftIn}
 use Rattle.host_bundle.specs.Bundled.{AddsIn, ListsIn}
 use Rattle.host_bundle.specs.Salvaging.{salvageFor, SalvagesIn}
 use Rattle.host_sweep.specs.Sweeping.{SweepsIn}
+use Rattle.picture_text.specs.declared.Drawn.{Drawn}
+use Rattle.picture_text.specs.Pictures.{pictureOf}
+use Rattle.picture_text.specs.Shown.{drawnIn, Draws}
+use Rattle.host_picture.specs.Pictured.{DrawsIn}
 use Rattle.verdict_rows.specs.declared.Verdict.{Verdict}
 use Rattle.host_verdicts.specs.Told.{recordsTold, GivesVerdicts}
 
@@ -96,6 +100,10 @@ module _ (n : ℕ) where
   pub listing-unchanged : (b before after : List ℕ) (r : Listed) → listedIn (listingOf b) before ≡ refusal n → Lists b before r after → after ≡ before
   listing-unchanged b before after r e p =
       by-answer (stored (λ (m : ℕ). listingOf b) before) before (λ m. refl) (listedIn (listingOf b) before) n after e (p .holds)
+
+  pub drawing-unchanged : (b before after : List ℕ) (r : Drawn) → drawnIn b before ≡ refusal n → Draws b before r after → after ≡ before
+  drawing-unchanged b before after r e p =
+      by-answer (stored (λ (m : ℕ). pictureOf b) before) before (λ m. refl) (drawnIn b before) n after e (p .holds)
 
   -- Where a stretch of the caller's memory is asked for, a refusal hands out an empty one.
   pub stretch-empty : (a : Answer BodyPlace) (whole part : RefT (List ℕ)) → a ≡ refusal n → Handed a whole part → now part ≡ []
@@ -152,6 +160,11 @@ module _ (n : ℕ) where
       → ListsIn b out written r after now → after ≡ out
   places-unchanged b out written r after now e p =
       by-answer (stored (λ (m : ℕ). listingOf b) out) out (λ m. refl) (listedIn (listingOf b) out) n after e (p .holds)
+
+  pub picture-unchanged : (b out : List ℕ) (written r : ℕ) (after : List ℕ) (now : ℕ) → drawnIn b out ≡ refusal n
+      → DrawsIn b out written r after now → after ≡ out
+  picture-unchanged b out written r after now e p =
+      by-answer (stored (λ (m : ℕ). pictureOf b) out) out (λ m. refl) (drawnIn b out) n after e (p .holds)
 
   -- verdicts, and how many there are
   pub verdicts-unchanged : (a : Answer (List Verdict)) (out : List ℕ) (count r : ℕ) (after : List ℕ) (now : ℕ) → a ≡ refusal n
