@@ -791,7 +791,7 @@ uint32_t skarrowith_replay_error(const uint8_t *bundle, size_t len, uint8_t posi
  * there is none). Only rows of its own position matter for a row, and wake-ups are as if they were not there.
  *
  * A resend is the request of the send before it, if that was the first or second of its exchange and has failed: by the line
- * that decided it, or by 450 bit times without one when this row begins. Every other request begins an exchange.
+ * that decided it, or by more than 450 bit times without one when this row begins. Every other request begins an exchange.
  */
 struct skarrowith_row_verdict {
     uint16_t verdict; /* one of those below */

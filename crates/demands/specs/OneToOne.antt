@@ -55,7 +55,7 @@ use Rattle.replay_error.specs.Shown.{shownReplay}
 use Rattle.picture_text.specs.Shown.{shownDrawn}
 use Rattle.picture_text.proofs.Laws.Shown as drawings
 use Rattle.verdict_rows.specs.Shown.{shownVerdicts}
-use Rattle.host_verdicts.specs.Told.{verdictsAnswer, verdictFound}
+use Rattle.host_verdicts.specs.Told.{answerShown, verdictFound}
 use Rattle.host_verdicts.proofs.Laws.Told as verdicts
 
 -- Two answers that are shown alike are the same.
@@ -177,7 +177,7 @@ replay-apart numbers (reads x) (reads y) e = cc
 
 -- the verdicts in their places, and one found
 pub verdicts-apart : Apart shownVerdicts
-verdicts-apart a b e = sym (verdicts.answer-back a) ∙ ap verdictsAnswer e ∙ verdicts.answer-back b
+verdicts-apart a b e = sym (verdicts.answer-back a) ∙ ap answerShown e ∙ verdicts.answer-back b
 
 pub verdict-found-apart : Apart verdictFound
 verdict-found-apart = verdicts.verdictFound-same

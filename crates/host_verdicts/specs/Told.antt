@@ -56,8 +56,8 @@ abbrev pub answerBy : Outcome → List Verdict → Answer (List Verdict)
 answerBy Accepted verdicts = reads verdicts
 answerBy (Refused n) verdicts = refusal n
 
-abbrev pub verdictsAnswer : Verdicts → Answer (List Verdict)
-verdictsAnswer all = answerBy (all .outcome) (verdictsAmong (all .rulings) (all .count))
+abbrev pub answerShown : Verdicts → Answer (List Verdict)
+answerShown all = answerBy (all .outcome) (verdictsAmong (all .rulings) (all .count))
 
 -- What the walk's answer always is: no more verdicts than rows of a bundle, and a place for each row.
 pub record InFull (all : Verdicts) : Type 0 where

@@ -4,7 +4,7 @@ ghost use Prim.Native.Nat.{_≤_, _*_};
 ghost use lib.ListN.{length};
 ghost use Rattle.bundle_rows.specs.Rows.{mostRows};
 ghost use Rattle.verdict_rows.specs.Answering.{verdictsIn, verdictsKept};
-ghost use Rattle.host_verdicts.specs.Told.{verdictsAmong, verdictsAnswer, verdictIn, verdictsInto, verdictInto, verdictFound, InFull, PutsVerdicts};
+ghost use Rattle.host_verdicts.specs.Told.{verdictsAmong, answerShown, verdictIn, verdictsInto, verdictInto, verdictFound, InFull, PutsVerdicts};
 ghost use Rattle.host_verdicts.specs.Told.{GivesVerdicts, GivesVerdict};
 use bundle_rows::MOST_ROWS;
 use bytes_lent::lay;
@@ -42,7 +42,7 @@ fn put_records(rulings: [Ruling; MOST_ROWS], count: usize, out: &mut [u8])
 // The records of all verdicts in the first places, and how many there are, where there is room for them.
 fn give(all: Verdicts, out: &mut [u8], count: &mut usize) -> u32
     requires { ⌜ InFull all ⌝ }
-    ensures { λ r. ⌜ GivesVerdicts (verdictsInto (verdictsAnswer all) (now (out .entry))) (now (out .entry)) (now (count .entry)) r (now (out .exit))
+    ensures { λ r. ⌜ GivesVerdicts (verdictsInto (answerShown all) (now (out .entry))) (now (out .entry)) (now (count .entry)) r (now (out .exit))
         (now (count .exit)) ⌝ }
 {
     let outcome = all.outcome;
@@ -65,7 +65,7 @@ fn give(all: Verdicts, out: &mut [u8], count: &mut usize) -> u32
 // The verdict at a place, where there is one.
 fn found(all: Verdicts, i: usize) -> VerdictFound
     requires { ⌜ InFull all ⌝ }
-    ensures { λ r. ⌜ r ≡ verdictFound (verdictIn (verdictsAnswer all) i) ⌝ }
+    ensures { λ r. ⌜ r ≡ verdictFound (verdictIn (answerShown all) i) ⌝ }
 {
     let outcome = all.outcome;
     match outcome {

@@ -51,15 +51,15 @@ isCounts WrongKind = false
 isCounts Unasked = false
 
 -- what was sent is an accepted read
-abbrev pub viewsRead : View → Bool
-viewsRead (views.Asks (Read address)) = true
-viewsRead (views.Asks (Enter address method)) = false
-viewsRead (views.Asks (Leave address)) = false
-viewsRead (views.Refused n) = false
-viewsRead views.Ack = false
-viewsRead (views.Data answers) = false
+abbrev pub readSent : View → Bool
+readSent (views.Asks (Read address)) = true
+readSent (views.Asks (Enter address method)) = false
+readSent (views.Asks (Leave address)) = false
+readSent (views.Refused n) = false
+readSent views.Ack = false
+readSent (views.Data answers) = false
 
 -- the last sent row is one
 abbrev pub asksRead : List Recorded → Bool
 asksRead [] = false
-asksRead (send ∷ since) = isSent send && viewsRead (rowView send)
+asksRead (send ∷ since) = isSent send && readSent (rowView send)

@@ -44,7 +44,7 @@ use Rattle.host_verdicts.specs.declared.VerdictFound.{VerdictFound}
 use Rattle.host_verdicts.specs.declared.VerdictFound.the-variants as found
 use Rattle.host_verdicts.specs.Records.{verdictRecord}
 use Rattle.host_verdicts.specs.Told.{recordsTold, verdictsInto, verdictIn, verdictInto, GivesVerdicts, GivesVerdict}
-use Rattle.host_verdicts.specs.Told.{verdictsAmong, verdictsAnswer, InFull, verdictFound, PutsVerdicts}
+use Rattle.host_verdicts.specs.Told.{verdictsAmong, answerShown, InFull, verdictFound, PutsVerdicts}
 
 pub length-record : (v : Verdict) → length (verdictRecord v) ≡ 4
 unfolding bytesOf
@@ -56,7 +56,7 @@ among-back : (verdicts : List Verdict) → map (λ (r : Ruling). r .verdict) (ma
 among-back [] = refl
 among-back (v ∷ verdicts) = ap (λ (l : List Verdict). v ∷ l) (among-back verdicts)
 
-pub answer-back : (a : Answer (List Verdict)) → verdictsAnswer (shownVerdicts a) ≡ a
+pub answer-back : (a : Answer (List Verdict)) → answerShown (shownVerdicts a) ≡ a
 answer-back (refusal n) = refl
 answer-back (reads verdicts) =
     ap reads
@@ -120,7 +120,7 @@ module _ {all : Verdicts} where
   pub full-kept : (lists b : List ℕ) → all ≡ shownVerdicts (verdictsKept lists b) → InFull all
   full-kept lists b e = rw e (full-shown (verdictsKept lists b) (few-kept lists b))
 
-  pub answer-is : (a : Answer (List Verdict)) → all ≡ shownVerdicts a → verdictsAnswer all ≡ a
+  pub answer-is : (a : Answer (List Verdict)) → all ≡ shownVerdicts a → answerShown all ≡ a
   answer-is a e = rw e (answer-back a)
 
 -- ---- the records, one behind the other
@@ -163,9 +163,9 @@ module _ {all : Verdicts} (full : InFull all) where
 
   module _ (out : List ℕ) (count : ℕ) where
     abbrev Given : ℕ → List ℕ → ℕ → Type 0
-    Given r out' count' = GivesVerdicts (verdictsInto (verdictsAnswer all) out) out count r out' count'
+    Given r out' count' = GivesVerdicts (verdictsInto (answerShown all) out) out count r out' count'
 
-    unchanged : {n : ℕ} → verdictsInto (verdictsAnswer all) out ≡ refusal n → Given (256 + n) out count
+    unchanged : {n : ℕ} → verdictsInto (answerShown all) out ≡ refusal n → Given (256 + n) out count
     unchanged q = record {
       tells = leaves-all recordsTold out done q;
       counts = ap (λ (a : Answer (List Verdict)). leftIn count (within (λ verdicts. length verdicts) a)) (sym q);
@@ -180,7 +180,7 @@ module _ {all : Verdicts} (full : InFull all) where
     pub given-all : {out' : List ℕ} → all .outcome ≡ Accepted → ltb (length out) (4 * all .count) ≡ false
         → PutsVerdicts told out out' → Given 0 out' (all .count)
     given-all {out'} e s p =
-        let q : verdictsInto (verdictsAnswer all) out ≡ reads told = rw (e, size, s) in
+        let q : verdictsInto (answerShown all) out ≡ reads told = rw (e, size, s) in
         rw q (record { tells = record { answer = refl; left = p }; counts = sym size })
 
     pub given-as : (a : Answer (List Verdict)) {r count' : ℕ} {out' : List ℕ} → all ≡ shownVerdicts a → Given r out' count'
@@ -189,14 +189,14 @@ module _ {all : Verdicts} (full : InFull all) where
         subst (λ (x : Answer (List Verdict)). GivesVerdicts (verdictsInto x out) out count r out' count') (answer-is a e) g
 
   module _ (i : ℕ) where
-    pub found-refused : {n : ℕ} → all .outcome ≡ Refused n → found.Refused n ≡ verdictFound (verdictIn (verdictsAnswer all) i)
+    pub found-refused : {n : ℕ} → all .outcome ≡ Refused n → found.Refused n ≡ verdictFound (verdictIn (answerShown all) i)
     found-refused e = rw e
 
-    pub found-none : all .outcome ≡ Accepted → leb (all .count) i ≡ true → found.Refused 39 ≡ verdictFound (verdictIn (verdictsAnswer all) i)
+    pub found-none : all .outcome ≡ Accepted → leb (all .count) i ≡ true → found.Refused 39 ≡ verdictFound (verdictIn (answerShown all) i)
     found-none e s = rw (e, size, s)
 
     pub found-one : (z : Ruling) → all .outcome ≡ Accepted → leb (all .count) i ≡ false
-        → found.Is (getD (all .rulings) i z .verdict) ≡ verdictFound (verdictIn (verdictsAnswer all) i)
+        → found.Is (getD (all .rulings) i z .verdict) ≡ verdictFound (verdictIn (answerShown all) i)
     found-one z e s = rw (e, size, s) (ap found.Is (among-at (all .rulings) (full .whole) (full .few) i z (leb-false (all .count) i s)))
 
 -- ---- one verdict
@@ -212,9 +212,9 @@ module _ (a : Answer (List Verdict)) (i : ℕ) (out : List ℕ) where
   one-short e = rw e (leaves-all verdictRecord out done refl)
 
   module _ {all : Verdicts} {s : VerdictFound} (e : ltb (length out) 4 ≡ false) (g : all ≡ shownVerdicts a)
-      (f : s ≡ verdictFound (verdictIn (verdictsAnswer all) i)) where
+      (f : s ≡ verdictFound (verdictIn (answerShown all) i)) where
     is : (b : Answer Verdict) → s ≡ verdictFound b → verdictIn a i ≡ b
-    is b h = ap (λ (x : Answer (List Verdict)). verdictIn x i) (sym (answer-is a g)) ∙ verdictFound-same (verdictIn (verdictsAnswer all) i) b (sym f ∙ h)
+    is b h = ap (λ (x : Answer (List Verdict)). verdictIn x i) (sym (answer-is a g)) ∙ verdictFound-same (verdictIn (answerShown all) i) b (sym f ∙ h)
 
     pub one-refused : {n : ℕ} → s ≡ found.Refused n → GivesVerdict (verdictInto a i out) out (256 + n) out
     one-refused {n} h = rw e (leaves-all verdictRecord out done (is (refusal n) h))

@@ -39,7 +39,7 @@ use Rattle.verdict_rows.specs.declared.Verdict.{Verdict}
 use Rattle.verdict_rows.specs.declared.Verdict.the-variants.{Counts, LeftOver, Second, Unasked}
 use Rattle.verdict_rows.specs.Verdicts.{unfitting, decidedBy, heardVerdict, afterHeard, waited, resentOn, sentAs, sentVerdict, afterSent}
 use Rattle.verdict_rows.specs.Verdicts.{verdictAfter, benchAfter, toldTo, benchOf, verdictsFrom, verdictsOf}
-use Rattle.verdict_rows.specs.Words.{verdictBehind, stretchOf, heardSince, heardBehind, isCounts, viewsRead, asksRead}
+use Rattle.verdict_rows.specs.Words.{verdictBehind, stretchOf, heardSince, heardBehind, isCounts, readSent, asksRead}
 use Rattle.verdict_rows.proofs.Laws.Telling.{end-append}
 
 -- ---- the exchange behind a send of a request, and whether a row heard since began at or after its end
@@ -296,7 +296,7 @@ counted-heard (send ∷ since) k h = rw h (go (isSent send) (rowView send))
     read address false false e = rw (lt-ltb (k .time) end (leb-false end (k .time) e))
 
     go : (sent : Bool) (view : View)
-        → (sent && true && countsAfter view end since k) ≡ ((sent && viewsRead view) && isCounts (cond sent (heardSince view end since k) Unasked))
+        → (sent && true && countsAfter view end since k) ≡ ((sent && readSent view) && isCounts (cond sent (heardSince view end since k) Unasked))
     go false view = refl
     go true (views.Asks (Read address)) = read address (any (beginsFrom end) since) (leb end (k .time)) refl
     go true (views.Asks (Enter address method)) = refl
