@@ -72,7 +72,7 @@ use Rattle.replay_error.specs.Errors.{volumeOver, wrongInterval, errorByC1, err
 use Rattle.host_words.specs.Refusals as words
 use Rattle.host_words.specs.Refusals.{wordsIn, textOf}
 use Rattle.host_words.specs.Words.{text}
-use Rattle.host_words.specs.Saying.{ended, fitted}
+use Rattle.host_words.specs.Saying.{zeroEnded, fitted}
 use Rattle.host_meaning.specs.Meanings.{meaningOf, meaningFor}
 use Rattle.host_records.specs.Recorded.{noRecord, recorded}
 use Rattle.host_records.specs.Telegrams.{telegramSize, telegramBytes, telegramIn, telegramFrom}
@@ -493,7 +493,7 @@ pub words-by : (n : ℕ) (out : List ℕ) → By (100 ∷ 21 ∷ []) (follow (te
 unfolding any textOf
 words-by n out =
     follow-by _ (textOf n) (fitted out) (more (100 ∷ []) _ _ refl (table-by words.refusalTexts n))
-    (λ w. refuse-by _ 21 (ltb (length out) (length (ended w))) _ refl (reads-by _ _))
+    (λ w. refuse-by _ 21 (ltb (length out) (length (zeroEnded w))) _ refl (reads-by _ _))
 
 recorded-by : {A : Type 0} (written : A → List ℕ) (taken : List ℕ → A) (b : List ℕ) → By (noRecord ∷ []) (recorded written taken b)
 unfolding any
