@@ -9,7 +9,9 @@ ghost use Rattle.bundle_check.specs.Records.{recordsOf};
 ghost use Rattle.bundle_check.specs.Walks.{endOf};
 ghost use Rattle.replay_counting.specs.Ears.{rowIn};
 ghost use Rattle.picture_text.specs.Timing.{lineTime, pacedBy, paced, unpaced, cutAt, Steady};
+use bench_clock::Clock;
 use bundle_rows::unchecked_row;
+use replay_counting::CHARACTER;
 
 // What is left out so far; until when something was sent, heard or waited for; and where the last row is drawn. All in bit times.
 pub(crate) struct Pace {
@@ -49,7 +51,7 @@ pub(crate) fn line_time(bundle: &[u8], i: usize) -> u64
     ensures { λ r. ⌜ (r ≡ lineTime (rowIn (now (bundle .entry)) i)) × (r ≤ 360437) ⌝ }
 {
     let row = unchecked_row(bundle, i);
-    11 * (row.length as u64 / 2)
+    CHARACTER * (row.length as u64 / 2)
 }
 
 // After a row that begins at a time and takes so many bit times.
@@ -62,7 +64,7 @@ fn paced_by(pace: Pace, time: u32, width: u64) -> Pace
     let pause = less(t, pace.busy);
     let rest = less(pause, 120);
     let cut = pace.cut + rest / 240 * 240;
-    let busy = most(pace.busy, t + width + 450);
+    let busy = most(pace.busy, t + width + Clock::REPLY);
     let start = less(t, cut);
     Pace { cut, busy, start }
 }

@@ -7,6 +7,7 @@ ghost use Rattle.mbus_rules.specs.Lines.{readLine};
 ghost use Rattle.mbus_rules.specs.Views.{viewed};
 ghost use Rattle.bundle_rows.specs.Rows.{uncheckedRow};
 ghost use Rattle.replay_counting.specs.Ears.{earOpened, openedAfter, fitsInTime, heardBy, rowWith, rowIn, passedBy};
+use crate::CHARACTER;
 use bench_clock::Clock;
 use bench_clock::is_wake;
 use bundle_rows::Row;
@@ -27,9 +28,6 @@ pub(crate) struct Turn {
     pub(crate) ear: Ear,
     pub(crate) counts: bool,
 }
-
-// A character takes 11 bit times.
-const CHARACTER: u64 = 11;
 
 // After a sent row: open for the answer to an accepted read.
 fn opened(view: View, end: u64) -> Ear

@@ -18,15 +18,13 @@ use exchange_steps::Stepped;
 use mbus_reading::pairs::outline_of;
 use mbus_rules::Request;
 use mbus_rules::View;
+use replay_counting::CHARACTER;
 
 // The verdict of a row, and the exchange of its position behind it.
 pub(crate) struct Judged {
     pub(crate) verdict: Verdict,
     pub(crate) bench: Bench,
 }
-
-// A character takes 11 bit times.
-const CHARACTER: u64 = 11;
 
 // What a line is that does not fit.
 fn unfitting(view: View) -> Verdict
