@@ -16,8 +16,8 @@ use Rattle.mbus_after.specs.After.{BeginsAfter, TimedSpot, timedAt, movedTimed,
 use Rattle.mbus_after.proofs.Laws.Meaning
 
 -- What is found is an accepted line of the capture,
-pub found-is-accepted : (t : ℕ) (s times : List ℕ) (p : TimedSpot) → findAfter t s times ≡ reads p → Begins s (p .spot .place) (p .spot .length)
-found-is-accepted t s times p e = Meaning.found-begins t s times p e .begins .begins
+pub found-since-is-accepted : (t : ℕ) (s times : List ℕ) (p : TimedSpot) → findAfter t s times ≡ reads p → Begins s (p .spot .place) (p .spot .length)
+found-since-is-accepted t s times p e = Meaning.found-begins t s times p e .begins .begins
 
 -- its first character began at or after t,
 pub found-began-since : (t : ℕ) (s times : List ℕ) (p : TimedSpot) → findAfter t s times ≡ reads p
@@ -25,22 +25,22 @@ pub found-began-since : (t : ℕ) (s times : List ℕ) (p : TimedSpot) → findA
 found-began-since t s times p e = let f = Meaning.found-begins t s times p e in (f .time, f .begins .since)
 
 -- and no such line begins before it.
-pub found-is-lowest : (t : ℕ) (s times : List ℕ) (p : TimedSpot) (place n : ℕ) → findAfter t s times ≡ reads p → BeginsAfter t s times place n
+pub found-since-is-lowest : (t : ℕ) (s times : List ℕ) (p : TimedSpot) (place n : ℕ) → findAfter t s times ≡ reads p → BeginsAfter t s times place n
     → p .spot .place ≤ place
-found-is-lowest = Meaning.lowest
+found-since-is-lowest = Meaning.lowest
 
 -- Wherever such a line begins, one is found, there or before.
-pub line-is-found : (t : ℕ) (s times : List ℕ) (place n : ℕ) → BeginsAfter t s times place n
+pub line-since-is-found : (t : ℕ) (s times : List ℕ) (place n : ℕ) → BeginsAfter t s times place n
     → (p : TimedSpot) × (findAfter t s times ≡ reads p) × (p .spot .place ≤ place)
-line-is-found = Meaning.begins-found
+line-since-is-found = Meaning.begins-found
 
 -- Only one length is possible at a place.
-pub only-length : (t : ℕ) (s times : List ℕ) (place m n : ℕ) → BeginsAfter t s times place m → BeginsAfter t s times place n → m ≡ n
-only-length t s times place m n a b = searches.one-length s place m n (a .begins) (b .begins)
+pub only-length-since : (t : ℕ) (s times : List ℕ) (place m n : ℕ) → BeginsAfter t s times place m → BeginsAfter t s times place n → m ≡ n
+only-length-since t s times place m n a b = searches.one-length s place m n (a .begins) (b .begins)
 
 -- A refusal means that no such line begins anywhere. (`Refusals`: its number is 18.)
-pub none-begins : (t : ℕ) (s times : List ℕ) (k place n : ℕ) → findAfter t s times ≡ refusal k → BeginsAfter t s times place n → ⊥
-none-begins = Meaning.none-begins
+pub none-begins-since : (t : ℕ) (s times : List ℕ) (k place n : ℕ) → findAfter t s times ≡ refusal k → BeginsAfter t s times place n → ⊥
+none-begins-since = Meaning.none-begins
 
 -- From 0 on, with a time for each character, it is the search.
 pub from-zero-is-the-search : (s times : List ℕ) → length s ≤ length times → within (λ (p : TimedSpot). p .spot) (findAfter 0 s times) ≡ findIn s

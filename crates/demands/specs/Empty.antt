@@ -160,7 +160,7 @@ FindsSince find =
     → (p : TimedSpot) × (find t s times ≡ reads p) × (p .spot .place ≤ place)
 
 pub rules-find-after : FindsSince findAfter
-rules-find-after = after.line-is-found
+rules-find-after = after.line-since-is-found
 
 -- one that finds nothing from any time on
 pub finds-nothing-after : (number : ℕ → List ℕ → List ℕ → ℕ) → FindsSince (λ t s times. refusal (number t s times)) → ⊥
