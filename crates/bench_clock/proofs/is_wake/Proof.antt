@@ -23,9 +23,6 @@ returns c = rw (length-characters (now (c .before .before .args .body)), c .if1 
 loop-holds : tie.Need-loop-holds Inv-loop μ-loop
 loop-holds c = gathered-none
 
-character-at-requires : tie.Need-character-at-requires Inv-loop μ-loop
-character-at-requires c κs = search needs
-
 add-i : tie.Need-add-i Inv-loop μ-loop
 add-i c = omega arith
 
@@ -50,7 +47,7 @@ is-wake-spec =
     μ-loop
     returns
     loop-holds
-    character-at-requires
+    (λ c κs. search needs)
     add-i
     loop-less
     loop-again

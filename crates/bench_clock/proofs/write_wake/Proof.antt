@@ -33,21 +33,12 @@ mul-out c = omega arith
 slice-write-out : tie.Need-slice-write-out Inv-loop μ-loop
 slice-write-out c = omega arith
 
-add-at : tie.Need-add-at Inv-loop μ-loop
-add-at c = search needs
-
-loop-less : tie.Need-loop-less Inv-loop μ-loop
-loop-less c = search needs
-
 loop-again : tie.Need-loop-again Inv-loop μ-loop
 loop-again c =
     let at = c .before .loop .at in
     let out₀ = c .before .before .before .before .args .out .now in
     let room : at < length out₀ = omega arith in
     (omega arith, omega arith, simp length-set (search needs), rw (c .before .loop .inv .3) (fill-more at wakeCharacter out₀ room))
-
-same-length : tie.Need-same-length Inv-loop μ-loop
-same-length c = search needs
 
 returns-3 : tie.Need-returns-3 Inv-loop μ-loop
 returns-3 c =
@@ -69,8 +60,8 @@ write-wake-spec =
     loop-holds
     mul-out
     slice-write-out
-    add-at
-    loop-less
+    (λ c. search needs)
+    (λ c. search needs)
     loop-again
-    same-length
+    (λ c. search needs)
     returns-3)

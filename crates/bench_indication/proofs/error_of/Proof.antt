@@ -18,9 +18,6 @@ returns-2 c = rw (c .before .if1 .left, c .if2 .taken)
 returns-3 : tie.Need-returns-3
 returns-3 c = rw (c .before .before .if1 .left, c .before .if2 .left, c .if3 .taken)
 
-sub-tenths : tie.Need-sub-tenths
-sub-tenths c = search needs
-
 sub-tenths-2 : tie.Need-sub-tenths-2
 sub-tenths-2 c = omega (arith, leb-false)
 
@@ -47,4 +44,4 @@ returns-4 c =
 pub error-of-spec : {M : Type 1} → statement M
 error-of-spec =
     tie.close
-    (tie.spec returns returns-2 returns-3 sub-tenths sub-tenths-2 tenths-requires returns-4)
+    (tie.spec returns returns-2 returns-3 (λ c. search needs) sub-tenths-2 tenths-requires returns-4)

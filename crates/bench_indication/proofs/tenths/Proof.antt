@@ -11,15 +11,6 @@ use Rattle.bench_indication.proofs.Laws.Errors.{tenths-more, tenths-les
 use Rattle.bench_indication.proofs.tenths.Statement.{statement}
 use Rattle.bench_indication.proofs.tenths.Tie as tie
 
-sub-nearest : tie.Need-sub-nearest
-sub-nearest c = search needs
-
-mul-nearest : tie.Need-mul-nearest
-mul-nearest c = search needs
-
-nearest-requires : tie.Need-nearest-requires
-nearest-requires c κs = search needs
-
 minus-requires : tie.Need-minus-requires
 minus-requires c κs =
     let a = c .before .before .args in
@@ -30,12 +21,6 @@ returns c =
     let a = c .before .before .before .args in
     toZ-ofZ w64 (c .minus .result) (record { sfits = c .minus .ok }) ∙ c .minus .ensures
     ∙ rw (c .before .nearest .ensures) (sym (tenths-less (a .meter) (a .standard) (c .before .before .if1 .taken)))
-
-mul-nearest-2 : tie.Need-mul-nearest-2
-mul-nearest-2 c = search needs
-
-nearest-requires-2 : tie.Need-nearest-requires-2
-nearest-requires-2 c κs = search needs
 
 cast-result : tie.Need-cast-result
 cast-result c =
@@ -52,12 +37,12 @@ pub tenths-spec : {M : Type 1} → statement M
 tenths-spec =
     tie.close
     (tie.spec
-    sub-nearest
-    mul-nearest
-    nearest-requires
+    (λ c. search needs)
+    (λ c. search needs)
+    (λ c κs. search needs)
     minus-requires
     returns
-    mul-nearest-2
-    nearest-requires-2
+    (λ c. search needs)
+    (λ c κs. search needs)
     cast-result
     returns-2)

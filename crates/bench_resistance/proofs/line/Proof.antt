@@ -5,9 +5,6 @@ use Rattle.bench_resistance.proofs.Laws.Lines.{line-fits}
 use Rattle.bench_resistance.proofs.line.Statement.{statement}
 use Rattle.bench_resistance.proofs.line.Tie as tie
 
-sub-result : tie.Need-sub-result
-sub-result c = search needs
-
 mul-result : tie.Need-mul-result
 mul-result c = omega (arith, line-fits (c .args .low) (c .args .high) (c .args .rest) (c .pre .0) (c .pre .1) (c .pre .2))
 
@@ -23,10 +20,7 @@ mul-result-3 c = omega (arith, line-fits (c .args .low) (c .args .high) (c .args
 add-result-2 : tie.Need-add-result-2
 add-result-2 c = omega (arith, line-fits (c .args .low) (c .args .high) (c .args .rest) (c .pre .0) (c .pre .1) (c .pre .2))
 
-returns : tie.Need-returns
-returns c = search needs
-
 pub line-spec : {M : Type 1} → statement M
 line-spec =
     tie.close
-    (tie.spec sub-result mul-result mul-result-2 add-result mul-result-3 add-result-2 returns)
+    (tie.spec (λ c. search needs) mul-result mul-result-2 add-result mul-result-3 add-result-2 (λ c. search needs))

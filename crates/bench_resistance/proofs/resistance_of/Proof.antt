@@ -13,15 +13,6 @@ use Rattle.bench_resistance.proofs.resistance_of.Tie as tie
 returns : tie.Need-returns
 returns c = rw (c .if1 .taken)
 
-card-requires : tie.Need-card-requires
-card-requires c κs = search needs
-
-cast-degree : tie.Need-cast-degree
-cast-degree c = search needs
-
-mul-low : tie.Need-mul-low
-mul-low c = search needs
-
 array-read-low : tie.Need-array-read-low
 array-read-low c = omega (arith, ltb-false)
 
@@ -30,12 +21,6 @@ returns-2 c =
     let h = c .before .before .before .args .hundredths in
     let left = c .before .before .if1 .left in
     rw left (ap Milliohm (answer-last (c .before .card .ensures) h left (c .if2 .taken)))
-
-add-high : tie.Need-add-high
-add-high c = search needs
-
-mul-high : tie.Need-mul-high
-mul-high c = search needs
 
 array-read-high : tie.Need-array-read-high
 array-read-high c = omega (arith, ltb-false)
@@ -57,13 +42,13 @@ resistance-of-spec =
     tie.close
     (tie.spec
     returns
-    card-requires
-    cast-degree
-    mul-low
+    (λ c κs. search needs)
+    (λ c. search needs)
+    (λ c. search needs)
     array-read-low
     returns-2
-    add-high
-    mul-high
+    (λ c. search needs)
+    (λ c. search needs)
     array-read-high
     line-requires
     returns-3)

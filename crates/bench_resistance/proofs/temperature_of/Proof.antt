@@ -10,15 +10,6 @@ use Rattle.bench_resistance.proofs.Laws.Answers.{outside-read, from-fir
 use Rattle.bench_resistance.proofs.temperature_of.Statement.{statement}
 use Rattle.bench_resistance.proofs.temperature_of.Tie as tie
 
-card-requires : tie.Need-card-requires
-card-requires c κs = search needs
-
-array-read-outside : tie.Need-array-read-outside
-array-read-outside c = search needs
-
-array-read-outside-2 : tie.Need-array-read-outside-2
-array-read-outside-2 c = search needs
-
 returns : tie.Need-returns
 returns c =
     let m = c .before .before .args .milliohm in
@@ -36,36 +27,12 @@ returns-2 c =
     let m = c .before .before .before .before .before .args .milliohm in
     ap shownTemperature (sym (temperature-last m (inside (c .before .before .before)) (rw (c .if2 .taken) at (c .before .degree-of .ensures .1))))
 
-mul-low : tie.Need-mul-low
-mul-low c = search needs
-
-array-read-low : tie.Need-array-read-low
-array-read-low c = search needs
-
-add-high : tie.Need-add-high
-add-high c = search needs
-
-mul-high : tie.Need-mul-high
-mul-high c = search needs
-
-array-read-high : tie.Need-array-read-high
-array-read-high c = search needs
-
-cast-whole : tie.Need-cast-whole
-cast-whole c = search needs
-
-mul-whole : tie.Need-mul-whole
-mul-whole c = search needs
-
 rest-of-requires : tie.Need-rest-of-requires
 rest-of-requires c κs =
     let m = c .before .before .before .before .before .args .milliohm in
     let found = c .before .degree-of .ensures in
     let low : c .before .degree-of .result < 200 = omega arith in
     degree-found (c .before .before .before .before .card .ensures) m (c .before .degree-of .result) low (found .1) (found .2 low)
-
-add-hundredths : tie.Need-add-hundredths
-add-hundredths c = search needs
 
 returns-3 : tie.Need-returns-3
 returns-3 c =
@@ -83,19 +50,19 @@ pub temperature-of-spec : {M : Type 1} → statement M
 temperature-of-spec =
     tie.close
     (tie.spec
-    card-requires
-    array-read-outside
-    array-read-outside-2
+    (λ c κs. search needs)
+    (λ c. search needs)
+    (λ c. search needs)
     returns
     degree-of-requires
     returns-2
-    mul-low
-    array-read-low
-    add-high
-    mul-high
-    array-read-high
-    cast-whole
-    mul-whole
+    (λ c. search needs)
+    (λ c. search needs)
+    (λ c. search needs)
+    (λ c. search needs)
+    (λ c. search needs)
+    (λ c. search needs)
+    (λ c. search needs)
     rest-of-requires
-    add-hundredths
+    (λ c. search needs)
     returns-3)

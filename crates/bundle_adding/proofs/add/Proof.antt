@@ -27,19 +27,10 @@ returns c =
     let back3 = c .before .before .before in
     adds-refused (add-past (now (back3 .args .buffer)) (back3 .args .filled) (row back3) (c .if1 .taken))
 
-slice-reshare-prefix-check : tie.Need-slice-reshare-prefix-check
-slice-reshare-prefix-check c = search needs
-
 slice-aggregate-check : tie.Need-slice-aggregate-check
 slice-aggregate-check c =
     let back4 = c .before .before .before .before in
     sym (length-take-le (back4 .args .filled) (now (back4 .args .buffer)) (inside (c .before)))
-
-check-requires : tie.Need-check-requires
-check-requires c κs = search needs
-
-enum-known-count : tie.Need-enum-known-count
-enum-known-count c = search needs
 
 add-row-requires : tie.Need-add-row-requires
 add-row-requires c κs =
@@ -52,18 +43,6 @@ add-row-requires c κs =
       shownChecked-same (checkOf (take (a .filled) (now (a .buffer)))) (reads n)
           (sym (back4 .check .ensures) ∙ c .before .before .count .given .1),
     )
-
-enum-known-number : tie.Need-enum-known-number
-enum-known-number c = search needs
-
-same-length : tie.Need-same-length
-same-length c = search needs
-
-returns-2 : tie.Need-returns-2
-returns-2 c = search needs
-
-same-length-2 : tie.Need-same-length-2
-same-length-2 c = search needs
 
 returns-3 : tie.Need-returns-3
 returns-3 c =
@@ -80,13 +59,13 @@ add-spec =
     tie.close
     (tie.spec
     returns
-    slice-reshare-prefix-check
+    (λ c. search needs)
     slice-aggregate-check
-    check-requires
-    enum-known-count
+    (λ c κs. search needs)
+    (λ c. search needs)
     add-row-requires
-    enum-known-number
-    same-length
-    returns-2
-    same-length-2
+    (λ c. search needs)
+    (λ c. search needs)
+    (λ c. search needs)
+    (λ c. search needs)
     returns-3)

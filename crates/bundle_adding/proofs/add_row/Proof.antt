@@ -31,22 +31,10 @@ wrong-is : (c : tie.After-wrong-field)
 wrong-is c =
     rw (c .wrong-field .ensures, c .before .last-time .ensures)
 
-slice-reshare-prefix-last-time : tie.Need-slice-reshare-prefix-last-time
-slice-reshare-prefix-last-time c = search needs
-
 slice-aggregate-last-time : tie.Need-slice-aggregate-last-time
 slice-aggregate-last-time c =
     let back3 = c .before .before .before in
     sym (length-take-le (back3 .args .filled) (now (back3 .args .buffer)) (back3 .pre .0))
-
-last-time-requires : tie.Need-last-time-requires
-last-time-requires c κs = search needs
-
-wrong-field-requires : tie.Need-wrong-field-requires
-wrong-field-requires c κs = search needs
-
-same-length : tie.Need-same-length
-same-length c = search needs
 
 returns : tie.Need-returns
 returns c =
@@ -54,29 +42,17 @@ returns c =
     adds-refused (add-wrong (now (back6 .args .buffer)) (back6 .args .filled) (row back6) (back6 .args .count) (back6 .pre .0) (back6 .pre .1)
     (sym (wrong-is (c .before)) ∙ c .if1 .taken))
 
-any-over-requires : tie.Need-any-over-requires
-any-over-requires c κs = search needs
-
-same-length-2 : tie.Need-same-length-2
-same-length-2 c = search needs
-
 returns-2 : tie.Need-returns-2
 returns-2 c =
     let back8 = c .before .before .before .before .before .before .before .before in
     adds-refused (add-wide (now (back8 .args .buffer)) (back8 .args .filled) (row back8) (back8 .args .count) (back8 .pre .0) (back8 .pre .1)
     (sym (wrong-is (c .before .before .before)) ∙ c .before .before .if1 .left) (sym (c .before .any-over .ensures) ∙ c .if2 .taken))
 
-add-bytes : tie.Need-add-bytes
-add-bytes c = search needs
-
 add-bytes-2 : tie.Need-add-bytes-2
 add-bytes-2 c =
     let back8 = c .before .before .before .before .before .before .before .before in
     let a = back8 .args in
     omega (arith, old-most (now (a .buffer)) (a .filled) (a .count) (back8 .pre .0) (back8 .pre .1))
-
-same-length-3 : tie.Need-same-length-3
-same-length-3 c = search needs
 
 returns-3 : tie.Need-returns-3
 returns-3 c =
@@ -91,9 +67,6 @@ insert-requires c κs =
     let a = back10 .args in
     let left = room-left (now (a .buffer)) (a .count) (grown (a .filled) (row back10)) (c .before .if3 .left) in
     (back10 .pre .1, left .1, left .2)
-
-same-length-4 : tie.Need-same-length-4
-same-length-4 c = search needs
 
 returns-4 : tie.Need-returns-4
 returns-4 c =
@@ -111,19 +84,19 @@ pub add-row-spec : {M : Type 1} → statement M
 add-row-spec =
     tie.close
     (tie.spec
-    slice-reshare-prefix-last-time
+    (λ c. search needs)
     slice-aggregate-last-time
-    last-time-requires
-    wrong-field-requires
-    same-length
+    (λ c κs. search needs)
+    (λ c κs. search needs)
+    (λ c. search needs)
     returns
-    any-over-requires
-    same-length-2
+    (λ c κs. search needs)
+    (λ c. search needs)
     returns-2
-    add-bytes
+    (λ c. search needs)
     add-bytes-2
-    same-length-3
+    (λ c. search needs)
     returns-3
     insert-requires
-    same-length-4
+    (λ c. search needs)
     returns-4)

@@ -15,15 +15,6 @@ first c = old-first (now (c .args .buffer)) (c .args .filled) (c .args .count) (
 rows : (c : tie.Start) → c .args .count ≤ mostRows
 rows c = old-rows (now (c .args .buffer)) (c .args .filled) (c .args .count) (omega (arith, c .pre .1)) (c .pre .0)
 
-add-offset : tie.Need-add-offset
-add-offset c = search needs
-
-cast-offset : tie.Need-cast-offset
-cast-offset c = search needs
-
-cast-length : tie.Need-cast-length
-cast-length c = search needs
-
 mul-move-bodies : tie.Need-mul-move-bodies
 mul-move-bodies c = omega (arith, first (c .before .before .before))
 
@@ -38,9 +29,6 @@ grow-contents-requires c κs =
     let back7 = c .before .before .before .before .before .before .before in
     (rows back7, omega (arith, first back7, back7 .pre .1, c .before .before .before .move-bodies .kept .0))
 
-same-length : tie.Need-same-length
-same-length c = search needs
-
 returns : tie.Need-returns
 returns c =
     let back6 = c .before .before .before .before .before .before in
@@ -54,12 +42,12 @@ pub insert-spec : {M : Type 1} → statement M
 insert-spec =
     tie.close
     (tie.spec
-    add-offset
-    cast-offset
-    cast-length
+    (λ c. search needs)
+    (λ c. search needs)
+    (λ c. search needs)
     mul-move-bodies
     add-move-bodies
     move-bodies-requires
     grow-contents-requires
-    same-length
+    (λ c. search needs)
     returns)

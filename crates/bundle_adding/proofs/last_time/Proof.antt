@@ -14,9 +14,6 @@ returns c = last-none (now (c .before .before .args .bundle)) (c .before .before
 sub-unchecked-row : tie.Need-sub-unchecked-row
 sub-unchecked-row c = omega arith
 
-unchecked-row-requires : tie.Need-unchecked-row-requires
-unchecked-row-requires c κs = search needs
-
 returns-2 : tie.Need-returns-2
 returns-2 c =
     let back3 = c .before .before .before in
@@ -24,4 +21,4 @@ returns-2 c =
     (omega (arith, c .before .if1 .left))
 
 pub last-time-spec : {M : Type 1} → statement M
-last-time-spec = tie.close (tie.spec returns sub-unchecked-row unchecked-row-requires returns-2)
+last-time-spec = tie.close (tie.spec returns sub-unchecked-row (λ c κs. search needs) returns-2)

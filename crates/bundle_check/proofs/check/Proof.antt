@@ -20,20 +20,11 @@ counted c =
     shownChecked-same (opened b (reads (countOf b))) (reads (c .before .count .given .0 .0)) (sym (c .before .before .before .opened .ensures)
     ∙ c .before .count .given .1)
 
-opened-requires : tie.Need-opened-requires
-opened-requires c κs = search needs
-
-enum-known-count : tie.Need-enum-known-count
-enum-known-count c = search needs
-
 check-rows-requires : tie.Need-check-rows-requires
 check-rows-requires c κs =
     let b = now (c .before .before .before .before .before .args .bundle) in
     let o = opened-whole b (c .before .count .given .0 .0) (counted c) in
     (omega (arith, o .count, o .few), omega (arith, o .count, o .there))
-
-enum-known-number : tie.Need-enum-known-number
-enum-known-number c = search needs
 
 returns : tie.Need-returns
 unfolding checkOf
@@ -56,9 +47,9 @@ pub check-spec : {M : Type 1} → statement M
 check-spec =
     tie.close
     (tie.spec
-    opened-requires
-    enum-known-count
+    (λ c κs. search needs)
+    (λ c. search needs)
     check-rows-requires
-    enum-known-number
+    (λ c. search needs)
     returns
     returns-2)

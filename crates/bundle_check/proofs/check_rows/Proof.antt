@@ -36,9 +36,6 @@ wide c =
     let first = 2 + 12 * back8 .args .count in
     c .any-over .ensures ∙ ap (λ (l : List ℕ). any over (chars l)) (take-all (length b - first) (drop first b) (omega (arith, length-drop first b)))
 
-walk-rows-requires : tie.Need-walk-rows-requires
-walk-rows-requires c κs = search needs
-
 returns : tie.Need-returns
 returns c = rw (chain (c .before), c .if1 .taken)
 
@@ -47,24 +44,6 @@ returns-2 c = rw (chain (c .before .before), c .before .if1 .left, c .if2 .taken
 
 returns-3 : tie.Need-returns-3
 returns-3 c = rw (chain (c .before .before .before .before), c .before .before .before .if1 .left, c .before .before .if2 .left, c .if3 .taken)
-
-mul-any-over : tie.Need-mul-any-over
-mul-any-over c = search needs
-
-add-any-over : tie.Need-add-any-over
-add-any-over c = search needs
-
-sub-any-over : tie.Need-sub-any-over
-sub-any-over c = search needs
-
-part-any-over-start : tie.Need-part-any-over-start
-part-any-over-start c = search needs
-
-part-any-over-end : tie.Need-part-any-over-end
-part-any-over-end c = search needs
-
-any-over-requires : tie.Need-any-over-requires
-any-over-requires c κs = search needs
 
 returns-4 : tie.Need-returns-4
 returns-4 c =
@@ -84,15 +63,15 @@ pub check-rows-spec : {M : Type 1} → statement M
 check-rows-spec =
     tie.close
     (tie.spec
-    walk-rows-requires
+    (λ c κs. search needs)
     returns
     returns-2
     returns-3
-    mul-any-over
-    add-any-over
-    sub-any-over
-    part-any-over-start
-    part-any-over-end
-    any-over-requires
+    (λ c. search needs)
+    (λ c. search needs)
+    (λ c. search needs)
+    (λ c. search needs)
+    (λ c. search needs)
+    (λ c κs. search needs)
     returns-4
     returns-5)

@@ -9,17 +9,8 @@ returns c = rw (c .if1 .taken)
 returns-2 : tie.Need-returns-2
 returns-2 c = rw (c .before .if1 .left, c .if2 .taken)
 
-number-at-requires : tie.Need-number-at-requires
-number-at-requires c κs = search needs
-
 returns-3 : tie.Need-returns-3
 returns-3 c = rw (c .before .before .before .if1 .left, c .before .before .if2 .left, ← (c .before .number-at .ensures .so), c .if3 .taken)
-
-mul-cut : tie.Need-mul-cut
-mul-cut c = search needs
-
-add-cut : tie.Need-add-cut
-add-cut c = search needs
 
 returns-4 : tie.Need-returns-4
 returns-4 c =
@@ -37,9 +28,9 @@ opened-spec =
     (tie.spec
     returns
     returns-2
-    number-at-requires
+    (λ c κs. search needs)
     returns-3
-    mul-cut
-    add-cut
+    (λ c. search needs)
+    (λ c. search needs)
     returns-4
     returns-5)

@@ -8,21 +8,6 @@ use Rattle.bundle_columns.specs.Lookups.{rowKept}
 use Rattle.bundle_columns.proofs.body_at.Statement.{statement}
 use Rattle.bundle_columns.proofs.body_at.Tie as tie
 
-row-requires : tie.Need-row-requires
-row-requires c κs = search needs
-
-enum-known-fields : tie.Need-enum-known-fields
-enum-known-fields c = search needs
-
-cast-t7 : tie.Need-cast-t7
-cast-t7 c = search needs
-
-cast-t8 : tie.Need-cast-t8
-cast-t8 c = search needs
-
-enum-known-number : tie.Need-enum-known-number
-enum-known-number c = search needs
-
 returns : tie.Need-returns
 returns c =
     let back3 = c .before .before .before in
@@ -39,4 +24,4 @@ returns-2 c =
 pub body-at-spec : {M : Type 1} → statement M
 body-at-spec =
     tie.close
-    (tie.spec row-requires enum-known-fields cast-t7 cast-t8 enum-known-number returns returns-2)
+    (tie.spec (λ c κs. search needs) (λ c. search needs) (λ c. search needs) (λ c. search needs) (λ c. search needs) returns returns-2)

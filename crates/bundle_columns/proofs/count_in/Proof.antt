@@ -4,9 +4,6 @@ use Rattle.bundle_columns.specs.Record.{columnsFrom}
 use Rattle.bundle_columns.proofs.count_in.Statement.{statement}
 use Rattle.bundle_columns.proofs.count_in.Tie as tie
 
-number-at-requires : tie.Need-number-at-requires
-number-at-requires c κs = search needs
-
 returns : tie.Need-returns
 unfolding columnsFrom
 returns c = rw (← (c .before .number-at .ensures .so), c .if1 .taken)
@@ -16,4 +13,4 @@ unfolding columnsFrom
 returns-2 c = rw (← (c .before .number-at .ensures .so), c .if1 .left)
 
 pub count-in-spec : {M : Type 1} → statement M
-count-in-spec = tie.close (tie.spec number-at-requires returns returns-2)
+count-in-spec = tie.close (tie.spec (λ c κs. search needs) returns returns-2)

@@ -17,29 +17,11 @@ counted c = taken (now (c .before .before .before .before .before .args .columns
 inside : (c : tie.After-known-told) → 8 + c .before .count .given .0 .0 ≤ length (now (c .before .before .before .before .before .args .columns))
 inside c = let t = counted c in omega (arith, t .size, t .few)
 
-count-in-requires : tie.Need-count-in-requires
-count-in-requires c κs = search needs
-
-enum-known-count : tie.Need-enum-known-count
-enum-known-count c = search needs
-
 add-next-place : tie.Need-add-next-place
 add-next-place c = omega (arith, counted c .few)
 
-sub-next-place : tie.Need-sub-next-place
-sub-next-place c = search needs
-
-part-next-place-start : tie.Need-part-next-place-start
-part-next-place-start c = search needs
-
 part-next-place-end : tie.Need-part-next-place-end
 part-next-place-end c = inside c
-
-next-place-requires : tie.Need-next-place-requires
-next-place-requires c κs = search needs
-
-enum-known-number : tie.Need-enum-known-number
-enum-known-number c = search needs
 
 returns : tie.Need-returns
 returns c =
@@ -57,13 +39,13 @@ pub next-spec : {M : Type 1} → statement M
 next-spec =
     tie.close
     (tie.spec
-    count-in-requires
-    enum-known-count
+    (λ c κs. search needs)
+    (λ c. search needs)
     add-next-place
-    sub-next-place
-    part-next-place-start
+    (λ c. search needs)
+    (λ c. search needs)
     part-next-place-end
-    next-place-requires
-    enum-known-number
+    (λ c κs. search needs)
+    (λ c. search needs)
     returns
     returns-2)

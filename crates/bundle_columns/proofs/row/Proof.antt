@@ -12,17 +12,8 @@ use Rattle.bundle_columns.proofs.row.Tie as tie
 counted : (c : tie.After-known-told) → Taken (now (c .before .before .before .before .before .args .columns)) (c .before .count .given .0 .0)
 counted c = taken (now (c .before .before .before .before .before .args .columns)) (c .before .before .before .count-in .ensures) (c .before .count .given .1)
 
-count-in-requires : tie.Need-count-in-requires
-count-in-requires c κs = search needs
-
-enum-known-count : tie.Need-enum-known-count
-enum-known-count c = search needs
-
 kept-row-requires : tie.Need-kept-row-requires
 kept-row-requires c κs = let t = counted (c .before) in (t .size, omega (arith, t .few))
-
-enum-known-number : tie.Need-enum-known-number
-enum-known-number c = search needs
 
 returns : tie.Need-returns
 returns c =
@@ -49,10 +40,10 @@ pub row-spec : {M : Type 1} → statement M
 row-spec =
     tie.close
     (tie.spec
-    count-in-requires
-    enum-known-count
+    (λ c κs. search needs)
+    (λ c. search needs)
     kept-row-requires
-    enum-known-number
+    (λ c. search needs)
     returns
     returns-2
     returns-3)

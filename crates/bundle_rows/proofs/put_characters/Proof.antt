@@ -12,26 +12,14 @@ Inv-loop bytes line₀ count i₀ line i = Putting bytes line₀ count i line
 abbrev μ-loop : tie.MeasureT-loop
 μ-loop bytes line₀ count i₀ line i = count - i
 
-least-requires : tie.Need-least-requires Inv-loop μ-loop
-least-requires c κs = search needs
-
 loop-holds : tie.Need-loop-holds Inv-loop μ-loop
 loop-holds c = putting-none (c .least .ensures)
-
-character-at-requires : tie.Need-character-at-requires Inv-loop μ-loop
-character-at-requires c κs = search needs
 
 mul-line : tie.Need-mul-line Inv-loop μ-loop
 mul-line c = omega (arith, c .before .before .loop .inv .few)
 
 slice-write-line : tie.Need-slice-write-line Inv-loop μ-loop
 slice-write-line c = omega (arith, c .before .before .loop .inv .few, c .before .before .loop .inv .same)
-
-add-i : tie.Need-add-i Inv-loop μ-loop
-add-i c = search needs
-
-loop-less : tie.Need-loop-less Inv-loop μ-loop
-loop-less c = search needs
 
 loop-again : tie.Need-loop-again Inv-loop μ-loop
 loop-again c = putting-next (c .before .before .loop .inv) (c .before .loop-test .taken) (c .character-at .ensures)
@@ -48,13 +36,13 @@ put-characters-spec =
     (tie.spec
     Inv-loop
     μ-loop
-    least-requires
+    (λ c κs. search needs)
     loop-holds
-    character-at-requires
+    (λ c κs. search needs)
     mul-line
     slice-write-line
-    add-i
-    loop-less
+    (λ c. search needs)
+    (λ c. search needs)
     loop-again
     same-length
     returns)

@@ -4,19 +4,10 @@ use Rattle.bundle_rows.specs.Rows.{uncheckedCharacters}
 use Rattle.bundle_rows.proofs.unchecked_characters.Statement.{statement}
 use Rattle.bundle_rows.proofs.unchecked_characters.Tie as tie
 
-unchecked-body-requires : tie.Need-unchecked-body-requires
-unchecked-body-requires c κs = search needs
-
-put-characters-requires : tie.Need-put-characters-requires
-put-characters-requires c κs = search needs
-
-same-length : tie.Need-same-length
-same-length c = search needs
-
 returns : tie.Need-returns
 unfolding uncheckedCharacters
 returns c = rw (← (c .before .before .before .before .unchecked-body .ensures)) (c .before .before .put-characters .ensures)
 
 pub unchecked-characters-spec : {M : Type 1} → statement M
 unchecked-characters-spec =
-    tie.close (tie.spec unchecked-body-requires put-characters-requires same-length returns)
+    tie.close (tie.spec (λ c κs. search needs) (λ c κs. search needs) (λ c. search needs) returns)

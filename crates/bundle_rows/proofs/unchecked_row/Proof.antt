@@ -6,9 +6,6 @@ use Rattle.bundle_rows.specs.Rows.{uncheckedRow}
 use Rattle.bundle_rows.proofs.unchecked_row.Statement.{statement}
 use Rattle.bundle_rows.proofs.unchecked_row.Tie as tie
 
-blank-row-requires : tie.Need-blank-row-requires
-blank-row-requires c κs = search needs
-
 returns : tie.Need-returns
 unfolding uncheckedRow
 returns c = rw (c .before .if1 .taken) (c .blank-row .ensures)
@@ -21,9 +18,6 @@ mul-cut c = omega (arith, leb-false)
 
 add-cut-2 : tie.Need-add-cut-2
 add-cut-2 c = omega (arith, leb-false)
-
-blank-row-requires-2 : tie.Need-blank-row-requires-2
-blank-row-requires-2 c κs = search needs
 
 returns-2 : tie.Need-returns-2
 unfolding uncheckedRow
@@ -46,12 +40,12 @@ pub unchecked-row-spec : {M : Type 1} → statement M
 unchecked-row-spec =
     tie.close
     (tie.spec
-    blank-row-requires
+    (λ c κs. search needs)
     returns
     add-cut
     mul-cut
     add-cut-2
-    blank-row-requires-2
+    (λ c κs. search needs)
     returns-2
     mul-row-of
     add-row-of

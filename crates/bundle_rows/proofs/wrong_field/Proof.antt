@@ -3,11 +3,8 @@ use borrow.Author.Needs.{needs}
 use Rattle.bundle_rows.proofs.wrong_field.Statement.{statement}
 use Rattle.bundle_rows.proofs.wrong_field.Tie as tie
 
-wrong-position-requires : tie.Need-wrong-position-requires
-wrong-position-requires c κs = search needs
-
 returns : tie.Need-returns
 returns c = rw (c .wrong-position .ensures)
 
 pub wrong-field-spec : {M : Type 1} → statement M
-wrong-field-spec = tie.close (tie.spec wrong-position-requires returns)
+wrong-field-spec = tie.close (tie.spec (λ c κs. search needs) returns)

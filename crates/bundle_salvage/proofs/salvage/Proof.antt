@@ -9,26 +9,11 @@ use Rattle.bundle_salvage.proofs.Laws.Answers.{salvage-refused}
 use Rattle.bundle_salvage.proofs.salvage.Statement.{statement}
 use Rattle.bundle_salvage.proofs.salvage.Tie as tie
 
-opened-requires : tie.Need-opened-requires
-opened-requires c κs = search needs
-
-enum-known-count : tie.Need-enum-known-count
-enum-known-count c = search needs
-
 salvage-rows-requires : tie.Need-salvage-rows-requires
 salvage-rows-requires c κs =
     let b = now (c .before .before .before .before .before .before .before .args .damaged) in
     shownChecked-same (opened b (reads (countOf b))) (reads (c .before .before .count .given .0 .0))
     (sym (c .before .before .before .before .opened .ensures) ∙ c .before .before .count .given .1)
-
-enum-known-number : tie.Need-enum-known-number
-enum-known-number c = search needs
-
-same-length : tie.Need-same-length
-same-length c = search needs
-
-returns : tie.Need-returns
-returns c = search needs
 
 returns-2 : tie.Need-returns-2
 returns-2 c =
@@ -42,10 +27,10 @@ pub salvage-spec : {M : Type 1} → statement M
 salvage-spec =
     tie.close
     (tie.spec
-    opened-requires
-    enum-known-count
+    (λ c κs. search needs)
+    (λ c. search needs)
     salvage-rows-requires
-    enum-known-number
-    same-length
-    returns
+    (λ c. search needs)
+    (λ c. search needs)
+    (λ c. search needs)
     returns-2)

@@ -78,9 +78,6 @@ returns c =
     let back = c .before .before .before .before in
     salvage-short (now (back .args .damaged)) (back .args .count) (back .pre) (c .before .leading-rows .ensures) (now (back .args .out)) (c .if1 .taken)
 
-rule-told-requires : tie.Need-rule-told-requires
-rule-told-requires c κs = search needs
-
 sub-dropped : tie.Need-sub-dropped
 sub-dropped c =
     let back = c .before .before .before .before .before in kept-few (now (back .args .damaged)) (back .args .count) (back .pre)
@@ -96,9 +93,6 @@ write-requires c κs =
       end-is b (back .args .count) (back .pre) f,
       ltb-false _ _ (c .before .before .if1 .left),
     )
-
-same-length : tie.Need-same-length
-same-length c = search needs
 
 returns-2 : tie.Need-returns-2
 returns-2 c =
@@ -120,8 +114,8 @@ salvage-rows-spec =
     sub-filled
     add-filled-3
     returns
-    rule-told-requires
+    (λ c κs. search needs)
     sub-dropped
     write-requires
-    same-length
+    (λ c. search needs)
     returns-2)

@@ -19,20 +19,8 @@ inside c = ltb-false (length (now (c .before .before .args .buffer))) (c .before
 returns : tie.Need-returns
 returns c = let a = c .before .before .args in sweep-past (now (a .buffer)) (a .filled) (a .position) (c .if1 .taken)
 
-slice-reshare-prefix-check : tie.Need-slice-reshare-prefix-check
-slice-reshare-prefix-check c = search needs
-
 slice-aggregate-check : tie.Need-slice-aggregate-check
 slice-aggregate-check c = let a = c .before .before .before .args in sym (length-take-le (a .filled) (now (a .buffer)) (inside (c .before)))
-
-check-requires : tie.Need-check-requires
-check-requires c κs = search needs
-
-enum-known-count : tie.Need-enum-known-count
-enum-known-count c = search needs
-
-same-length : tie.Need-same-length
-same-length c = search needs
 
 returns-2 : tie.Need-returns-2
 returns-2 c =
@@ -42,9 +30,6 @@ returns-2 c =
     sweep-outside (now (a .buffer)) (a .filled) (a .position) (inside (back4 .before .before)) n
     (shownChecked-same (checkOf (take (a .filled) (now (a .buffer)))) (reads n) (sym (back4 .check .ensures) ∙ c .before .before .count .given .1))
     (c .if2 .taken)
-
-slice-relend-prefix-sweep-rows : tie.Need-slice-relend-prefix-sweep-rows
-slice-relend-prefix-sweep-rows c = search needs
 
 slice-aggregate-sweep-rows : tie.Need-slice-aggregate-sweep-rows
 slice-aggregate-sweep-rows c =
@@ -59,12 +44,6 @@ sweep-rows-requires c κs =
     let n = c .before .before .before .count .given .0 .0 in
     shownChecked-same (checkOf (take (a .filled) (now (a .buffer)))) (reads n) (sym (back5 .check .ensures) ∙ c .before .before .before .count .given .1)
 
-enum-known-number : tie.Need-enum-known-number
-enum-known-number c = search needs
-
-same-length-2 : tie.Need-same-length-2
-same-length-2 c = search needs
-
 returns-3 : tie.Need-returns-3
 returns-3 c =
     let back6 = c .before .before .before .before .before .before in
@@ -75,9 +54,6 @@ returns-3 c =
     sweep-done (now (a .buffer)) (a .filled) (a .position) (inside (back8 .before .before)) n
     (shownChecked-same (checkOf (take (a .filled) (now (a .buffer)))) (reads n) (sym (back8 .check .ensures) ∙ back6 .count .given .1))
     (c .before .before .before .before .if2 .left) (s .0) (s .1)
-
-same-length-3 : tie.Need-same-length-3
-same-length-3 c = search needs
 
 returns-4 : tie.Need-returns-4
 returns-4 c =
@@ -92,17 +68,17 @@ sweep-spec =
     tie.close
     (tie.spec
     returns
-    slice-reshare-prefix-check
+    (λ c. search needs)
     slice-aggregate-check
-    check-requires
-    enum-known-count
-    same-length
+    (λ c κs. search needs)
+    (λ c. search needs)
+    (λ c. search needs)
     returns-2
-    slice-relend-prefix-sweep-rows
+    (λ c. search needs)
     slice-aggregate-sweep-rows
     sweep-rows-requires
-    enum-known-number
-    same-length-2
+    (λ c. search needs)
+    (λ c. search needs)
     returns-3
-    same-length-3
+    (λ c. search needs)
     returns-4)

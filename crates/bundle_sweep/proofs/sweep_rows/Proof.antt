@@ -5,19 +5,10 @@ use Rattle.bundle_sweep.proofs.Laws.NewBundle.{drawn-in-order, placed-l
 use Rattle.bundle_sweep.proofs.sweep_rows.Statement.{statement}
 use Rattle.bundle_sweep.proofs.sweep_rows.Tie as tie
 
-draw-rows-requires : tie.Need-draw-rows-requires
-draw-rows-requires c κs = search needs
-
 place-bodies-requires : tie.Need-place-bodies-requires
 place-bodies-requires c κs =
     let back6 = c .before .before .before .before .before .before in
     drawn-in-order (back6 .args .position) (now (back6 .args .bundle)) (back6 .args .count) (back6 .pre) (c .before .before .before .draw-rows .ensures)
-
-put-number-requires : tie.Need-put-number-requires
-put-number-requires c κs = search needs
-
-same-length : tie.Need-same-length
-same-length c = search needs
 
 returns : tie.Need-returns
 returns c =
@@ -34,4 +25,4 @@ returns c =
 pub sweep-rows-spec : {M : Type 1} → statement M
 sweep-rows-spec =
     tie.close
-    (tie.spec draw-rows-requires place-bodies-requires put-number-requires same-length returns)
+    (tie.spec (λ c κs. search needs) place-bodies-requires (λ c κs. search needs) (λ c. search needs) returns)

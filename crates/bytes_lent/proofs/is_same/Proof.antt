@@ -20,17 +20,8 @@ returns c = differ-length (now (c .before .args .s)) (now (c .before .args .t)) 
 loop-holds : tie.Need-loop-holds Inv-loop μ-loop
 loop-holds c = alike-none (c .if1 .left)
 
-shared-slice-read-alike : tie.Need-shared-slice-read-alike Inv-loop μ-loop
-shared-slice-read-alike c = search needs
-
 shared-slice-read-alike-2 : tie.Need-shared-slice-read-alike-2 Inv-loop μ-loop
 shared-slice-read-alike-2 c = omega (arith, c .before .before .before .loop .inv .places)
-
-add-i : tie.Need-add-i Inv-loop μ-loop
-add-i c = search needs
-
-loop-less : tie.Need-loop-less Inv-loop μ-loop
-loop-less c = search needs
 
 loop-again : tie.Need-loop-again Inv-loop μ-loop
 loop-again c = alike-next (c .before .before .before .loop .inv) (c .before .before .loop-test .taken)
@@ -46,9 +37,9 @@ is-same-spec =
     μ-loop
     returns
     loop-holds
-    shared-slice-read-alike
+    (λ c. search needs)
     shared-slice-read-alike-2
-    add-i
-    loop-less
+    (λ c. search needs)
+    (λ c. search needs)
     loop-again
     returns-2)

@@ -16,9 +16,6 @@ Inv-loop to₀ at from past i₀ to i = Copied to₀ at from i to
 abbrev μ-loop : tie.MeasureT-loop
 μ-loop to₀ at from past i₀ to i = length from - i
 
-is-past-requires : tie.Need-is-past-requires Inv-loop μ-loop
-is-past-requires c κs = search needs
-
 returns : tie.Need-returns Inv-loop μ-loop
 returns c = rw (← (c .before .is-past .ensures), c .if1 .taken)
 
@@ -27,20 +24,11 @@ loop-holds c = copied-none (ltb-false (length (now (c .before .before .before .b
     (c .before .before .before .before .args .at + length (now (c .before .before .before .before .args .from)))
     (sym (c .before .is-past .ensures) ∙ c .if1 .left))
 
-shared-slice-read-to : tie.Need-shared-slice-read-to Inv-loop μ-loop
-shared-slice-read-to c = search needs
-
 add-to : tie.Need-add-to Inv-loop μ-loop
 add-to c = let n = copied-length (c .before .before .loop .inv) in omega (arith, c .before .before .loop .inv .fits)
 
 slice-write-to : tie.Need-slice-write-to Inv-loop μ-loop
 slice-write-to c = let n = copied-length (c .before .before .loop .inv) in omega (arith, c .before .before .loop .inv .fits)
-
-add-i : tie.Need-add-i Inv-loop μ-loop
-add-i c = search needs
-
-loop-less : tie.Need-loop-less Inv-loop μ-loop
-loop-less c = search needs
 
 loop-again : tie.Need-loop-again Inv-loop μ-loop
 loop-again c = copied-next (c .before .before .loop .inv) 0 (c .before .loop-test .taken) refl
@@ -57,14 +45,14 @@ lay-spec =
     (tie.spec
     Inv-loop
     μ-loop
-    is-past-requires
+    (λ c κs. search needs)
     returns
     loop-holds
-    shared-slice-read-to
+    (λ c. search needs)
     add-to
     slice-write-to
-    add-i
-    loop-less
+    (λ c. search needs)
+    (λ c. search needs)
     loop-again
     same-length
     returns-2)

@@ -10,14 +10,8 @@ returns c = let a = c .before .args in short-head (a .size) (a .head) (a .words)
 returns-2 : tie.Need-returns-2
 returns-2 c = let a = c .before .before .args in short-words (a .size) (a .head) (a .words) (a .tail) (c .before .if1 .left) (c .if2 .taken)
 
-mul-result : tie.Need-mul-result
-mul-result c = search needs
-
-sub-result : tie.Need-sub-result
-sub-result c = search needs
-
 returns-3 : tie.Need-returns-3
 returns-3 c = let a = c .before .before .args in short-tail (a .size) (a .head) (a .words) (a .tail) (c .before .if1 .left) (c .if2 .left)
 
 pub is-short-spec : {M : Type 1} → statement M
-is-short-spec = tie.close (tie.spec returns returns-2 mul-result sub-result returns-3)
+is-short-spec = tie.close (tie.spec returns returns-2 (λ c. search needs) (λ c. search needs) returns-3)

@@ -8,25 +8,13 @@ use Rattle.bytes_numbers.proofs.Laws.NumberLaws.{numbered-none, numbere
 use Rattle.bytes_numbers.proofs.number_at.Statement.{statement}
 use Rattle.bytes_numbers.proofs.number_at.Tie as tie
 
-up-to-eight-requires : tie.Need-up-to-eight-requires
-up-to-eight-requires c κs = search needs
-
 returns : tie.Need-returns
 returns c =
     numbered-none (now (c .before .before .before .args .s)) (c .before .before .before .args .at) (min (c .before .before .before .args .width) 8)
     (c .if1 .taken)
 
-sub-there : tie.Need-sub-there
-sub-there c = search needs
-
-number-of-requires : tie.Need-number-of-requires
-number-of-requires c κs = search needs
-
 returns-2 : tie.Need-returns-2
 returns-2 c = numbered-cut (min (c .before .before .before .before .before .args .width) 8) refl (omega arith) (c .number-of .ensures)
-
-number-of-requires-2 : tie.Need-number-of-requires-2
-number-of-requires-2 c κs = search needs
 
 returns-3 : tie.Need-returns-3
 returns-3 c = rw (← (c .before .before .before .up-to-eight .ensures)) (c .number-of2 .ensures)
@@ -34,4 +22,4 @@ returns-3 c = rw (← (c .before .before .before .up-to-eight .ensures)) (c .num
 pub number-at-spec : {M : Type 1} → statement M
 number-at-spec =
     tie.close
-    (tie.spec up-to-eight-requires returns sub-there number-of-requires returns-2 number-of-requires-2 returns-3)
+    (tie.spec (λ c κs. search needs) returns (λ c. search needs) (λ c κs. search needs) returns-2 (λ c κs. search needs) returns-3)

@@ -8,26 +8,11 @@ use borrow.Author.Needs.{needs}
 use Rattle.bytes_numbers.proofs.put_number.Statement.{statement}
 use Rattle.bytes_numbers.proofs.put_number.Tie as tie
 
-bytes-of-requires : tie.Need-bytes-of-requires
-bytes-of-requires c κs = search needs
-
-up-to-eight-requires : tie.Need-up-to-eight-requires
-up-to-eight-requires c κs = search needs
-
-array-share-prefix-bytes : tie.Need-array-share-prefix-bytes
-array-share-prefix-bytes c = search needs
-
 slice-aggregate-lay : tie.Need-slice-aggregate-lay
 slice-aggregate-lay c =
     let b = c .before .before .before in
     sym (length-take-le (c .before .before .up-to-eight .result) (b .bytes-of .result)
     (first-room (b .before .before .args .width) (b .before .before .args .n) (c .before .before .up-to-eight .ensures) (b .bytes-of .ensures)))
-
-lay-requires : tie.Need-lay-requires
-lay-requires c κs = search needs
-
-same-length : tie.Need-same-length
-same-length c = search needs
 
 returns : tie.Need-returns
 returns c =
@@ -40,10 +25,10 @@ pub put-number-spec : {M : Type 1} → statement M
 put-number-spec =
     tie.close
     (tie.spec
-    bytes-of-requires
-    up-to-eight-requires
-    array-share-prefix-bytes
+    (λ c κs. search needs)
+    (λ c κs. search needs)
+    (λ c. search needs)
     slice-aggregate-lay
-    lay-requires
-    same-length
+    (λ c κs. search needs)
+    (λ c. search needs)
     returns)

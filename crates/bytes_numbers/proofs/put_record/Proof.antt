@@ -6,16 +6,10 @@ use borrow.Author.Needs.{needs}
 use Rattle.bytes_numbers.proofs.put_record.Statement.{statement}
 use Rattle.bytes_numbers.proofs.put_record.Tie as tie
 
-is-short-requires : tie.Need-is-short-requires
-is-short-requires c κs = search needs
-
 returns : tie.Need-returns
 returns c =
     let a = c .before .before .before .before .before .before .args in
     record-short (now (a .out)) (now (a .head)) (now (a .words)) (now (a .tail)) (sym (c .before .is-short .ensures) ∙ c .if1 .taken)
-
-lay-requires : tie.Need-lay-requires
-lay-requires c κs = search needs
 
 put-words-requires : tie.Need-put-words-requires
 put-words-requires c κs =
@@ -23,18 +17,6 @@ put-words-requires c κs =
     record-room (now (a .out)) (now (a .head)) (now (a .words)) (now (a .tail))
     (sym (c .before .before .before .before .before .before .is-short .ensures) ∙ c .before .before .before .before .before .if1 .left)
     (c .before .before .before .lay .ensures)
-
-mul-lay : tie.Need-mul-lay
-mul-lay c = search needs
-
-add-lay : tie.Need-add-lay
-add-lay c = search needs
-
-lay-requires-2 : tie.Need-lay-requires-2
-lay-requires-2 c κs = search needs
-
-same-length : tie.Need-same-length
-same-length c = search needs
 
 returns-2 : tie.Need-returns-2
 returns-2 c =
@@ -50,12 +32,12 @@ pub put-record-spec : {M : Type 1} → statement M
 put-record-spec =
     tie.close
     (tie.spec
-    is-short-requires
+    (λ c κs. search needs)
     returns
-    lay-requires
+    (λ c κs. search needs)
     put-words-requires
-    mul-lay
-    add-lay
-    lay-requires-2
-    same-length
+    (λ c. search needs)
+    (λ c. search needs)
+    (λ c κs. search needs)
+    (λ c. search needs)
     returns-2)

@@ -41,18 +41,6 @@ mul-put-number-2 c =
     let n = pieced-length (c .before .before .loop .inv) in
     omega arith
 
-shared-slice-read-put-number : tie.Need-shared-slice-read-put-number Inv-loop μ-loop
-shared-slice-read-put-number c = search needs
-
-put-number-requires : tie.Need-put-number-requires Inv-loop μ-loop
-put-number-requires c κs = search needs
-
-add-i : tie.Need-add-i Inv-loop μ-loop
-add-i c = search needs
-
-loop-less : tie.Need-loop-less Inv-loop μ-loop
-loop-less c = search needs
-
 loop-again : tie.Need-loop-again Inv-loop μ-loop
 loop-again c =
     pieced-next (c .before .before .before .before .before .before .loop .inv) (c .before .before .before .before .before .loop-test .taken) 0 refl
@@ -74,10 +62,10 @@ put-words-spec =
     mul-put-number
     add-put-number
     mul-put-number-2
-    shared-slice-read-put-number
-    put-number-requires
-    add-i
-    loop-less
+    (λ c. search needs)
+    (λ c κs. search needs)
+    (λ c. search needs)
+    (λ c. search needs)
     loop-again
     same-length
     returns)

@@ -9,9 +9,6 @@ returns c =
     let start = c .before in
     rw (c .if1 .taken) at (count-found (start .args .count) (start .args .code) (start .pre))
 
-mul-result : tie.Need-mul-result
-mul-result c = search needs
-
 returns-2 : tie.Need-returns-2
 returns-2 c =
     let start = c .before .before in
@@ -23,4 +20,4 @@ returns-3 c =
     rw (c .before .if1 .left, c .if2 .left) at (count-found (start .args .count) (start .args .code) (start .pre))
 
 pub count-for-spec : {M : Type 1} → statement M
-count-for-spec = tie.close (tie.spec returns mul-result returns-2 returns-3)
+count-for-spec = tie.close (tie.spec returns (λ c. search needs) returns-2 returns-3)

@@ -18,9 +18,6 @@ returns : tie.Need-returns
 unfolding entryFor
 returns c = rw (c .if1 .taken)
 
-is-energy-requires : tie.Need-is-energy-requires
-is-energy-requires c κs = search needs
-
 returns-2 : tie.Need-returns-2
 unfolding entryFor
 returns-2 c = rw (c .before .before .if1 .left, ← (c .before .is-energy .ensures), c .if2 .taken)
@@ -64,7 +61,7 @@ entry-for-spec =
     tie.close
     (tie.spec
     returns
-    is-energy-requires
+    (λ c κs. search needs)
     returns-2
     returns-3
     unit-for-requires

@@ -3,11 +3,8 @@ use borrow.Author.Needs.{needs}
 use Rattle.cjt_fields.proofs.wrong_clock.Statement.{statement}
 use Rattle.cjt_fields.proofs.wrong_clock.Tie as tie
 
-days-of-requires : tie.Need-days-of-requires
-days-of-requires c κs = search needs
-
 returns : tie.Need-returns
 returns c = rw (c .before .before .before .before .before .before .before .before .days-of .ensures)
 
 pub wrong-clock-spec : {M : Type 1} → statement M
-wrong-clock-spec = tie.close (tie.spec days-of-requires returns)
+wrong-clock-spec = tie.close (tie.spec (λ c κs. search needs) returns)

@@ -11,24 +11,9 @@ use Rattle.cjt_reading.proofs.read_line.Tie as tie
 returns : tie.Need-returns
 returns c = ap cjtShown (sym (none-is (now (c .before .before .args .line)) (c .if1 .taken)))
 
-soundness-of-requires : tie.Need-soundness-of-requires
-soundness-of-requires c κs = search needs
-
-far-of-requires : tie.Need-far-of-requires
-far-of-requires c κs = search needs
-
 returns-2 : tie.Need-returns-2
 returns-2 c = rw (c .far-of .ensures) (ap cjtShown (sym (taken-far (now (c .before .before .before .before .before .args .line)) (omega
     (arith, c .before .before .if2 .taken)) (c .before .soundness-of .ensures) (c .before .before .if2 .taken))))
-
-slice-aggregate-gather : tie.Need-slice-aggregate-gather
-slice-aggregate-gather c = search needs
-
-gather-requires : tie.Need-gather-requires
-gather-requires c κs = search needs
-
-enum-known-outcome : tie.Need-enum-known-outcome
-enum-known-outcome c = search needs
 
 returns-3 : tie.Need-returns-3
 returns-3 c =
@@ -37,12 +22,6 @@ returns-3 c =
     (c .before .before .before .before .before .before .if2 .left) (c .before .before .before .before .gather .ensures .0)
     (c .before .before .before .before .gather .ensures .1)
     (c .before .outcome .given .1)))
-
-enum-told : tie.Need-enum-told
-enum-told c = search needs
-
-array-share-prefix-bytes : tie.Need-array-share-prefix-bytes
-array-share-prefix-bytes c = search needs
 
 slice-aggregate-read-in : tie.Need-slice-aggregate-read-in
 slice-aggregate-read-in c =
@@ -71,15 +50,15 @@ read-line-spec =
     tie.close
     (tie.spec
     returns
-    soundness-of-requires
-    far-of-requires
+    (λ c κs. search needs)
+    (λ c κs. search needs)
     returns-2
-    slice-aggregate-gather
-    gather-requires
-    enum-known-outcome
+    (λ c. search needs)
+    (λ c κs. search needs)
+    (λ c. search needs)
     returns-3
-    enum-told
-    array-share-prefix-bytes
+    (λ c. search needs)
+    (λ c. search needs)
     slice-aggregate-read-in
     read-in-requires
     returns-4)

@@ -7,24 +7,9 @@ use borrow.Author.Needs.{needs}
 use Rattle.cjt_writing.proofs.write_request.Statement.{statement}
 use Rattle.cjt_writing.proofs.write_request.Tie as tie
 
-unwritten-request-requires : tie.Need-unwritten-request-requires
-unwritten-request-requires c κs = search needs
-
 returns : tie.Need-returns
 returns c = not-written (Request (c .before .before .before .args .request)) (now (c .before .before .before .args .out)) (sym
     (c .before .unwritten-request .ensures) ∙ c .if1 .taken)
-
-request-bytes-requires : tie.Need-request-bytes-requires
-request-bytes-requires c κs = search needs
-
-slice-aggregate-write-bytes : tie.Need-slice-aggregate-write-bytes
-slice-aggregate-write-bytes c = search needs
-
-write-bytes-requires : tie.Need-write-bytes-requires
-write-bytes-requires c κs = search needs
-
-same-length : tie.Need-same-length
-same-length c = search needs
 
 returns-2 : tie.Need-returns-2
 returns-2 c = line-written (Request (c .before .before .before .before .before .before .before .before .before .args .request)) (now
@@ -37,10 +22,10 @@ pub write-request-spec : {M : Type 1} → statement M
 write-request-spec =
     tie.close
     (tie.spec
-    unwritten-request-requires
+    (λ c κs. search needs)
     returns
-    request-bytes-requires
-    slice-aggregate-write-bytes
-    write-bytes-requires
-    same-length
+    (λ c κs. search needs)
+    (λ c. search needs)
+    (λ c κs. search needs)
+    (λ c. search needs)
     returns-2)

@@ -5,23 +5,8 @@ use borrow.Author.Needs.{needs}
 use Rattle.exchange_record.proofs.bench_from.Statement.{statement}
 use Rattle.exchange_record.proofs.bench_from.Tie as tie
 
-slice-aggregate-is-same : tie.Need-slice-aggregate-is-same
-slice-aggregate-is-same c = search needs
-
-is-same-requires : tie.Need-is-same-requires
-is-same-requires c κs = search needs
-
 returns : tie.Need-returns
 returns c = zeros-taken (now (c .before .before .before .before .args .b)) (c .before .is-same .ensures) (c .if1 .taken)
-
-exchange-from-requires : tie.Need-exchange-from-requires
-exchange-from-requires c κs = search needs
-
-enum-known-stood : tie.Need-enum-known-stood
-enum-known-stood c = search needs
-
-enum-known-stood-2 : tie.Need-enum-known-stood-2
-enum-known-stood-2 c = search needs
 
 returns-2 : tie.Need-returns-2
 returns-2 c =
@@ -39,11 +24,11 @@ pub bench-from-spec : {M : Type 1} → statement M
 bench-from-spec =
     tie.close
     (tie.spec
-    slice-aggregate-is-same
-    is-same-requires
+    (λ c. search needs)
+    (λ c κs. search needs)
     returns
-    exchange-from-requires
-    enum-known-stood
-    enum-known-stood-2
+    (λ c κs. search needs)
+    (λ c. search needs)
+    (λ c. search needs)
     returns-2
     returns-3)

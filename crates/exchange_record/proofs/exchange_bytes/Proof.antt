@@ -8,24 +8,6 @@ use borrow.Author.Needs.{needs}
 use Rattle.exchange_record.proofs.exchange_bytes.Statement.{statement}
 use Rattle.exchange_record.proofs.exchange_bytes.Tie as tie
 
-head-bytes-requires : tie.Need-head-bytes-requires
-head-bytes-requires c κs = search needs
-
-slice-aggregate-put-record : tie.Need-slice-aggregate-put-record
-slice-aggregate-put-record c = search needs
-
-slice-aggregate-put-record-2 : tie.Need-slice-aggregate-put-record-2
-slice-aggregate-put-record-2 c = search needs
-
-slice-aggregate-put-record-3 : tie.Need-slice-aggregate-put-record-3
-slice-aggregate-put-record-3 c = search needs
-
-slice-aggregate-put-record-4 : tie.Need-slice-aggregate-put-record-4
-slice-aggregate-put-record-4 c = search needs
-
-put-record-requires : tie.Need-put-record-requires
-put-record-requires c κs = search needs
-
 returns : tie.Need-returns
 unfolding exchangeBytes
 returns c =
@@ -37,10 +19,10 @@ pub exchange-bytes-spec : {M : Type 1} → statement M
 exchange-bytes-spec =
     tie.close
     (tie.spec
-    head-bytes-requires
-    slice-aggregate-put-record
-    slice-aggregate-put-record-2
-    slice-aggregate-put-record-3
-    slice-aggregate-put-record-4
-    put-record-requires
+    (λ c κs. search needs)
+    (λ c. search needs)
+    (λ c. search needs)
+    (λ c. search needs)
+    (λ c. search needs)
+    (λ c κs. search needs)
     returns)

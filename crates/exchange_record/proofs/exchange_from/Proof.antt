@@ -10,21 +10,6 @@ use Rattle.exchange_record.proofs.exchange_from.Tie as tie
 returns : tie.Need-returns
 returns c = sym (ap shownStep (other-size (now (c .before .before .args .b)) (c .if1 .taken)))
 
-exchange-in-requires : tie.Need-exchange-in-requires
-exchange-in-requires c κs = search needs
-
-exchange-bytes-requires : tie.Need-exchange-bytes-requires
-exchange-bytes-requires c κs = search needs
-
-slice-aggregate-is-same : tie.Need-slice-aggregate-is-same
-slice-aggregate-is-same c = search needs
-
-is-same-requires : tie.Need-is-same-requires
-is-same-requires c κs = search needs
-
-is-reached-requires : tie.Need-is-reached-requires
-is-reached-requires c κs = search needs
-
 returns-2 : tie.Need-returns-2
 returns-2 c = sym (ap shownStep (found (now (c .before .before .before .before .before .before .before .before .before .args .b))
     (c .before .before .before .before .before .before .exchange-in .ensures) (c .before .before .before .before .before .exchange-bytes .ensures)
@@ -45,11 +30,11 @@ exchange-from-spec =
     tie.close
     (tie.spec
     returns
-    exchange-in-requires
-    exchange-bytes-requires
-    slice-aggregate-is-same
-    is-same-requires
-    is-reached-requires
+    (λ c κs. search needs)
+    (λ c κs. search needs)
+    (λ c. search needs)
+    (λ c κs. search needs)
+    (λ c κs. search needs)
     returns-2
     returns-3
     returns-4)

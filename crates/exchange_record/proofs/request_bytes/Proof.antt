@@ -3,15 +3,6 @@ use borrow.Author.Needs.{needs}
 use Rattle.exchange_record.proofs.request_bytes.Statement.{statement}
 use Rattle.exchange_record.proofs.request_bytes.Tie as tie
 
-enum-known-request : tie.Need-enum-known-request
-enum-known-request c = search needs
-
-enum-known-request-2 : tie.Need-enum-known-request-2
-enum-known-request-2 c = search needs
-
-enum-known-request-3 : tie.Need-enum-known-request-3
-enum-known-request-3 c = search needs
-
 returns : tie.Need-returns
 returns c = cc
 
@@ -25,9 +16,9 @@ pub request-bytes-spec : {M : Type 1} → statement M
 request-bytes-spec =
     tie.close
     (tie.spec
-    enum-known-request
-    enum-known-request-2
-    enum-known-request-3
+    (λ c. search needs)
+    (λ c. search needs)
+    (λ c. search needs)
     returns
     returns-2
     returns-3)

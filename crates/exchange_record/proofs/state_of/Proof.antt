@@ -3,9 +3,6 @@ use borrow.Author.Needs.{needs}
 use Rattle.exchange_record.proofs.state_of.Statement.{statement}
 use Rattle.exchange_record.proofs.state_of.Tie as tie
 
-cause-of-requires : tie.Need-cause-of-requires
-cause-of-requires c κs = search needs
-
 returns : tie.Need-returns
 returns c = rw (c .if1 .taken)
 
@@ -19,4 +16,4 @@ returns-4 : tie.Need-returns-4
 returns-4 c = rw (c .before .before .if1 .left, c .before .if2 .left, c .if3 .left, c .before .before .before .cause-of .ensures)
 
 pub state-of-spec : {M : Type 1} → statement M
-state-of-spec = tie.close (tie.spec cause-of-requires returns returns-2 returns-3 returns-4)
+state-of-spec = tie.close (tie.spec (λ c κs. search needs) returns returns-2 returns-3 returns-4)

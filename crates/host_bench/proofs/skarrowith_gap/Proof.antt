@@ -5,21 +5,6 @@ use Rattle.host_bench.proofs.Laws.CallLaws.{gap-refused, gap-fine}
 use Rattle.host_bench.proofs.skarrowith_gap.Statement.{statement}
 use Rattle.host_bench.proofs.skarrowith_gap.Tie as tie
 
-gap-requires : tie.Need-gap-requires
-gap-requires c κs = search needs
-
-enum-known-gap : tie.Need-enum-known-gap
-enum-known-gap c = search needs
-
-cast-result : tie.Need-cast-result
-cast-result c = search needs
-
-add-result : tie.Need-add-result
-add-result c = search needs
-
-enum-told : tie.Need-enum-told
-enum-told c = search needs
-
 returns : tie.Need-returns
 returns c = gap-refused (gapOf (c .before .before .before .before .args .ended) (c .before .before .before .before .args .begins))
     (c .before .before .before .gap .ensures) (c .before .gap2 .given .1)
@@ -31,4 +16,4 @@ returns-2 c = gap-fine (gapOf (c .before .before .before .args .ended) (c .befor
 pub skarrowith-gap-spec : {M : Type 1} → statement M
 skarrowith-gap-spec =
     tie.close
-    (tie.spec gap-requires enum-known-gap cast-result add-result enum-told returns returns-2)
+    (tie.spec (λ c κs. search needs) (λ c. search needs) (λ c. search needs) (λ c. search needs) (λ c. search needs) returns returns-2)

@@ -6,32 +6,11 @@ use Rattle.host_bench.proofs.Laws.CallLaws.{wake-refused, wake-written}
 use Rattle.host_bench.proofs.skarrowith_write_wake.Statement.{statement}
 use Rattle.host_bench.proofs.skarrowith_write_wake.Tie as tie
 
-write-wake-requires : tie.Need-write-wake-requires
-write-wake-requires c κs = search needs
-
-enum-known-wake : tie.Need-enum-known-wake
-enum-known-wake c = search needs
-
-cast-result : tie.Need-cast-result
-cast-result c = search needs
-
-add-result : tie.Need-add-result
-add-result c = search needs
-
-enum-told : tie.Need-enum-told
-enum-told c = search needs
-
-same-length : tie.Need-same-length
-same-length c = search needs
-
 returns : tie.Need-returns
 returns c = wake-refused (now (c .before .before .before .before .before .before .before .before .args .out))
     (wakeOf (c .before .before .before .before .before .before .before .before .args .count)
     (now (c .before .before .before .before .before .before .before .before .args .out))) (c .before .before .before .before .before .write-wake .ensures
     .0) (c .before .before .before .before .before .write-wake .ensures .1) (c .before .wake .given .1)
-
-same-length-2 : tie.Need-same-length-2
-same-length-2 c = search needs
 
 returns-2 : tie.Need-returns-2
 returns-2 c = wake-written (now (c .before .before .before .before .before .before .before .args .out))
@@ -42,12 +21,12 @@ pub skarrowith-write-wake-spec : {M : Type 1} → statement M
 skarrowith-write-wake-spec =
     tie.close
     (tie.spec
-    write-wake-requires
-    enum-known-wake
-    cast-result
-    add-result
-    enum-told
-    same-length
+    (λ c κs. search needs)
+    (λ c. search needs)
+    (λ c. search needs)
+    (λ c. search needs)
+    (λ c. search needs)
+    (λ c. search needs)
     returns
-    same-length-2
+    (λ c. search needs)
     returns-2)

@@ -9,21 +9,6 @@ use Rattle.host_bundle.proofs.Laws.Lent.{gives-value, gives-number}
 use Rattle.host_bundle.proofs.skarrowith_bundle_check.Statement.{statement}
 use Rattle.host_bundle.proofs.skarrowith_bundle_check.Tie as tie
 
-check-requires : tie.Need-check-requires
-check-requires c κs = search needs
-
-enum-known-count : tie.Need-enum-known-count
-enum-known-count c = search needs
-
-enum-known-number : tie.Need-enum-known-number
-enum-known-number c = search needs
-
-cast-result : tie.Need-cast-result
-cast-result c = search needs
-
-add-result : tie.Need-add-result
-add-result c = search needs
-
 returns : tie.Need-returns
 returns c =
     let b = now (c .before .before .before .before .before .args .bundle) in
@@ -40,10 +25,10 @@ pub skarrowith-bundle-check-spec : {M : Type 1} → statement M
 skarrowith-bundle-check-spec =
     tie.close
     (tie.spec
-    check-requires
-    enum-known-count
-    enum-known-number
-    cast-result
-    add-result
+    (λ c κs. search needs)
+    (λ c. search needs)
+    (λ c. search needs)
+    (λ c. search needs)
+    (λ c. search needs)
     returns
     returns-2)

@@ -5,21 +5,6 @@ use Rattle.host_capture.proofs.Laws.Calls.{tells}
 use Rattle.host_capture.proofs.skarrowith_line_length.Statement.{statement}
 use Rattle.host_capture.proofs.skarrowith_line_length.Tie as tie
 
-line-length-requires : tie.Need-line-length-requires
-line-length-requires c κs = search needs
-
-enum-known-n : tie.Need-enum-known-n
-enum-known-n c = search needs
-
-enum-told : tie.Need-enum-told
-enum-told c = search needs
-
-enum-told-2 : tie.Need-enum-told-2
-enum-told-2 c = search needs
-
-add-result : tie.Need-add-result
-add-result c = search needs
-
 returns : tie.Need-returns
 returns c = tells (now (c .before .before .before .before .before .args .length)) (c .before .before .before .line-length .ensures) (c .before .n .given .1)
 
@@ -33,11 +18,11 @@ pub skarrowith-line-length-spec : {M : Type 1} → statement M
 skarrowith-line-length-spec =
     tie.close
     (tie.spec
-    line-length-requires
-    enum-known-n
-    enum-told
-    enum-told-2
-    add-result
+    (λ c κs. search needs)
+    (λ c. search needs)
+    (λ c. search needs)
+    (λ c. search needs)
+    (λ c. search needs)
     returns
     returns-2
     returns-3)

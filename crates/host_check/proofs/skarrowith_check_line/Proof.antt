@@ -6,17 +6,8 @@ use Rattle.host_check.proofs.Laws.NumberLaws.{odd-number, even-number}
 use Rattle.host_check.proofs.skarrowith_check_line.Statement.{statement}
 use Rattle.host_check.proofs.skarrowith_check_line.Tie as tie
 
-add-result : tie.Need-add-result
-add-result c = search needs
-
 returns : tie.Need-returns
 returns c = odd-number (now (c .before .before .args .bytes)) (c .if1 .taken)
-
-outline-of-requires : tie.Need-outline-of-requires
-outline-of-requires c κs = search needs
-
-number-of-requires : tie.Need-number-of-requires
-number-of-requires c κs = search needs
 
 returns-2 : tie.Need-returns-2
 returns-2 c = c .number-of .ensures ∙ even-number (now (c .before .before .before .before .args .bytes)) (c .before .before .if1 .left)
@@ -24,4 +15,4 @@ returns-2 c = c .number-of .ensures ∙ even-number (now (c .before .before .bef
 
 pub skarrowith-check-line-spec : {M : Type 1} → statement M
 skarrowith-check-line-spec =
-    tie.close (tie.spec add-result returns outline-of-requires number-of-requires returns-2)
+    tie.close (tie.spec (λ c. search needs) returns (λ c κs. search needs) (λ c κs. search needs) returns-2)

@@ -12,18 +12,6 @@ use Rattle.host_cjt_records.proofs.cjt_from.Tie as tie
 returns : tie.Need-returns
 returns c = sym (ap cjtShown (cjt-size (now (c .before .before .args .b)) (c .if1 .taken)))
 
-cjt-in-requires : tie.Need-cjt-in-requires
-cjt-in-requires c κs = search needs
-
-cjt-bytes-requires : tie.Need-cjt-bytes-requires
-cjt-bytes-requires c κs = search needs
-
-slice-aggregate-is-same : tie.Need-slice-aggregate-is-same
-slice-aggregate-is-same c = search needs
-
-is-same-requires : tie.Need-is-same-requires
-is-same-requires c κs = search needs
-
 returns-2 : tie.Need-returns-2
 returns-2 c = sym (ap cjtShown (record-same cjtBytes cjtIn (now (c .before .before .before .before .before .before .before .args .b))
     (c .before .before .before .before .cjt-in .ensures) (c .before .before .before .cjt-bytes .ensures) (c .before .is-same .ensures) (c .if2 .taken)))
@@ -37,9 +25,9 @@ cjt-from-spec =
     tie.close
     (tie.spec
     returns
-    cjt-in-requires
-    cjt-bytes-requires
-    slice-aggregate-is-same
-    is-same-requires
+    (λ c κs. search needs)
+    (λ c κs. search needs)
+    (λ c. search needs)
+    (λ c κs. search needs)
     returns-2
     returns-3)

@@ -4,24 +4,9 @@ use borrow.Author.Needs.{needs}
 use Rattle.host_cjt_records.proofs.cjt_in.Statement.{statement}
 use Rattle.host_cjt_records.proofs.cjt_in.Tie as tie
 
-shared-slice-read-tells : tie.Need-shared-slice-read-tells
-shared-slice-read-tells c = search needs
-
-answer-in-requires : tie.Need-answer-in-requires
-answer-in-requires c κs = search needs
-
 returns : tie.Need-returns
 unfolding cjtIn
 returns c = rw (c .before .if1 .taken, c .answer-in .ensures)
-
-address-in-requires : tie.Need-address-in-requires
-address-in-requires c κs = search needs
-
-shared-slice-read-t5 : tie.Need-shared-slice-read-t5
-shared-slice-read-t5 c = search needs
-
-shared-slice-read-t10 : tie.Need-shared-slice-read-t10
-shared-slice-read-t10 c = search needs
 
 returns-2 : tie.Need-returns-2
 unfolding cjtIn
@@ -31,10 +16,10 @@ pub cjt-in-spec : {M : Type 1} → statement M
 cjt-in-spec =
     tie.close
     (tie.spec
-    shared-slice-read-tells
-    answer-in-requires
+    (λ c. search needs)
+    (λ c κs. search needs)
     returns
-    address-in-requires
-    shared-slice-read-t5
-    shared-slice-read-t10
+    (λ c κs. search needs)
+    (λ c. search needs)
+    (λ c. search needs)
     returns-2)

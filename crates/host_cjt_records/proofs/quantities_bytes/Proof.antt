@@ -19,32 +19,8 @@ abbrev μ-loop : tie.MeasureT-loop
 loop-holds : tie.Need-loop-holds Inv-loop μ-loop
 loop-holds c = (pieced-none quantity-length (search needs), search needs)
 
-mul-quantity-bytes : tie.Need-mul-quantity-bytes Inv-loop μ-loop
-mul-quantity-bytes c = search needs
-
-array-copy-out-quantity-bytes : tie.Need-array-copy-out-quantity-bytes Inv-loop μ-loop
-array-copy-out-quantity-bytes c = search needs
-
-quantity-bytes-requires : tie.Need-quantity-bytes-requires Inv-loop μ-loop
-quantity-bytes-requires c κs = search needs
-
 slice-aggregate-lay : tie.Need-slice-aggregate-lay Inv-loop μ-loop
 slice-aggregate-lay c = sym (pieced-length (c .before .before .before .before .loop .inv .0))
-
-mul-lay : tie.Need-mul-lay Inv-loop μ-loop
-mul-lay c = search needs
-
-slice-aggregate-lay-2 : tie.Need-slice-aggregate-lay-2 Inv-loop μ-loop
-slice-aggregate-lay-2 c = search needs
-
-lay-requires : tie.Need-lay-requires Inv-loop μ-loop
-lay-requires c κs = search needs
-
-add-i : tie.Need-add-i Inv-loop μ-loop
-add-i c = search needs
-
-loop-less : tie.Need-loop-less Inv-loop μ-loop
-loop-less c = search needs
 
 loop-again : tie.Need-loop-again Inv-loop μ-loop
 loop-again c =
@@ -61,14 +37,14 @@ quantities-bytes-spec =
     Inv-loop
     μ-loop
     loop-holds
-    mul-quantity-bytes
-    array-copy-out-quantity-bytes
-    quantity-bytes-requires
+    (λ c. search needs)
+    (λ c. search needs)
+    (λ c κs. search needs)
     slice-aggregate-lay
-    mul-lay
-    slice-aggregate-lay-2
-    lay-requires
-    add-i
-    loop-less
+    (λ c. search needs)
+    (λ c. search needs)
+    (λ c κs. search needs)
+    (λ c. search needs)
+    (λ c. search needs)
     loop-again
     returns)

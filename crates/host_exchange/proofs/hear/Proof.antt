@@ -5,27 +5,6 @@ use Rattle.host_exchange.proofs.Laws.CallLaws.{heard-well, heard-other,
 use Rattle.host_exchange.proofs.hear.Statement.{statement}
 use Rattle.host_exchange.proofs.hear.Tie as tie
 
-heard-requires : tie.Need-heard-requires
-heard-requires c κs = search needs
-
-keep-requires : tie.Need-keep-requires
-keep-requires c κs = search needs
-
-telegram-bytes-requires : tie.Need-telegram-bytes-requires
-telegram-bytes-requires c κs = search needs
-
-slice-aggregate-store : tie.Need-slice-aggregate-store
-slice-aggregate-store c = search needs
-
-store-requires : tie.Need-store-requires
-store-requires c κs = search needs
-
-same-length : tie.Need-same-length
-same-length c = search needs
-
-same-length-2 : tie.Need-same-length-2
-same-length-2 c = search needs
-
 returns : tie.Need-returns
 returns c =
     let a = c .before .before .before .before .before .before .before .before .before .before .before .before .before .before .before .args in
@@ -34,9 +13,6 @@ returns c =
     (heard-well (c .before .before .before .before .before .before .before .before .before .keep .ensures)
     (c .before .before .before .before .before .before .if1 .taken) (c .before .before .before .before .before .telegram-bytes .ensures) (search needs)
     (c .before .before .store .ensures .1))
-
-same-length-3 : tie.Need-same-length-3
-same-length-3 c = search needs
 
 returns-2 : tie.Need-returns-2
 returns-2 c =
@@ -48,13 +24,13 @@ pub hear-spec : {M : Type 1} → statement M
 hear-spec =
     tie.close
     (tie.spec
-    heard-requires
-    keep-requires
-    telegram-bytes-requires
-    slice-aggregate-store
-    store-requires
-    same-length
-    same-length-2
+    (λ c κs. search needs)
+    (λ c κs. search needs)
+    (λ c κs. search needs)
+    (λ c. search needs)
+    (λ c κs. search needs)
+    (λ c. search needs)
+    (λ c. search needs)
     returns
-    same-length-3
+    (λ c. search needs)
     returns-2)

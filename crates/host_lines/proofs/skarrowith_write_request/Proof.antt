@@ -5,18 +5,6 @@ use Rattle.host_lines.proofs.Laws.CallLaws.{request-line}
 use Rattle.host_lines.proofs.skarrowith_write_request.Statement.{statement}
 use Rattle.host_lines.proofs.skarrowith_write_request.Tie as tie
 
-kind-in-requires : tie.Need-kind-in-requires
-kind-in-requires c κs = search needs
-
-plain-requires : tie.Need-plain-requires
-plain-requires c κs = search needs
-
-write-requires : tie.Need-write-requires
-write-requires c κs = search needs
-
-same-length : tie.Need-same-length
-same-length c = search needs
-
 returns : tie.Need-returns
 returns c = let args = c .before .before .before .before .before .before .before .before .args in request-line (args .kind) (args .address) (args .method)
     (now (args .out)) (c .before .before .before .before .before .before .kind-in .ensures) (c .before .before .before .before .before .plain .ensures)
@@ -24,4 +12,4 @@ returns c = let args = c .before .before .before .before .before .before .before
 
 pub skarrowith-write-request-spec : {M : Type 1} → statement M
 skarrowith-write-request-spec =
-    tie.close (tie.spec kind-in-requires plain-requires write-requires same-length returns)
+    tie.close (tie.spec (λ c κs. search needs) (λ c κs. search needs) (λ c κs. search needs) (λ c. search needs) returns)

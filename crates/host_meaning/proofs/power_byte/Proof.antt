@@ -10,24 +10,15 @@ returns : tie.Need-returns
 unfolding powerOf
 returns c = rw (c .if1 .taken) (byte-of-bits (c .before .args .unit))
 
-less-requires : tie.Need-less-requires
-less-requires c κs = search needs
-
 returns-2 : tie.Need-returns-2
 unfolding powerOf
 returns-2 c = rw (← c .before .before .before .pre, c .before .before .if1 .left, c .before .if2 .taken) (c .less .ensures)
-
-less-requires-2 : tie.Need-less-requires-2
-less-requires-2 c κs = search needs
 
 returns-3 : tie.Need-returns-3
 unfolding powerOf
 returns-3 c =
     rw (← c .before .before .before .before .pre, c .before .before .before .if1 .left, c .before .before .if2 .left, c .before .if3 .taken)
     (c .less2 .ensures)
-
-less-requires-3 : tie.Need-less-requires-3
-less-requires-3 c κs = search needs
 
 returns-4 : tie.Need-returns-4
 unfolding powerOf
@@ -55,10 +46,10 @@ power-byte-spec =
     tie.close
     (tie.spec
     returns
-    less-requires
+    (λ c κs. search needs)
     returns-2
-    less-requires-2
+    (λ c κs. search needs)
     returns-3
-    less-requires-3
+    (λ c κs. search needs)
     returns-4
     returns-5)

@@ -7,21 +7,6 @@ use borrow.Author.Needs.{needs}
 use Rattle.host_meter.proofs.hear.Statement.{statement}
 use Rattle.host_meter.proofs.hear.Tie as tie
 
-heard-requires : tie.Need-heard-requires
-heard-requires c κs = search needs
-
-say-requires : tie.Need-say-requires
-say-requires c κs = search needs
-
-keep-step-requires : tie.Need-keep-step-requires
-keep-step-requires c κs = search needs
-
-same-length : tie.Need-same-length
-same-length c = search needs
-
-same-length-2 : tie.Need-same-length-2
-same-length-2 c = search needs
-
 returns : tie.Need-returns
 returns c =
     let a = c .before .before .before .before .before .before .before .before .before .before .before .before .args in
@@ -33,9 +18,9 @@ pub hear-spec : {M : Type 1} → statement M
 hear-spec =
     tie.close
     (tie.spec
-    heard-requires
-    say-requires
-    keep-step-requires
-    same-length
-    same-length-2
+    (λ c κs. search needs)
+    (λ c κs. search needs)
+    (λ c κs. search needs)
+    (λ c. search needs)
+    (λ c. search needs)
     returns)

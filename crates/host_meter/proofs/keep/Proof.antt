@@ -25,23 +25,8 @@ kept-whole b m Silence one n h l = all-copied meterBytes b m n h l
 kept-whole b m Says one n h l = all-copied meterBytes b m n h l
 kept-whole b m (Refused k) one n h l = absurd (miss (0 ∷ 1 ∷ []) 2 tt one)
 
-enum-told : tie.Need-enum-told
-enum-told c = search needs
-
 returns : tie.Need-returns
 returns c = rw (c .enum-told .given .1)
-
-meter-bytes-requires : tie.Need-meter-bytes-requires
-meter-bytes-requires c κs = search needs
-
-slice-aggregate-store : tie.Need-slice-aggregate-store
-slice-aggregate-store c = search needs
-
-store-requires : tie.Need-store-requires
-store-requires c κs = search needs
-
-same-length : tie.Need-same-length
-same-length c = search needs
 
 returns-2 : tie.Need-returns-2
 returns-2 c =
@@ -53,10 +38,10 @@ pub keep-spec : {M : Type 1} → statement M
 keep-spec =
     tie.close
     (tie.spec
-    enum-told
+    (λ c. search needs)
     returns
-    meter-bytes-requires
-    slice-aggregate-store
-    store-requires
-    same-length
+    (λ c κs. search needs)
+    (λ c. search needs)
+    (λ c κs. search needs)
+    (λ c. search needs)
     returns-2)

@@ -21,21 +21,6 @@ said-nothing out x Silence one = refl
 said-nothing out x (Refused n) one = refl
 said-nothing out x Says one = absurd (miss (0 ∷ 2 ∷ []) 1 tt one)
 
-enum-told : tie.Need-enum-told
-enum-told c = search needs
-
-telegram-bytes-requires : tie.Need-telegram-bytes-requires
-telegram-bytes-requires c κs = search needs
-
-slice-aggregate-store : tie.Need-slice-aggregate-store
-slice-aggregate-store c = search needs
-
-store-requires : tie.Need-store-requires
-store-requires c κs = search needs
-
-same-length : tie.Need-same-length
-same-length c = search needs
-
 returns : tie.Need-returns
 returns c =
     let a = c .before .before .before .before .before .before .before .before .before .args in
@@ -49,10 +34,10 @@ pub say-spec : {M : Type 1} → statement M
 say-spec =
     tie.close
     (tie.spec
-    enum-told
-    telegram-bytes-requires
-    slice-aggregate-store
-    store-requires
-    same-length
+    (λ c. search needs)
+    (λ c κs. search needs)
+    (λ c. search needs)
+    (λ c κs. search needs)
+    (λ c. search needs)
     returns
     returns-2)

@@ -5,40 +5,16 @@ use borrow.Author.Needs.{needs}
 use Rattle.host_meter.proofs.skarrowith_meter_measure.Statement.{statement}
 use Rattle.host_meter.proofs.skarrowith_meter_measure.Tie as tie
 
-meter-from-requires : tie.Need-meter-from-requires
-meter-from-requires c κs = search needs
-
-enum-known-outcome : tie.Need-enum-known-outcome
-enum-known-outcome c = search needs
-
-cast-result : tie.Need-cast-result
-cast-result c = search needs
-
-add-result : tie.Need-add-result
-add-result c = search needs
-
-same-length : tie.Need-same-length
-same-length c = search needs
-
 returns : tie.Need-returns
 returns c =
     let a = c .before .before .before .before .before .before .args in
     measures-none (now (a .kept)) (c .before .before .before .meter-from .ensures) (a .volume) (a .energy) (record { 0 = a .t })
     (c .before .outcome .given .1)
 
-enum-told : tie.Need-enum-told
-enum-told c = search needs
-
-measure-requires : tie.Need-measure-requires
-measure-requires c κs = search needs
-
 keep-step-requires : tie.Need-keep-step-requires
 keep-step-requires c κs =
     room (now (c .before .before .before .before .before .before .before .before .args .kept))
     (c .before .before .before .before .before .meter-from .ensures) (c .before .before .before .enum-told .given .1)
-
-same-length-2 : tie.Need-same-length-2
-same-length-2 c = search needs
 
 returns-2 : tie.Need-returns-2
 returns-2 c =
@@ -51,14 +27,14 @@ pub skarrowith-meter-measure-spec : {M : Type 1} → statement M
 skarrowith-meter-measure-spec =
     tie.close
     (tie.spec
-    meter-from-requires
-    enum-known-outcome
-    cast-result
-    add-result
-    same-length
+    (λ c κs. search needs)
+    (λ c. search needs)
+    (λ c. search needs)
+    (λ c. search needs)
+    (λ c. search needs)
     returns
-    enum-told
-    measure-requires
+    (λ c. search needs)
+    (λ c κs. search needs)
     keep-step-requires
-    same-length-2
+    (λ c. search needs)
     returns-2)

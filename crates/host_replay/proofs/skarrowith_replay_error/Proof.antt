@@ -6,34 +6,10 @@ use borrow.Author.Needs.{needs}
 use Rattle.host_replay.proofs.skarrowith_replay_error.Statement.{statement}
 use Rattle.host_replay.proofs.skarrowith_replay_error.Tie as tie
 
-add-result : tie.Need-add-result
-add-result c = search needs
-
 returns : tie.Need-returns
 returns c =
     let a = c .before .before .args in
     replay-short (a .bundle .now) (a .position) (a .s1) (a .s2) (a .elapsed) (a .tenths .now) (c .if1 .taken)
-
-replay-requires : tie.Need-replay-requires
-replay-requires c κs = search needs
-
-enum-known-error : tie.Need-enum-known-error
-enum-known-error c = search needs
-
-slice-set-from-error : tie.Need-slice-set-from-error
-slice-set-from-error c = search needs
-
-enum-known-n : tie.Need-enum-known-n
-enum-known-n c = search needs
-
-cast-result : tie.Need-cast-result
-cast-result c = search needs
-
-add-result-2 : tie.Need-add-result-2
-add-result-2 c = search needs
-
-same-length : tie.Need-same-length
-same-length c = search needs
 
 returns-2 : tie.Need-returns-2
 returns-2 c =
@@ -54,14 +30,14 @@ pub skarrowith-replay-error-spec : {M : Type 1} → statement M
 skarrowith-replay-error-spec =
     tie.close
     (tie.spec
-    add-result
+    (λ c. search needs)
     returns
-    replay-requires
-    enum-known-error
-    slice-set-from-error
-    enum-known-n
-    cast-result
-    add-result-2
-    same-length
+    (λ c κs. search needs)
+    (λ c. search needs)
+    (λ c. search needs)
+    (λ c. search needs)
+    (λ c. search needs)
+    (λ c. search needs)
+    (λ c. search needs)
     returns-2
     returns-3)

@@ -8,21 +8,6 @@ use Rattle.host_resistance.proofs.Laws.Calls.{leaves-value, leaves-numb
 use Rattle.host_resistance.proofs.skarrowith_resistance.Statement.{statement}
 use Rattle.host_resistance.proofs.skarrowith_resistance.Tie as tie
 
-resistance-of-requires : tie.Need-resistance-of-requires
-resistance-of-requires c κs = search needs
-
-enum-known-found : tie.Need-enum-known-found
-enum-known-found c = search needs
-
-enum-known-number : tie.Need-enum-known-number
-enum-known-number c = search needs
-
-cast-result : tie.Need-cast-result
-cast-result c = search needs
-
-add-result : tie.Need-add-result
-add-result c = search needs
-
 returns : tie.Need-returns
 returns c =
     let answer = resistanceOf (c .before .before .before .before .args .hundredths) in
@@ -39,10 +24,10 @@ pub skarrowith-resistance-spec : {M : Type 1} → statement M
 skarrowith-resistance-spec =
     tie.close
     (tie.spec
-    resistance-of-requires
-    enum-known-found
-    enum-known-number
-    cast-result
-    add-result
+    (λ c κs. search needs)
+    (λ c. search needs)
+    (λ c. search needs)
+    (λ c. search needs)
+    (λ c. search needs)
     returns
     returns-2)

@@ -8,21 +8,6 @@ use Rattle.host_resistance.proofs.Laws.Calls.{leaves-value, leaves-numb
 use Rattle.host_resistance.proofs.skarrowith_temperature.Statement.{statement}
 use Rattle.host_resistance.proofs.skarrowith_temperature.Tie as tie
 
-temperature-of-requires : tie.Need-temperature-of-requires
-temperature-of-requires c κs = search needs
-
-enum-known-found : tie.Need-enum-known-found
-enum-known-found c = search needs
-
-enum-known-number : tie.Need-enum-known-number
-enum-known-number c = search needs
-
-cast-result : tie.Need-cast-result
-cast-result c = search needs
-
-add-result : tie.Need-add-result
-add-result c = search needs
-
 returns : tie.Need-returns
 returns c =
     let answer = temperatureOf (c .before .before .before .before .args .milliohm) in
@@ -39,10 +24,10 @@ pub skarrowith-temperature-spec : {M : Type 1} → statement M
 skarrowith-temperature-spec =
     tie.close
     (tie.spec
-    temperature-of-requires
-    enum-known-found
-    enum-known-number
-    cast-result
-    add-result
+    (λ c κs. search needs)
+    (λ c. search needs)
+    (λ c. search needs)
+    (λ c. search needs)
+    (λ c. search needs)
     returns
     returns-2)

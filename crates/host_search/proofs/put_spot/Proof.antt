@@ -6,21 +6,6 @@ use borrow.Author.Needs.{needs}
 use Rattle.host_search.proofs.put_spot.Statement.{statement}
 use Rattle.host_search.proofs.put_spot.Tie as tie
 
-slice-aggregate-put-record : tie.Need-slice-aggregate-put-record
-slice-aggregate-put-record c = search needs
-
-slice-aggregate-put-record-2 : tie.Need-slice-aggregate-put-record-2
-slice-aggregate-put-record-2 c = search needs
-
-slice-aggregate-put-record-3 : tie.Need-slice-aggregate-put-record-3
-slice-aggregate-put-record-3 c = search needs
-
-put-record-requires : tie.Need-put-record-requires
-put-record-requires c κs = search needs
-
-same-length : tie.Need-same-length
-same-length c = search needs
-
 returns : tie.Need-returns
 returns c =
     let args = c .before .before .before .before .before .before .before .before .args in
@@ -30,9 +15,9 @@ pub put-spot-spec : {M : Type 1} → statement M
 put-spot-spec =
     tie.close
     (tie.spec
-    slice-aggregate-put-record
-    slice-aggregate-put-record-2
-    slice-aggregate-put-record-3
-    put-record-requires
-    same-length
+    (λ c. search needs)
+    (λ c. search needs)
+    (λ c. search needs)
+    (λ c κs. search needs)
+    (λ c. search needs)
     returns)

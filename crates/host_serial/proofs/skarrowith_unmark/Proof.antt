@@ -5,12 +5,6 @@ use Rattle.serial_marks.specs.declared.Unmarked.{Unmarked}
 use Rattle.host_serial.proofs.skarrowith_unmark.Statement.{statement}
 use Rattle.host_serial.proofs.skarrowith_unmark.Tie as tie
 
-unmark-requires : tie.Need-unmark-requires
-unmark-requires c κs = search needs
-
-same-length : tie.Need-same-length
-same-length c = search needs
-
 returns : tie.Need-returns
 returns c =
     let e = c .before .before .unmark .ensures in
@@ -22,4 +16,4 @@ returns c =
     }
 
 pub skarrowith-unmark-spec : {M : Type 1} → statement M
-skarrowith-unmark-spec = tie.close (tie.spec unmark-requires same-length returns)
+skarrowith-unmark-spec = tie.close (tie.spec (λ c κs. search needs) (λ c. search needs) returns)

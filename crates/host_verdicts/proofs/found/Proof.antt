@@ -6,9 +6,6 @@ use borrow.Author.Needs.{needs}
 use Rattle.host_verdicts.proofs.found.Statement.{statement}
 use Rattle.host_verdicts.proofs.found.Tie as tie
 
-enum-told : tie.Need-enum-told
-enum-told c = search needs
-
 returns : tie.Need-returns
 returns c =
     let back4 = c .before .before .before .before in
@@ -24,9 +21,6 @@ array-copy-out-ruling c =
     let back5 = c .before .before .before .before .before in
     omega (arith, back5 .pre .few, leb-false (back5 .args .all .count) (back5 .args .i) (c .before .if1 .left))
 
-enum-known-outcome : tie.Need-enum-known-outcome
-enum-known-outcome c = search needs
-
 returns-2 : tie.Need-returns-2
 returns-2 c =
     let back4 = c .before .before .before .before in
@@ -41,10 +35,10 @@ pub found-spec : {M : Type 1} → statement M
 found-spec =
     tie.close
     (tie.spec
-    enum-told
+    (λ c. search needs)
     returns
     mul-ruling
     array-copy-out-ruling
-    enum-known-outcome
+    (λ c. search needs)
     returns-2
     returns-3)

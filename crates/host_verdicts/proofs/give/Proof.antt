@@ -7,14 +7,8 @@ use borrow.Author.Needs.{needs}
 use Rattle.host_verdicts.proofs.give.Statement.{statement}
 use Rattle.host_verdicts.proofs.give.Tie as tie
 
-enum-told : tie.Need-enum-told
-enum-told c = search needs
-
 mul-short : tie.Need-mul-short
 mul-short c = omega (arith, c .before .before .before .pre .few)
-
-add-result : tie.Need-add-result
-add-result c = search needs
 
 returns : tie.Need-returns
 returns c =
@@ -25,18 +19,6 @@ put-records-requires : tie.Need-put-records-requires
 put-records-requires c κs =
     let back6 = c .before .before .before .before .before .before in
     (back6 .pre .few, ltb-false _ _ (c .before .before .if1 .left))
-
-enum-known-outcome : tie.Need-enum-known-outcome
-enum-known-outcome c = search needs
-
-cast-result : tie.Need-cast-result
-cast-result c = search needs
-
-add-result-2 : tie.Need-add-result-2
-add-result-2 c = search needs
-
-same-length : tie.Need-same-length
-same-length c = search needs
 
 returns-2 : tie.Need-returns-2
 returns-2 c =
@@ -54,14 +36,14 @@ pub give-spec : {M : Type 1} → statement M
 give-spec =
     tie.close
     (tie.spec
-    enum-told
+    (λ c. search needs)
     mul-short
-    add-result
+    (λ c. search needs)
     returns
     put-records-requires
-    enum-known-outcome
-    cast-result
-    add-result-2
-    same-length
+    (λ c. search needs)
+    (λ c. search needs)
+    (λ c. search needs)
+    (λ c. search needs)
     returns-2
     returns-3)

@@ -22,30 +22,6 @@ loop-holds c =
     let whole : length (back .args .t1) ≡ 512 = search needs in
     puts-none (back .args .t1) whole (back .pre .0) (back .pre .1)
 
-mul-ruling : tie.Need-mul-ruling Inv-loop μ-loop
-mul-ruling c = search needs
-
-array-copy-out-ruling : tie.Need-array-copy-out-ruling Inv-loop μ-loop
-array-copy-out-ruling c = search needs
-
-record-of-requires : tie.Need-record-of-requires Inv-loop μ-loop
-record-of-requires c κs = search needs
-
-mul-lay : tie.Need-mul-lay Inv-loop μ-loop
-mul-lay c = search needs
-
-slice-aggregate-lay : tie.Need-slice-aggregate-lay Inv-loop μ-loop
-slice-aggregate-lay c = search needs
-
-lay-requires : tie.Need-lay-requires Inv-loop μ-loop
-lay-requires c κs = search needs
-
-add-i : tie.Need-add-i Inv-loop μ-loop
-add-i c = search needs
-
-loop-less : tie.Need-loop-less Inv-loop μ-loop
-loop-less c = search needs
-
 loop-again : tie.Need-loop-again Inv-loop μ-loop
 loop-again c =
     let back7 = c .before .before .before .before .before .before .before in
@@ -70,14 +46,14 @@ put-records-spec =
     Inv-loop
     μ-loop
     loop-holds
-    mul-ruling
-    array-copy-out-ruling
-    record-of-requires
-    mul-lay
-    slice-aggregate-lay
-    lay-requires
-    add-i
-    loop-less
+    (λ c. search needs)
+    (λ c. search needs)
+    (λ c κs. search needs)
+    (λ c. search needs)
+    (λ c. search needs)
+    (λ c κs. search needs)
+    (λ c. search needs)
+    (λ c. search needs)
     loop-again
     same-length
     returns)

@@ -6,17 +6,11 @@ use borrow.Author.Needs.{needs}
 use Rattle.host_verdicts.proofs.skarrowith_contents_verdicts.Statement.{statement}
 use Rattle.host_verdicts.proofs.skarrowith_contents_verdicts.Tie as tie
 
-verdicts-kept-requires : tie.Need-verdicts-kept-requires
-verdicts-kept-requires c κs = search needs
-
 give-requires : tie.Need-give-requires
 give-requires c κs =
     let back2 = c .before .before in
     let a = back2 .before .before .before .before .args in
     full-kept (now (a .contents)) (now (a .bundle)) (back2 .verdicts-kept .ensures)
-
-same-length : tie.Need-same-length
-same-length c = search needs
 
 returns : tie.Need-returns
 returns c =
@@ -28,4 +22,4 @@ returns c =
 
 pub skarrowith-contents-verdicts-spec : {M : Type 1} → statement M
 skarrowith-contents-verdicts-spec =
-    tie.close (tie.spec verdicts-kept-requires give-requires same-length returns)
+    tie.close (tie.spec (λ c κs. search needs) give-requires (λ c. search needs) returns)

@@ -6,41 +6,11 @@ use borrow.Author.Needs.{needs}
 use Rattle.host_verdicts.proofs.skarrowith_verdict.Statement.{statement}
 use Rattle.host_verdicts.proofs.skarrowith_verdict.Tie as tie
 
-add-result : tie.Need-add-result
-add-result c = search needs
-
 returns : tie.Need-returns
 returns c = let a = c .before .before .before .args in one-short (verdictsIn (now (a .bundle))) (a .i) (now (a .verdict)) (c .if1 .taken)
 
-verdicts-in-requires : tie.Need-verdicts-in-requires
-verdicts-in-requires c κs = search needs
-
 found-requires : tie.Need-found-requires
 found-requires c κs = full-in (now (c .before .before .before .before .args .bundle)) (c .verdicts-in .ensures)
-
-enum-known-v : tie.Need-enum-known-v
-enum-known-v c = search needs
-
-record-of-requires : tie.Need-record-of-requires
-record-of-requires c κs = search needs
-
-slice-aggregate-store : tie.Need-slice-aggregate-store
-slice-aggregate-store c = search needs
-
-store-requires : tie.Need-store-requires
-store-requires c κs = search needs
-
-enum-known-number : tie.Need-enum-known-number
-enum-known-number c = search needs
-
-cast-result : tie.Need-cast-result
-cast-result c = search needs
-
-add-result-2 : tie.Need-add-result-2
-add-result-2 c = search needs
-
-same-length : tie.Need-same-length
-same-length c = search needs
 
 returns-2 : tie.Need-returns-2
 returns-2 c =
@@ -62,17 +32,17 @@ pub skarrowith-verdict-spec : {M : Type 1} → statement M
 skarrowith-verdict-spec =
     tie.close
     (tie.spec
-    add-result
+    (λ c. search needs)
     returns
-    verdicts-in-requires
+    (λ c κs. search needs)
     found-requires
-    enum-known-v
-    record-of-requires
-    slice-aggregate-store
-    store-requires
-    enum-known-number
-    cast-result
-    add-result-2
-    same-length
+    (λ c. search needs)
+    (λ c κs. search needs)
+    (λ c. search needs)
+    (λ c κs. search needs)
+    (λ c. search needs)
+    (λ c. search needs)
+    (λ c. search needs)
+    (λ c. search needs)
     returns-2
     returns-3)

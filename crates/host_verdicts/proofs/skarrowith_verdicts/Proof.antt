@@ -6,16 +6,10 @@ use borrow.Author.Needs.{needs}
 use Rattle.host_verdicts.proofs.skarrowith_verdicts.Statement.{statement}
 use Rattle.host_verdicts.proofs.skarrowith_verdicts.Tie as tie
 
-verdicts-in-requires : tie.Need-verdicts-in-requires
-verdicts-in-requires c κs = search needs
-
 give-requires : tie.Need-give-requires
 give-requires c κs =
     let back2 = c .before .before in
     full-in (now (back2 .before .before .before .args .bundle)) (back2 .verdicts-in .ensures)
-
-same-length : tie.Need-same-length
-same-length c = search needs
 
 returns : tie.Need-returns
 returns c =
@@ -26,4 +20,4 @@ returns c =
 
 pub skarrowith-verdicts-spec : {M : Type 1} → statement M
 skarrowith-verdicts-spec =
-    tie.close (tie.spec verdicts-in-requires give-requires same-length returns)
+    tie.close (tie.spec (λ c κs. search needs) give-requires (λ c. search needs) returns)

@@ -20,18 +20,6 @@ loop-holds c = skipped-none (c .args .words .now) (c .args .n)
 returns : tie.Need-returns Inv-loop μ-loop
 returns c = skipped-here (c .before .before .loop .inv) (c .if1 .taken)
 
-shared-slice-read-if2 : tie.Need-shared-slice-read-if2 Inv-loop μ-loop
-shared-slice-read-if2 c = search needs
-
-sub-left : tie.Need-sub-left Inv-loop μ-loop
-sub-left c = search needs
-
-add-i : tie.Need-add-i Inv-loop μ-loop
-add-i c = search needs
-
-loop-less : tie.Need-loop-less Inv-loop μ-loop
-loop-less c = search needs
-
 loop-again : tie.Need-loop-again Inv-loop μ-loop
 loop-again c =
     let inv = c .before .before .before .before .loop .inv in
@@ -51,9 +39,9 @@ row-start-spec =
     μ-loop
     loop-holds
     returns
-    shared-slice-read-if2
-    sub-left
-    add-i
-    loop-less
+    (λ c. search needs)
+    (λ c. search needs)
+    (λ c. search needs)
+    (λ c. search needs)
     loop-again
     returns-2)

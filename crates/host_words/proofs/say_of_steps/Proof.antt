@@ -5,18 +5,6 @@ use Rattle.host_words.specs.Refusals.{textOf, wordsIn}
 use Rattle.host_words.proofs.say_of_steps.Statement.{statement}
 use Rattle.host_words.proofs.say_of_steps.Tie as tie
 
-slice-aggregate-say-row : tie.Need-slice-aggregate-say-row
-slice-aggregate-say-row c = search needs
-
-sub-say-row : tie.Need-sub-say-row
-sub-say-row c = search needs
-
-say-row-requires : tie.Need-say-row-requires
-say-row-requires c κs = search needs
-
-same-length : tie.Need-same-length
-same-length c = search needs
-
 returns : tie.Need-returns
 unfolding block textOf wordsIn
 returns c =
@@ -25,4 +13,4 @@ returns c =
 
 pub say-of-steps-spec : {M : Type 1} → statement M
 say-of-steps-spec =
-    tie.close (tie.spec slice-aggregate-say-row sub-say-row say-row-requires same-length returns)
+    tie.close (tie.spec (λ c. search needs) (λ c. search needs) (λ c κs. search needs) (λ c. search needs) returns)

@@ -8,24 +8,6 @@ use Rattle.host_words.proofs.Laws.Rows.{Located, size-in, size-small, r
 use Rattle.host_words.proofs.say_row.Statement.{statement}
 use Rattle.host_words.proofs.say_row.Tie as tie
 
-row-start-requires : tie.Need-row-start-requires
-row-start-requires c κs = search needs
-
-sub-rest : tie.Need-sub-rest
-sub-rest c = search needs
-
-part-rest-start : tie.Need-part-rest-start
-part-rest-start c = search needs
-
-part-rest-end : tie.Need-part-rest-end
-part-rest-end c = search needs
-
-row-size-requires : tie.Need-row-size-requires
-row-size-requires c κs = search needs
-
-add-result : tie.Need-add-result
-add-result c = search needs
-
 -- the row that the two searches found
 located : (c : tie.After-row-size)
     → Located (c .before .before .before .before .before .args .words .now) (c .before .before .before .before .before .args .n)
@@ -41,9 +23,6 @@ slice-aggregate-say c = sym (size-in (located (c .before .before .before)))
 say-requires : tie.Need-say-requires
 say-requires c κs = omega (arith, size-in (located (c .before .before .before)), size-small (located (c .before .before .before)))
 
-same-length : tie.Need-same-length
-same-length c = search needs
-
 returns-2 : tie.Need-returns-2
 returns-2 c =
     row-said (located (c .before .before .before .before .before .before)) (c .before .before .before .before .before .if1 .left)
@@ -53,14 +32,14 @@ pub say-row-spec : {M : Type 1} → statement M
 say-row-spec =
     tie.close
     (tie.spec
-    row-start-requires
-    sub-rest
-    part-rest-start
-    part-rest-end
-    row-size-requires
-    add-result
+    (λ c κs. search needs)
+    (λ c. search needs)
+    (λ c. search needs)
+    (λ c. search needs)
+    (λ c κs. search needs)
+    (λ c. search needs)
     returns
     slice-aggregate-say
     say-requires
-    same-length
+    (λ c. search needs)
     returns-2)

@@ -6,19 +6,13 @@ use Rattle.listing_column.specs.Columns.{columnOf}
 use Rattle.listing_column.proofs.column_of.Statement.{statement}
 use Rattle.listing_column.proofs.column_of.Tie as tie
 
-is-wake-requires : tie.Need-is-wake-requires
-is-wake-requires c κs = search needs
-
 returns : tie.Need-returns
 unfolding columnOf
 returns c = rw (sym (c .before .is-wake .ensures) ∙ c .if1 .taken)
-
-outline-of-requires : tie.Need-outline-of-requires
-outline-of-requires c κs = search needs
 
 returns-2 : tie.Need-returns-2
 unfolding columnOf
 returns-2 c = rw (sym (c .before .before .is-wake .ensures) ∙ c .before .if1 .left) (ap Reads (c .outline-of .ensures))
 
 pub column-of-spec : {M : Type 1} → statement M
-column-of-spec = tie.close (tie.spec is-wake-requires returns outline-of-requires returns-2)
+column-of-spec = tie.close (tie.spec (λ c κs. search needs) returns (λ c κs. search needs) returns-2)

@@ -6,20 +6,8 @@ use borrow.Author.Needs.{needs}
 use Rattle.listing_text.proofs.list.Statement.{statement}
 use Rattle.listing_text.proofs.list.Tie as tie
 
-write-listing-requires : tie.Need-write-listing-requires
-write-listing-requires c κs = search needs
-
-array-share-prefix-text : tie.Need-array-share-prefix-text
-array-share-prefix-text c = search needs
-
 slice-aggregate-store : tie.Need-slice-aggregate-store
 slice-aggregate-store c = sym (length-take-le (c .before .write-listing .result) (c .before .write-listing .last .1 .0) (c .before .write-listing .ensures .0))
-
-store-requires : tie.Need-store-requires
-store-requires c κs = search needs
-
-same-length : tie.Need-same-length
-same-length c = search needs
 
 returns : tie.Need-returns
 returns c =
@@ -29,9 +17,6 @@ returns c =
     let w = back6 .write-listing in
     lists-not (a .bundle .now) (a .out .now) (w .ensures .1) (w .ensures .2) (c .before .before .before .store .ensures .1)
     (sym (c .before .before .before .store .ensures .0) ∙ c .if1 .taken)
-
-same-length-2 : tie.Need-same-length-2
-same-length-2 c = search needs
 
 returns-2 : tie.Need-returns-2
 returns-2 c =
@@ -46,11 +31,11 @@ pub list-spec : {M : Type 1} → statement M
 list-spec =
     tie.close
     (tie.spec
-    write-listing-requires
-    array-share-prefix-text
+    (λ c κs. search needs)
+    (λ c. search needs)
     slice-aggregate-store
-    store-requires
-    same-length
+    (λ c κs. search needs)
+    (λ c. search needs)
     returns
-    same-length-2
+    (λ c. search needs)
     returns-2)

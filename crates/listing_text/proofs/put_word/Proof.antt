@@ -6,22 +6,10 @@ use borrow.Author.Needs.{needs}
 use Rattle.listing_text.proofs.put_word.Statement.{statement}
 use Rattle.listing_text.proofs.put_word.Tie as tie
 
-word-of-requires : tie.Need-word-of-requires
-word-of-requires c κs = search needs
-
-array-share-prefix-bytes : tie.Need-array-share-prefix-bytes
-array-share-prefix-bytes c = search needs
-
 slice-aggregate-put : tie.Need-slice-aggregate-put
 slice-aggregate-put c =
     let word = c .before .before .before .word-of in
     sym (length-take-le (word .result .size) (word .result .bytes) (omega arith))
-
-put-requires : tie.Need-put-requires
-put-requires c κs = search needs
-
-same-length : tie.Need-same-length
-same-length c = search needs
 
 returns : tie.Need-returns
 returns c = rw (← (c .before .before .before .before .before .before .word-of .ensures .so)) (c .before .before .put .ensures)
@@ -30,9 +18,9 @@ pub put-word-spec : {M : Type 1} → statement M
 put-word-spec =
     tie.close
     (tie.spec
-    word-of-requires
-    array-share-prefix-bytes
+    (λ c κs. search needs)
+    (λ c. search needs)
     slice-aggregate-put
-    put-requires
-    same-length
+    (λ c κs. search needs)
+    (λ c. search needs)
     returns)

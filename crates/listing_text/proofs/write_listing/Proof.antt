@@ -14,18 +14,6 @@ use borrow.Author.Needs.{needs}
 use Rattle.listing_text.proofs.write_listing.Statement.{statement}
 use Rattle.listing_text.proofs.write_listing.Tie as tie
 
-check-requires : tie.Need-check-requires
-check-requires c κs = search needs
-
-enum-known-count : tie.Need-enum-known-count
-enum-known-count c = search needs
-
-slice-aggregate-lay : tie.Need-slice-aggregate-lay
-slice-aggregate-lay c = search needs
-
-lay-requires : tie.Need-lay-requires
-lay-requires c κs = search needs
-
 put-rows-requires : tie.Need-put-rows-requires
 put-rows-requires c κs =
     let back5 = c .before .before .before .before .before in
@@ -37,26 +25,8 @@ put-rows-requires c κs =
     let size : 24605 ≡ length (c .before .lay .last .0) = search needs in
     (e, omega (arith, few-rows b n e))
 
-enum-known-number : tie.Need-enum-known-number
-enum-known-number c = search needs
-
-refused-requires : tie.Need-refused-requires
-refused-requires c κs = search needs
-
-slice-aggregate-with : tie.Need-slice-aggregate-with
-slice-aggregate-with c = search needs
-
-with-requires : tie.Need-with-requires
-with-requires c κs = search needs
-
-array-share-prefix-bytes : tie.Need-array-share-prefix-bytes
-array-share-prefix-bytes c = search needs
-
 slice-aggregate-lay-2 : tie.Need-slice-aggregate-lay-2
 slice-aggregate-lay-2 c = sym (length-take-le (c .before .before .before .with .result .size) (c .before .before .before .with .result .bytes) (omega arith))
-
-lay-requires-2 : tie.Need-lay-requires-2
-lay-requires-2 c κs = search needs
 
 returns : tie.Need-returns
 returns c =
@@ -92,17 +62,17 @@ pub write-listing-spec : {M : Type 1} → statement M
 write-listing-spec =
     tie.close
     (tie.spec
-    check-requires
-    enum-known-count
-    slice-aggregate-lay
-    lay-requires
+    (λ c κs. search needs)
+    (λ c. search needs)
+    (λ c. search needs)
+    (λ c κs. search needs)
     put-rows-requires
-    enum-known-number
-    refused-requires
-    slice-aggregate-with
-    with-requires
-    array-share-prefix-bytes
+    (λ c. search needs)
+    (λ c κs. search needs)
+    (λ c. search needs)
+    (λ c κs. search needs)
+    (λ c. search needs)
     slice-aggregate-lay-2
-    lay-requires-2
+    (λ c κs. search needs)
     returns
     returns-2)

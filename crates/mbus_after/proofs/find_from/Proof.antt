@@ -9,27 +9,6 @@ use Rattle.mbus_after.proofs.find_from.Tie as tie
 returns : tie.Need-returns
 returns c = from-beyond (now (c .before .before .args .capture)) (c .before .before .args .place) (c .if1 .taken)
 
-mul-find-line : tie.Need-mul-find-line
-mul-find-line c = search needs
-
-sub-find-line : tie.Need-sub-find-line
-sub-find-line c = search needs
-
-part-find-line-start : tie.Need-part-find-line-start
-part-find-line-start c = search needs
-
-part-find-line-end : tie.Need-part-find-line-end
-part-find-line-end c = search needs
-
-find-line-requires : tie.Need-find-line-requires
-find-line-requires c κs = search needs
-
-enum-known-search : tie.Need-enum-known-search
-enum-known-search c = search needs
-
-enum-known-search-2 : tie.Need-enum-known-search-2
-enum-known-search-2 c = search needs
-
 add-t14 : tie.Need-add-t14
 add-t14 c = omega (
   arith,
@@ -51,13 +30,13 @@ find-from-spec =
     tie.close
     (tie.spec
     returns
-    mul-find-line
-    sub-find-line
-    part-find-line-start
-    part-find-line-end
-    find-line-requires
-    enum-known-search
-    enum-known-search-2
+    (λ c. search needs)
+    (λ c. search needs)
+    (λ c. search needs)
+    (λ c. search needs)
+    (λ c κs. search needs)
+    (λ c. search needs)
+    (λ c. search needs)
     add-t14
     returns-2
     returns-3)

@@ -23,23 +23,8 @@ here : (c : tie.After-known-told Inv-loop μ-loop)
     (c .before .search .given .0 .0) (c .before .search .given .0 .1 .0)
 here c = after-found (c .before .before .before .before .before .loop .inv) (c .before .before .before .find-from .ensures) (c .before .search .given .1)
 
-next-since-requires : tie.Need-next-since-requires Inv-loop μ-loop
-next-since-requires c κs = search needs
-
 loop-holds : tie.Need-loop-holds Inv-loop μ-loop
 loop-holds c = after-early after-start (c .next-since .ensures)
-
-find-from-requires : tie.Need-find-from-requires Inv-loop μ-loop
-find-from-requires c κs = search needs
-
-enum-known-search : tie.Need-enum-known-search Inv-loop μ-loop
-enum-known-search c = search needs
-
-enum-told : tie.Need-enum-told Inv-loop μ-loop
-enum-told c = search needs
-
-began-since-requires : tie.Need-began-since-requires Inv-loop μ-loop
-began-since-requires c κs = search needs
 
 mul-t11 : tie.Need-mul-t11 Inv-loop μ-loop
 mul-t11 c = let timed = after-timed (here (c .before .before)) (c .before .began-since .ensures) (c .if1 .taken) in search needs
@@ -52,9 +37,6 @@ returns c = after-hit (here (c .before .before .before)) (c .before .before .beg
 
 add-next-since : tie.Need-add-next-since Inv-loop μ-loop
 add-next-since c = omega (arith, here (c .before .before) .inside)
-
-next-since-requires-2 : tie.Need-next-since-requires-2 Inv-loop μ-loop
-next-since-requires-2 c κs = search needs
 
 loop-less : tie.Need-loop-less Inv-loop μ-loop
 loop-less c = omega (arith, here (c .before .before .before) .inside, here (c .before .before .before) .beyond, c .next-since2 .ensures)
@@ -75,17 +57,17 @@ find-line-after-spec =
     (tie.spec
     Inv-loop
     μ-loop
-    next-since-requires
+    (λ c κs. search needs)
     loop-holds
-    find-from-requires
-    enum-known-search
-    enum-told
-    began-since-requires
+    (λ c κs. search needs)
+    (λ c. search needs)
+    (λ c. search needs)
+    (λ c κs. search needs)
     mul-t11
     shared-slice-read-t13
     returns
     add-next-since
-    next-since-requires-2
+    (λ c κs. search needs)
     loop-less
     loop-again
     returns-2

@@ -5,15 +5,6 @@ use Rattle.mbus_characters.proofs.Laws.FlagLaws.{flagged-odd, flagged-e
 use Rattle.mbus_characters.proofs.counted.Statement.{statement}
 use Rattle.mbus_characters.proofs.counted.Tie as tie
 
-counts-odd-requires : tie.Need-counts-odd-requires
-counts-odd-requires c κs = search needs
-
-mul-high : tie.Need-mul-high
-mul-high c = search needs
-
-add-result : tie.Need-add-result
-add-result c = search needs
-
 returns : tie.Need-returns
 returns c = flagged-odd (c .before .before .args .c) (sym (c .before .counts-odd .ensures) ∙ c .if1 .taken)
 
@@ -21,4 +12,4 @@ returns-2 : tie.Need-returns-2
 returns-2 c = flagged-even (c .before .before .args .c) (sym (c .before .counts-odd .ensures) ∙ c .if1 .left)
 
 pub counted-spec : {M : Type 1} → statement M
-counted-spec = tie.close (tie.spec counts-odd-requires mul-high add-result returns returns-2)
+counted-spec = tie.close (tie.spec (λ c κs. search needs) (λ c. search needs) (λ c. search needs) returns returns-2)

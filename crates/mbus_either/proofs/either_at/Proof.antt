@@ -6,28 +6,10 @@ use Rattle.mbus_either.proofs.Laws.Lines.{on-mbus, on-optical, on-neith
 use Rattle.mbus_either.proofs.either_at.Statement.{statement}
 use Rattle.mbus_either.proofs.either_at.Tie as tie
 
-find-line-requires : tie.Need-find-line-requires
-find-line-requires c κs = search needs
-
-enum-known-first : tie.Need-enum-known-first
-enum-known-first c = search needs
-
 returns : tie.Need-returns
 returns c =
     let args = c .before .before .before .before .before .before .args in
     on-mbus (findIn (now (args .mbus))) (findIn (now (args .optical))) (c .before .before .before .find-line .ensures) (c .before .first .given .1)
-
-enum-told : tie.Need-enum-told
-enum-told c = search needs
-
-find-line-requires-2 : tie.Need-find-line-requires-2
-find-line-requires-2 c κs = search needs
-
-enum-known-second : tie.Need-enum-known-second
-enum-known-second c = search needs
-
-enum-known-second-2 : tie.Need-enum-known-second-2
-enum-known-second-2 c = search needs
 
 returns-2 : tie.Need-returns-2
 returns-2 c =
@@ -45,12 +27,12 @@ pub either-at-spec : {M : Type 1} → statement M
 either-at-spec =
     tie.close
     (tie.spec
-    find-line-requires
-    enum-known-first
+    (λ c κs. search needs)
+    (λ c. search needs)
     returns
-    enum-told
-    find-line-requires-2
-    enum-known-second
-    enum-known-second-2
+    (λ c. search needs)
+    (λ c κs. search needs)
+    (λ c. search needs)
+    (λ c. search needs)
     returns-2
     returns-3)

@@ -22,26 +22,11 @@ live c q =
     let start = c .before .before .before .before in
     live-on (findEither (now (start .args .mbus)) (now (start .args .optical))) (start .pre) (c .found .given .1) q
 
-enum-told : tie.Need-enum-told
-enum-told c = search needs
-
-part-of-requires : tie.Need-part-of-requires
-part-of-requires c κs = search needs
-
-enum-known-found : tie.Need-enum-known-found
-enum-known-found c = search needs
-
-enum-told-2 : tie.Need-enum-told-2
-enum-told-2 c = search needs
-
 part-of-requires-2 : tie.Need-part-of-requires-2
 part-of-requires-2 c κs =
     let args = c .before .before .before .before .before .before .before .args in
     let found = c .before .before .before in
     line-inside (now (args .mbus)) (now (args .optical)) (liveOn Mbus (spot found)) (live found (c .enum-told2 .given .1))
-
-enum-told-3 : tie.Need-enum-told-3
-enum-told-3 c = search needs
 
 part-of-requires-3 : tie.Need-part-of-requires-3
 part-of-requires-3 c κs =
@@ -64,12 +49,12 @@ pub stretch-at-spec : {M : Type 1} → statement M
 stretch-at-spec =
     tie.close
     (tie.spec
-    enum-told
-    part-of-requires
-    enum-known-found
-    enum-told-2
+    (λ c. search needs)
+    (λ c κs. search needs)
+    (λ c. search needs)
+    (λ c. search needs)
     part-of-requires-2
-    enum-told-3
+    (λ c. search needs)
     part-of-requires-3
     returns
     returns-2

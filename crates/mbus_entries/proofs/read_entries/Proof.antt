@@ -34,29 +34,8 @@ ends c =
     (λ w. refused (w .4 .given .0 .0) (w .6) (halted (c .before .loop .inv .0) (w .0 .taken) (w .2 .ensures) (w .4 .given .1)))
     (c .loop-test .came)
 
-blank-entry-requires : tie.Need-blank-entry-requires Inv-loop μ-loop
-blank-entry-requires c κs = search needs
-
 loop-holds : tie.Need-loop-holds Inv-loop μ-loop
 loop-holds c = rw (c .blank-entry .ensures) (walked-none _, refl)
-
-sub-next-entry : tie.Need-sub-next-entry Inv-loop μ-loop
-sub-next-entry c = search needs
-
-part-next-entry-start : tie.Need-part-next-entry-start Inv-loop μ-loop
-part-next-entry-start c = search needs
-
-part-next-entry-end : tie.Need-part-next-entry-end Inv-loop μ-loop
-part-next-entry-end c = search needs
-
-next-entry-requires : tie.Need-next-entry-requires Inv-loop μ-loop
-next-entry-requires c κs = search needs
-
-enum-known-next : tie.Need-enum-known-next Inv-loop μ-loop
-enum-known-next c = search needs
-
-enum-known-next-2 : tie.Need-enum-known-next-2 Inv-loop μ-loop
-enum-known-next-2 c = search needs
 
 mul-entries : tie.Need-mul-entries Inv-loop μ-loop
 mul-entries c = omega (arith, turn c .below)
@@ -82,12 +61,6 @@ loop-less c = omega (arith, turn c .inside)
 loop-again : tie.Need-loop-again Inv-loop μ-loop
 loop-again c = (turn c .next, c .before .before .before .before .before .before .loop .inv .1)
 
-end-of-requires : tie.Need-end-of-requires Inv-loop μ-loop
-end-of-requires c κs = search needs
-
-is-refusal-requires : tie.Need-is-refusal-requires Inv-loop μ-loop
-is-refusal-requires c κs = search needs
-
 returns : tie.Need-returns Inv-loop μ-loop
 returns c = rw (c .before .before .before .before .before .blank-entry .ensures)
     (ended-refused (c .before .before .before .before .loop .inv .0) (ends (c .before .before .before)) (c .before .before .end-of .ensures)
@@ -103,14 +76,14 @@ read-entries-spec =
     (tie.spec
     Inv-loop
     μ-loop
-    blank-entry-requires
+    (λ c κs. search needs)
     loop-holds
-    sub-next-entry
-    part-next-entry-start
-    part-next-entry-end
-    next-entry-requires
-    enum-known-next
-    enum-known-next-2
+    (λ c. search needs)
+    (λ c. search needs)
+    (λ c. search needs)
+    (λ c κs. search needs)
+    (λ c. search needs)
+    (λ c. search needs)
     mul-entries
     array-set-from-entries
     array-write-marks
@@ -119,7 +92,7 @@ read-entries-spec =
     add-at-2
     loop-less
     loop-again
-    end-of-requires
-    is-refusal-requires
+    (λ c κs. search needs)
+    (λ c κs. search needs)
     returns
     returns-2)

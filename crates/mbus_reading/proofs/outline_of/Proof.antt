@@ -7,24 +7,12 @@ use Rattle.mbus_reading.proofs.Laws.TakingLaws.{taken-as, cut-room, cut
 use Rattle.mbus_reading.proofs.outline_of.Statement.{statement}
 use Rattle.mbus_reading.proofs.outline_of.Tie as tie
 
-slice-aggregate-take-in : tie.Need-slice-aggregate-take-in
-slice-aggregate-take-in c = search needs
-
-take-in-requires : tie.Need-take-in-requires
-take-in-requires c κs = search needs
-
-enum-known-outcome : tie.Need-enum-known-outcome
-enum-known-outcome c = search needs
-
 returns : tie.Need-returns
 returns c =
     ap viewed
     (sym
     (taken-as (now (c .before .before .before .before .before .before .before .args .line)) (c .before .before .before .before .take-in .last .1 .0)
     (c .before .before .before .before .take-in .result .sum) (c .before .outcome .given .1) (c .before .before .before .before .take-in .ensures)))
-
-enum-told : tie.Need-enum-told
-enum-told c = search needs
 
 array-share-prefix-bytes : tie.Need-array-share-prefix-bytes
 array-share-prefix-bytes c =
@@ -38,9 +26,6 @@ slice-aggregate-outline-in c =
     (c .before .before .before .before .take-in .result .sum) (c .before .enum-told .given .1) (c .before .before .before .before .take-in .ensures) in
     cut-count (now (c .before .before .before .before .before .before .before .args .line)) (c .before .before .before .before .take-in .last .1 .0) refl (t .1)
 
-outline-in-requires : tie.Need-outline-in-requires
-outline-in-requires c κs = search needs
-
 returns-2 : tie.Need-returns-2
 returns-2 c =
     let t = taken-as (now (c .before .before .before .before .before .before .before .before .args .line))
@@ -53,12 +38,12 @@ pub outline-of-spec : {M : Type 1} → statement M
 outline-of-spec =
     tie.close
     (tie.spec
-    slice-aggregate-take-in
-    take-in-requires
-    enum-known-outcome
+    (λ c. search needs)
+    (λ c κs. search needs)
+    (λ c. search needs)
     returns
-    enum-told
+    (λ c. search needs)
     array-share-prefix-bytes
     slice-aggregate-outline-in
-    outline-in-requires
+    (λ c κs. search needs)
     returns-2)

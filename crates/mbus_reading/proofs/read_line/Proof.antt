@@ -7,18 +7,6 @@ use Rattle.mbus_reading.proofs.Laws.TakingLaws.{taken-as, cut-room, cut
 use Rattle.mbus_reading.proofs.read_line.Statement.{statement}
 use Rattle.mbus_reading.proofs.read_line.Tie as tie
 
-slice-aggregate-take-in : tie.Need-slice-aggregate-take-in
-slice-aggregate-take-in c = search needs
-
-take-in-requires : tie.Need-take-in-requires
-take-in-requires c κs = search needs
-
-enum-known-outcome : tie.Need-enum-known-outcome
-enum-known-outcome c = search needs
-
-refused-requires : tie.Need-refused-requires
-refused-requires c κs = search needs
-
 returns : tie.Need-returns
 returns c =
     c .refused .ensures
@@ -27,9 +15,6 @@ returns c =
     (taken-as (now (c .before .before .before .before .before .before .before .before .args .line))
     (c .before .before .before .before .before .take-in .last .1 .0) (c .before .before .before .before .before .take-in .result .sum)
     (c .before .before .outcome .given .1) (c .before .before .before .before .before .take-in .ensures)))
-
-enum-told : tie.Need-enum-told
-enum-told c = search needs
 
 array-share-prefix-bytes : tie.Need-array-share-prefix-bytes
 array-share-prefix-bytes c =
@@ -43,9 +28,6 @@ slice-aggregate-read-in c =
     (c .before .before .before .before .take-in .result .sum) (c .before .enum-told .given .1) (c .before .before .before .before .take-in .ensures) in
     cut-count (now (c .before .before .before .before .before .before .before .args .line)) (c .before .before .before .before .take-in .last .1 .0) refl (t .1)
 
-read-in-requires : tie.Need-read-in-requires
-read-in-requires c κs = search needs
-
 returns-2 : tie.Need-returns-2
 returns-2 c =
     let t = taken-as (now (c .before .before .before .before .before .before .before .before .args .line))
@@ -58,13 +40,13 @@ pub read-line-spec : {M : Type 1} → statement M
 read-line-spec =
     tie.close
     (tie.spec
-    slice-aggregate-take-in
-    take-in-requires
-    enum-known-outcome
-    refused-requires
+    (λ c. search needs)
+    (λ c κs. search needs)
+    (λ c. search needs)
+    (λ c κs. search needs)
     returns
-    enum-told
+    (λ c. search needs)
     array-share-prefix-bytes
     slice-aggregate-read-in
-    read-in-requires
+    (λ c κs. search needs)
     returns-2)

@@ -3,29 +3,8 @@ use borrow.Author.Needs.{needs}
 use Rattle.mbus_reading.proofs.view_of.Statement.{statement}
 use Rattle.mbus_reading.proofs.view_of.Tie as tie
 
-enum-known-outcome : tie.Need-enum-known-outcome
-enum-known-outcome c = search needs
-
 returns : tie.Need-returns
 returns c = rw (c .before .outcome .given .1)
-
-enum-told : tie.Need-enum-told
-enum-told c = search needs
-
-enum-told-2 : tie.Need-enum-told-2
-enum-told-2 c = search needs
-
-enum-told-3 : tie.Need-enum-told-3
-enum-told-3 c = search needs
-
-enum-told-4 : tie.Need-enum-told-4
-enum-told-4 c = search needs
-
-enum-told-5 : tie.Need-enum-told-5
-enum-told-5 c = search needs
-
-enum-told-6 : tie.Need-enum-told-6
-enum-told-6 c = search needs
 
 returns-2 : tie.Need-returns-2
 returns-2 c = rw (c .before .before .before .enum-told .given .1, c .enum-told2 .given .1)
@@ -46,14 +25,14 @@ pub view-of-spec : {M : Type 1} → statement M
 view-of-spec =
     tie.close
     (tie.spec
-    enum-known-outcome
+    (λ c. search needs)
     returns
-    enum-told
-    enum-told-2
-    enum-told-3
-    enum-told-4
-    enum-told-5
-    enum-told-6
+    (λ c. search needs)
+    (λ c. search needs)
+    (λ c. search needs)
+    (λ c. search needs)
+    (λ c. search needs)
+    (λ c. search needs)
     returns-2
     returns-3
     returns-4

@@ -4,14 +4,8 @@ use borrow.Author.Tests.{eq-eqb, ne-eqb}
 use Rattle.mbus_search.proofs.allowed_at.Statement.{statement}
 use Rattle.mbus_search.proofs.allowed_at.Tie as tie
 
-low-at-requires : tie.Need-low-at-requires
-low-at-requires c κs = search needs
-
 returns : tie.Need-returns
 returns c = rw (← c .before .low-at .ensures, eq-eqb _ _ (c .if1 .taken))
-
-low-at-requires-2 : tie.Need-low-at-requires-2
-low-at-requires-2 c κs = search needs
 
 returns-2 : tie.Need-returns-2
 returns-2 c = rw (
@@ -35,12 +29,6 @@ returns-4 : tie.Need-returns-4
 returns-4 c = rw
     (← c .before .before .before .low-at .ensures, ne-eqb _ _ (c .before .before .if1 .left), ne-eqb _ _ (c .before .if2 .left), ne-eqb _ _ (c .if4 .taken))
 
-low-at-requires-3 : tie.Need-low-at-requires-3
-low-at-requires-3 c κs = search needs
-
-low-at-requires-4 : tie.Need-low-at-requires-4
-low-at-requires-4 c κs = search needs
-
 returns-5 : tie.Need-returns-5
 returns-5 c = rw (
   ← c .before .before .before .before .before .before .low-at .ensures,
@@ -52,9 +40,6 @@ returns-5 c = rw (
   ← c .before .low-at4 .ensures,
   ne-eqb _ _ (c .if5 .taken),
 )
-
-low-at-requires-5 : tie.Need-low-at-requires-5
-low-at-requires-5 c κs = search needs
 
 returns-6 : tie.Need-returns-6
 returns-6 c = rw (
@@ -70,18 +55,6 @@ returns-6 c = rw (
   ← c .before .low-at5 .ensures,
   ne-eqb _ _ (c .if6 .taken),
 )
-
-cast-length : tie.Need-cast-length
-cast-length c = search needs
-
-add-length : tie.Need-add-length
-add-length c = search needs
-
-sub-low-at : tie.Need-sub-low-at
-sub-low-at c = search needs
-
-low-at-requires-6 : tie.Need-low-at-requires-6
-low-at-requires-6 c κs = search needs
 
 returns-7 : tie.Need-returns-7
 returns-7 c = rw (
@@ -123,20 +96,20 @@ pub allowed-at-spec : {M : Type 1} → statement M
 allowed-at-spec =
     tie.close
     (tie.spec
-    low-at-requires
+    (λ c κs. search needs)
     returns
-    low-at-requires-2
+    (λ c κs. search needs)
     returns-2
     returns-3
     returns-4
-    low-at-requires-3
-    low-at-requires-4
+    (λ c κs. search needs)
+    (λ c κs. search needs)
     returns-5
-    low-at-requires-5
+    (λ c κs. search needs)
     returns-6
-    cast-length
-    add-length
-    sub-low-at
-    low-at-requires-6
+    (λ c. search needs)
+    (λ c. search needs)
+    (λ c. search needs)
+    (λ c κs. search needs)
     returns-7
     returns-8)

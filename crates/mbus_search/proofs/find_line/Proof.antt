@@ -66,42 +66,15 @@ none-yet c =
 places-holds : tie.Need-places-holds Inv-loop μ-loop Inv-places μ-places
 places-holds c = (searched-none, length-replicate {A = ℕ} 261 0)
 
-mul-rest : tie.Need-mul-rest Inv-loop μ-loop Inv-places μ-places
-mul-rest c = search needs
-
-sub-rest : tie.Need-sub-rest Inv-loop μ-loop Inv-places μ-places
-sub-rest c = search needs
-
-part-rest-start : tie.Need-part-rest-start Inv-loop μ-loop Inv-places μ-places
-part-rest-start c = search needs
-
-part-rest-end : tie.Need-part-rest-end Inv-loop μ-loop Inv-places μ-places
-part-rest-end c = search needs
-
-allowed-at-requires : tie.Need-allowed-at-requires Inv-loop μ-loop Inv-places μ-places
-allowed-at-requires c κs = search needs
-
 loop-holds : tie.Need-loop-holds Inv-loop μ-loop Inv-places μ-places
 loop-holds c = walked-none (c .before .before .allowed-at .ensures) (c .if2 .taken) (c .before .before .before .before .before .places .inv .0 .nothing)
     (c .before .before .before .before .before .places .inv .1)
 
-mul-c : tie.Need-mul-c Inv-loop μ-loop Inv-places μ-places
-mul-c c = search needs
-
 shared-slice-read-c : tie.Need-shared-slice-read-c Inv-loop μ-loop Inv-places μ-places
 shared-slice-read-c c = omega (arith, c .before .before .loop .inv .room)
 
-counts-odd-requires : tie.Need-counts-odd-requires Inv-loop μ-loop Inv-places μ-places
-counts-odd-requires c κs = search needs
-
-cast-b : tie.Need-cast-b Inv-loop μ-loop Inv-places μ-places
-cast-b c = search needs
-
 array-write-bytes : tie.Need-array-write-bytes Inv-loop μ-loop Inv-places μ-places
 array-write-bytes c = walked-room (c .before .before .before .before .loop .inv) (c .before .before .before .loop-test .taken)
-
-wrapping-add-u8-requires : tie.Need-wrapping-add-u8-requires Inv-loop μ-loop Inv-places μ-places
-wrapping-add-u8-requires c κs = search needs
 
 add-i : tie.Need-add-i Inv-loop μ-loop Inv-places μ-places
 add-i c = omega (arith, c .before .before .before .before .before .loop .inv .room)
@@ -113,12 +86,6 @@ slice-aggregate-is-accepted :
     tie.Need-slice-aggregate-is-accepted Inv-loop μ-loop Inv-places μ-places
 slice-aggregate-is-accepted c = sym (length-take-le _ _ (walked-places (c .before .before .before .before .before .before .before .loop .inv) _))
 
-is-accepted-requires : tie.Need-is-accepted-requires Inv-loop μ-loop Inv-places μ-places
-is-accepted-requires c κs = search needs
-
-loop-less : tie.Need-loop-less Inv-loop μ-loop Inv-places μ-places
-loop-less c = search needs
-
 loop-again : tie.Need-loop-again Inv-loop μ-loop Inv-places μ-places
 loop-again c =
     rw (c .before .before .before .before .wrapping-add-u8 .ensures)
@@ -128,20 +95,11 @@ loop-again c =
     (c .before .before .before .if4 .taken)
     (rw (c .before .before .before .before .wrapping-add-u8 .ensures) at (c .before .is-accepted .ensures)) (c .if5 .left))
 
-loop-less-2 : tie.Need-loop-less-2 Inv-loop μ-loop Inv-places μ-places
-loop-less-2 c = search needs
-
 loop-again-2 : tie.Need-loop-again-2 Inv-loop μ-loop Inv-places μ-places
 loop-again-2 c =
     rw (c .before .wrapping-add-u8 .ensures)
     (walked-next (c .before .before .before .before .before .before .loop .inv) (c .before .before .before .before .before .loop-test .taken) refl
     (c .before .before .before .counts-odd .ensures) (c .before .before .if3 .left) (c .if4 .left))
-
-add-place : tie.Need-add-place Inv-loop μ-loop Inv-places μ-places
-add-place c = search needs
-
-places-less : tie.Need-places-less Inv-loop μ-loop Inv-places μ-places
-places-less c = search needs
 
 places-again : tie.Need-places-again Inv-loop μ-loop Inv-places μ-places
 places-again c = (
@@ -172,28 +130,28 @@ find-line-spec =
     Inv-places
     μ-places
     places-holds
-    mul-rest
-    sub-rest
-    part-rest-start
-    part-rest-end
-    allowed-at-requires
+    (λ c. search needs)
+    (λ c. search needs)
+    (λ c. search needs)
+    (λ c. search needs)
+    (λ c κs. search needs)
     loop-holds
-    mul-c
+    (λ c. search needs)
     shared-slice-read-c
-    counts-odd-requires
-    cast-b
+    (λ c κs. search needs)
+    (λ c. search needs)
     array-write-bytes
-    wrapping-add-u8-requires
+    (λ c κs. search needs)
     add-i
     array-share-prefix-bytes
     slice-aggregate-is-accepted
-    is-accepted-requires
-    loop-less
+    (λ c κs. search needs)
+    (λ c. search needs)
     loop-again
-    loop-less-2
+    (λ c. search needs)
     loop-again-2
-    add-place
-    places-less
+    (λ c. search needs)
+    (λ c. search needs)
     places-again
     returns
     returns-2)

@@ -7,21 +7,6 @@ use Rattle.mbus_search.proofs.Laws.SearchLaws.{outline-accepts}
 use Rattle.mbus_search.proofs.is_accepted.Statement.{statement}
 use Rattle.mbus_search.proofs.is_accepted.Tie as tie
 
-outline-in-requires : tie.Need-outline-in-requires
-outline-in-requires c κs = search needs
-
-enum-told : tie.Need-enum-told
-enum-told c = search needs
-
-enum-told-2 : tie.Need-enum-told-2
-enum-told-2 c = search needs
-
-enum-told-3 : tie.Need-enum-told-3
-enum-told-3 c = search needs
-
-enum-told-4 : tie.Need-enum-told-4
-enum-told-4 c = search needs
-
 returns : tie.Need-returns
 returns c = outline-accepts (frameBy (c .before .before .before .before .args .sum) readBody (now (c .before .before .before .before .args .bytes)))
     (c .before .before .outline-in .ensures) (c .enum-told .given .1)
@@ -45,11 +30,11 @@ pub is-accepted-spec : {M : Type 1} → statement M
 is-accepted-spec =
     tie.close
     (tie.spec
-    outline-in-requires
-    enum-told
-    enum-told-2
-    enum-told-3
-    enum-told-4
+    (λ c κs. search needs)
+    (λ c. search needs)
+    (λ c. search needs)
+    (λ c. search needs)
+    (λ c. search needs)
     returns
     returns-2
     returns-3

@@ -6,9 +6,6 @@ use Rattle.mbus_shape.proofs.Laws.ShapeLaws.{brief-long, brief-ack, bri
 use Rattle.mbus_shape.proofs.brief_shape.Statement.{statement}
 use Rattle.mbus_shape.proofs.brief_shape.Tie as tie
 
-byte-at-requires : tie.Need-byte-at-requires
-byte-at-requires c κs = search needs
-
 returns : tie.Need-returns
 returns c = brief-long (now (c .before .before .before .args .bytes)) (sym (c .before .byte-at .ensures) ∙ c .if1 .taken)
 
@@ -41,7 +38,7 @@ pub brief-shape-spec : {M : Type 1} → statement M
 brief-shape-spec =
     tie.close
     (tie.spec
-    byte-at-requires
+    (λ c κs. search needs)
     returns
     returns-2
     returns-3

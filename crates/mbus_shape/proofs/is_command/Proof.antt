@@ -7,18 +7,6 @@ use Rattle.mbus_shape.proofs.is_command.Tie as tie
 returns : tie.Need-returns
 returns c = rw (ne-eqb _ _ (c .if1 .taken))
 
-byte-at-requires : tie.Need-byte-at-requires
-byte-at-requires c κs = search needs
-
-byte-at-requires-2 : tie.Need-byte-at-requires-2
-byte-at-requires-2 c κs = search needs
-
-byte-at-requires-3 : tie.Need-byte-at-requires-3
-byte-at-requires-3 c κs = search needs
-
-is-method-requires : tie.Need-is-method-requires
-is-method-requires c κs = search needs
-
 returns-2 : tie.Need-returns-2
 returns-2 c =
     rw (
@@ -34,8 +22,8 @@ is-command-spec =
     tie.close
     (tie.spec
     returns
-    byte-at-requires
-    byte-at-requires-2
-    byte-at-requires-3
-    is-method-requires
+    (λ c κs. search needs)
+    (λ c κs. search needs)
+    (λ c κs. search needs)
+    (λ c κs. search needs)
     returns-2)

@@ -5,15 +5,6 @@ use Rattle.mbus_shape.proofs.Laws.ShapeLaws.{long-is}
 use Rattle.mbus_shape.proofs.long_form.Statement.{statement}
 use Rattle.mbus_shape.proofs.long_form.Tie as tie
 
-byte-at-requires : tie.Need-byte-at-requires
-byte-at-requires c κs = search needs
-
-byte-at-requires-2 : tie.Need-byte-at-requires-2
-byte-at-requires-2 c κs = search needs
-
-byte-at-requires-3 : tie.Need-byte-at-requires-3
-byte-at-requires-3 c κs = search needs
-
 returns : tie.Need-returns
 returns c =
     rw (
@@ -66,9 +57,6 @@ part-long-shape-start c = omega (arith, c .before .before .before .before .befor
 part-long-shape-end : tie.Need-part-long-shape-end
 part-long-shape-end c = omega (arith, c .before .before .before .before .before .before .before .before .before .pre .six)
 
-long-shape-requires : tie.Need-long-shape-requires
-long-shape-requires c κs = search needs
-
 returns-4 : tie.Need-returns-4
 returns-4 c =
     rw (
@@ -90,9 +78,9 @@ pub long-form-spec : {M : Type 1} → statement M
 long-form-spec =
     tie.close
     (tie.spec
-    byte-at-requires
-    byte-at-requires-2
-    byte-at-requires-3
+    (λ c κs. search needs)
+    (λ c κs. search needs)
+    (λ c κs. search needs)
     returns
     wrong-end-requires
     returns-2
@@ -102,5 +90,5 @@ long-form-spec =
     sub-long-shape
     part-long-shape-start
     part-long-shape-end
-    long-shape-requires
+    (λ c κs. search needs)
     returns-4)

@@ -4,15 +4,6 @@ use borrow.Author.Tests.{eq-eqb, ne-eqb}
 use Rattle.mbus_shape.proofs.long_shape.Statement.{statement}
 use Rattle.mbus_shape.proofs.long_shape.Tie as tie
 
-byte-at-requires : tie.Need-byte-at-requires
-byte-at-requires c κs = search needs
-
-is-command-requires : tie.Need-is-command-requires
-is-command-requires c κs = search needs
-
-byte-at-requires-2 : tie.Need-byte-at-requires-2
-byte-at-requires-2 c κs = search needs
-
 returns : tie.Need-returns
 returns c = rw (
   ← c .before .before .before .is-command .ensures,
@@ -31,9 +22,6 @@ returns-2 c = rw (
   ← c .before .before .before .before .byte-at .ensures,
 )
 
-is-data-requires : tie.Need-is-data-requires
-is-data-requires c κs = search needs
-
 returns-3 : tie.Need-returns-3
 returns-3 c = rw (
   ← c .before .before .before .is-command .ensures,
@@ -50,11 +38,11 @@ pub long-shape-spec : {M : Type 1} → statement M
 long-shape-spec =
     tie.close
     (tie.spec
-    byte-at-requires
-    is-command-requires
-    byte-at-requires-2
+    (λ c κs. search needs)
+    (λ c κs. search needs)
+    (λ c κs. search needs)
     returns
     returns-2
-    is-data-requires
+    (λ c κs. search needs)
     returns-3
     returns-4)

@@ -6,12 +6,6 @@ use Rattle.mbus_shape.proofs.Laws.ShapeLaws.{brief-is, length-five, lon
 use Rattle.mbus_shape.proofs.shape_of.Statement.{statement}
 use Rattle.mbus_shape.proofs.shape_of.Tie as tie
 
-byte-at-requires : tie.Need-byte-at-requires
-byte-at-requires c κs = search needs
-
-brief-shape-requires : tie.Need-brief-shape-requires
-brief-shape-requires c κs = search needs
-
 returns : tie.Need-returns
 returns c = c .brief-shape .ensures ∙ brief-is (now (c .before .before .before .before .args .bytes)) (c .before .before .before .before .args .sum)
     (λ e. c .before .if1 .taken (c .before .before .byte-at .ensures ∙ e))
@@ -28,17 +22,14 @@ long-form-requires : tie.Need-long-form-requires
 long-form-requires c κs = long-count (now (c .before .before .before .before .before .args .bytes))
     (sym (c .before .before .before .byte-at .ensures) ∙ c .before .before .if1 .left) (c .before .wrong-length .ensures) (c .if2 .left)
 
-returns-3 : tie.Need-returns-3
-returns-3 c = search needs
-
 pub shape-of-spec : {M : Type 1} → statement M
 shape-of-spec =
     tie.close
     (tie.spec
-    byte-at-requires
-    brief-shape-requires
+    (λ c κs. search needs)
+    (λ c κs. search needs)
     returns
     wrong-length-requires
     returns-2
     long-form-requires
-    returns-3)
+    (λ c. search needs))

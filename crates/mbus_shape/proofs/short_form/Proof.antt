@@ -11,15 +11,6 @@ wrong-end-requires c κs = omega (arith, c .before .pre .five)
 returns : tie.Need-returns
 returns c = rw (short-is (c .before .before .before .pre), ← c .before .wrong-end .ensures, c .if1 .taken)
 
-byte-at-requires : tie.Need-byte-at-requires
-byte-at-requires c κs = search needs
-
-byte-at-requires-2 : tie.Need-byte-at-requires-2
-byte-at-requires-2 c κs = search needs
-
-wrapping-add-u8-requires : tie.Need-wrapping-add-u8-requires
-wrapping-add-u8-requires c κs = search needs
-
 wrong-sum-requires : tie.Need-wrong-sum-requires
 wrong-sum-requires c κs = omega (arith, c .before .before .before .before .before .before .pre .five)
 
@@ -33,9 +24,6 @@ returns-2 c =
       ← c .before .before .before .byte-at2 .ensures,
     )
     (rw (← c .before .before .wrapping-add-u8 .ensures, ← c .before .wrong-sum .ensures, c .if2 .taken))
-
-short-shape-requires : tie.Need-short-shape-requires
-short-shape-requires c κs = search needs
 
 returns-3 : tie.Need-returns-3
 returns-3 c =
@@ -54,10 +42,10 @@ short-form-spec =
     (tie.spec
     wrong-end-requires
     returns
-    byte-at-requires
-    byte-at-requires-2
-    wrapping-add-u8-requires
+    (λ c κs. search needs)
+    (λ c κs. search needs)
+    (λ c κs. search needs)
     wrong-sum-requires
     returns-2
-    short-shape-requires
+    (λ c κs. search needs)
     returns-3)

@@ -8,24 +8,6 @@ use Rattle.mbus_shape.proofs.Laws.WholeLaws.{twice-is}
 use Rattle.mbus_shape.proofs.wrong_whole.Statement.{statement}
 use Rattle.mbus_shape.proofs.wrong_whole.Tie as tie
 
-byte-at-requires : tie.Need-byte-at-requires
-byte-at-requires c κs = search needs
-
-sub-byte-at : tie.Need-sub-byte-at
-sub-byte-at c = search needs
-
-byte-at-requires-2 : tie.Need-byte-at-requires-2
-byte-at-requires-2 c κs = search needs
-
-wrapping-add-u8-requires : tie.Need-wrapping-add-u8-requires
-wrapping-add-u8-requires c κs = search needs
-
-wrapping-add-u8-requires-2 : tie.Need-wrapping-add-u8-requires-2
-wrapping-add-u8-requires-2 c κs = search needs
-
-wrapping-add-u8-requires-3 : tie.Need-wrapping-add-u8-requires-3
-wrapping-add-u8-requires-3 c κs = search needs
-
 returns : tie.Need-returns
 returns c =
     ap (λ (n : ℕ). not (eqb (c .before .before .before .before .before .before .args .sum) n))
@@ -36,10 +18,10 @@ pub wrong-whole-spec : {M : Type 1} → statement M
 wrong-whole-spec =
     tie.close
     (tie.spec
-    byte-at-requires
-    sub-byte-at
-    byte-at-requires-2
-    wrapping-add-u8-requires
-    wrapping-add-u8-requires-2
-    wrapping-add-u8-requires-3
+    (λ c κs. search needs)
+    (λ c. search needs)
+    (λ c κs. search needs)
+    (λ c κs. search needs)
+    (λ c κs. search needs)
+    (λ c κs. search needs)
     returns)

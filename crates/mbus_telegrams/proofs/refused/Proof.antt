@@ -3,11 +3,8 @@ use borrow.Author.Needs.{needs}
 use Rattle.mbus_telegrams.proofs.refused.Statement.{statement}
 use Rattle.mbus_telegrams.proofs.refused.Tie as tie
 
-bare-requires : tie.Need-bare-requires
-bare-requires c κs = search needs
-
 returns : tie.Need-returns
 returns c = rw (c .bare .ensures)
 
 pub refused-spec : {M : Type 1} → statement M
-refused-spec = tie.close (tie.spec bare-requires returns)
+refused-spec = tie.close (tie.spec (λ c κs. search needs) returns)

@@ -5,9 +5,6 @@ use lib.ListN.{length-map}
 use Rattle.mbus_whole.proofs.left_by.Statement.{statement}
 use Rattle.mbus_whole.proofs.left_by.Tie as tie
 
-low-at-requires : tie.Need-low-at-requires
-low-at-requires c κs = search needs
-
 returns : tie.Need-returns
 returns c = rw (← c .before .low-at .ensures, c .if1 .taken)
 
@@ -22,12 +19,6 @@ returns-3 c = rw (
   ne-eqb _ _ (c .if3 .taken),
 )
 
-low-at-requires-2 : tie.Need-low-at-requires-2
-low-at-requires-2 c κs = search needs
-
-low-at-requires-3 : tie.Need-low-at-requires-3
-low-at-requires-3 c κs = search needs
-
 returns-4 : tie.Need-returns-4
 returns-4 c = rw (
   length-map,
@@ -37,9 +28,6 @@ returns-4 c = rw (
   ← c .before .low-at3 .ensures,
   c .if4 .taken,
 )
-
-low-at-requires-4 : tie.Need-low-at-requires-4
-low-at-requires-4 c κs = search needs
 
 returns-5 : tie.Need-returns-5
 returns-5 c = rw (
@@ -52,12 +40,6 @@ returns-5 c = rw (
   ← c .before .low-at4 .ensures,
   c .if5 .taken,
 )
-
-cast-result : tie.Need-cast-result
-cast-result c = search needs
-
-add-result : tie.Need-add-result
-add-result c = search needs
 
 returns-6 : tie.Need-returns-6
 returns-6 c = rw (
@@ -75,15 +57,15 @@ pub left-by-spec : {M : Type 1} → statement M
 left-by-spec =
     tie.close
     (tie.spec
-    low-at-requires
+    (λ c κs. search needs)
     returns
     returns-2
     returns-3
-    low-at-requires-2
-    low-at-requires-3
+    (λ c κs. search needs)
+    (λ c κs. search needs)
     returns-4
-    low-at-requires-4
+    (λ c κs. search needs)
     returns-5
-    cast-result
-    add-result
+    (λ c. search needs)
+    (λ c. search needs)
     returns-6)

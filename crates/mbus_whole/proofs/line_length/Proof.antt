@@ -7,21 +7,12 @@ use Rattle.mbus_whole.proofs.line_length.Tie as tie
 returns : tie.Need-returns
 returns c = whole-none _ (c .if1 .taken)
 
-left-by-requires : tie.Need-left-by-requires
-left-by-requires c κs = search needs
-
 returns-2 : tie.Need-returns-2
 returns-2 c = whole-refused _ (c .before .before .if1 .left) (c .before .left-by .ensures) (c .if2 .taken)
-
-unsound-in-requires : tie.Need-unsound-in-requires
-unsound-in-requires c κs = search needs
 
 returns-3 : tie.Need-returns-3
 returns-3 c = whole-unsound _ (c .before .before .before .before .if1 .left) (c .before .before .before .left-by .ensures) (c .before .before .if2 .left)
     (c .before .unsound-in .ensures) (c .if3 .taken)
-
-low-at-requires : tie.Need-low-at-requires
-low-at-requires c κs = search needs
 
 returns-4 : tie.Need-returns-4
 returns-4 c = whole-lacking _ (c .before .before .before .before .before .before .if1 .left) (c .before .before .before .before .before .left-by .ensures)
@@ -38,10 +29,10 @@ line-length-spec =
     tie.close
     (tie.spec
     returns
-    left-by-requires
+    (λ c κs. search needs)
     returns-2
-    unsound-in-requires
+    (λ c κs. search needs)
     returns-3
-    low-at-requires
+    (λ c κs. search needs)
     returns-4
     returns-5)

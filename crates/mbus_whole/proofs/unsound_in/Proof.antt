@@ -24,15 +24,6 @@ cut c =
 slice-aggregate-soundness-of : tie.Need-slice-aggregate-soundness-of
 slice-aggregate-soundness-of c = sym (length-take-le _ _ (inside (c .before)))
 
-soundness-of-requires : tie.Need-soundness-of-requires
-soundness-of-requires c κs = search needs
-
-enum-told : tie.Need-enum-told
-enum-told c = search needs
-
-enum-told-2 : tie.Need-enum-told-2
-enum-told-2 c = search needs
-
 returns : tie.Need-returns
 returns c = let start = c .before .before .before .before .before .before .args in
     told-unsound (now (start .first)) (start .count) (c .before .before .before .before .if1 .there) (cut (c .before .before .before .before))
@@ -48,8 +39,8 @@ unsound-in-spec =
     tie.close
     (tie.spec
     slice-aggregate-soundness-of
-    soundness-of-requires
-    enum-told
-    enum-told-2
+    (λ c κs. search needs)
+    (λ c. search needs)
+    (λ c. search needs)
     returns
     returns-2)

@@ -10,15 +10,6 @@ use Rattle.mbus_writable.proofs.Laws.Sizes.{limit-some, long-below, lon
 use Rattle.mbus_writable.proofs.is_long.Statement.{statement}
 use Rattle.mbus_writable.proofs.is_long.Tie as tie
 
-limit-of-requires : tie.Need-limit-of-requires
-limit-of-requires c κs = search needs
-
-size-of-requires : tie.Need-size-of-requires
-size-of-requires c κs = search needs
-
-is-below-zero-requires : tie.Need-is-below-zero-requires
-is-below-zero-requires c κs = search needs
-
 sub-result : tie.Need-sub-result
 sub-result c = rw (c .before .before .before .limit-of .ensures) (limit-some (widthOf (c .before .before .before .before .args .structure)))
 
@@ -40,9 +31,9 @@ pub is-long-spec : {M : Type 1} → statement M
 is-long-spec =
     tie.close
     (tie.spec
-    limit-of-requires
-    size-of-requires
-    is-below-zero-requires
+    (λ c κs. search needs)
+    (λ c κs. search needs)
+    (λ c κs. search needs)
     sub-result
     returns
     returns-2)

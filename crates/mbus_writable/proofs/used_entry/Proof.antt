@@ -3,11 +3,8 @@ use borrow.Author.Needs.{needs}
 use Rattle.mbus_writable.proofs.used_entry.Statement.{statement}
 use Rattle.mbus_writable.proofs.used_entry.Tie as tie
 
-used-value-requires : tie.Need-used-value-requires
-used-value-requires c κs = search needs
-
 returns : tie.Need-returns
 returns c = rw (c .before .before .used-value .ensures)
 
 pub used-entry-spec : {M : Type 1} → statement M
-used-entry-spec = tie.close (tie.spec used-value-requires returns)
+used-entry-spec = tie.close (tie.spec (λ c κs. search needs) returns)

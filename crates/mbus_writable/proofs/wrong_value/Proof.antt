@@ -15,12 +15,6 @@ use Rattle.mbus_writable.proofs.Laws.Sizes.{digits-coded}
 use Rattle.mbus_writable.proofs.wrong_value.Statement.{statement}
 use Rattle.mbus_writable.proofs.wrong_value.Tie as tie
 
-is-binary-requires : tie.Need-is-binary-requires
-is-binary-requires c κs = search needs
-
-enum-known-value : tie.Need-enum-known-value
-enum-known-value c = search needs
-
 returns : tie.Need-returns
 returns c =
     let a = c .before .before .before .before .before .args in
@@ -31,39 +25,6 @@ returns c =
 
 is-long-requires : tie.Need-is-long-requires
 is-long-requires c κs = sym (c .before .before .before .before .before .is-binary .ensures) ∙ c .before .if1 .left
-
-is-below-zero-requires : tie.Need-is-below-zero-requires
-is-below-zero-requires c κs = search needs
-
-may-fall-requires : tie.Need-may-fall-requires
-may-fall-requires c κs = search needs
-
-enum-known-value-2 : tie.Need-enum-known-value-2
-enum-known-value-2 c = search needs
-
-width-of-requires : tie.Need-width-of-requires
-width-of-requires c κs = search needs
-
-fits-binary-requires : tie.Need-fits-binary-requires
-fits-binary-requires c κs = search needs
-
-is-below-zero-requires-2 : tie.Need-is-below-zero-requires-2
-is-below-zero-requires-2 c κs = search needs
-
-may-fall-requires-2 : tie.Need-may-fall-requires-2
-may-fall-requires-2 c κs = search needs
-
-enum-known-value-3 : tie.Need-enum-known-value-3
-enum-known-value-3 c = search needs
-
-date-exists-requires : tie.Need-date-exists-requires
-date-exists-requires c κs = search needs
-
-time-exists-requires : tie.Need-time-exists-requires
-time-exists-requires c κs = search needs
-
-weekday-exists-requires : tie.Need-weekday-exists-requires
-weekday-exists-requires c κs = search needs
 
 returns-2 : tie.Need-returns-2
 returns-2 c =
@@ -110,21 +71,21 @@ pub wrong-value-spec : {M : Type 1} → statement M
 wrong-value-spec =
     tie.close
     (tie.spec
-    is-binary-requires
-    enum-known-value
+    (λ c κs. search needs)
+    (λ c. search needs)
     returns
     is-long-requires
-    is-below-zero-requires
-    may-fall-requires
-    enum-known-value-2
-    width-of-requires
-    fits-binary-requires
-    is-below-zero-requires-2
-    may-fall-requires-2
-    enum-known-value-3
-    date-exists-requires
-    time-exists-requires
-    weekday-exists-requires
+    (λ c κs. search needs)
+    (λ c κs. search needs)
+    (λ c. search needs)
+    (λ c κs. search needs)
+    (λ c κs. search needs)
+    (λ c κs. search needs)
+    (λ c κs. search needs)
+    (λ c. search needs)
+    (λ c κs. search needs)
+    (λ c κs. search needs)
+    (λ c κs. search needs)
     returns-2
     returns-3
     returns-4)

@@ -11,18 +11,12 @@ use Rattle.mbus_writing.proofs.Laws.Answering.{refused-20, at-most, ref
 use Rattle.mbus_writing.proofs.write_line.Statement.{statement}
 use Rattle.mbus_writing.proofs.write_line.Tie as tie
 
-is-unwritable-requires : tie.Need-is-unwritable-requires
-is-unwritable-requires c κs = search needs
-
 returns : tie.Need-returns
 returns c = refused-20 (sym (c .before .is-unwritable .ensures) ∙ c .if1 .taken)
 
 -- past the first test the telegram can be written
 can : (c : tie.Else1) → unwritable (c .before .before .before .args .telegram) ≡ false
 can c = sym (c .before .is-unwritable .ensures) ∙ c .if1 .left
-
-slice-aggregate-put-bytes : tie.Need-slice-aggregate-put-bytes
-slice-aggregate-put-bytes c = search needs
 
 put-bytes-requires : tie.Need-put-bytes-requires
 put-bytes-requires c κs = (can (c .before), refl)
@@ -49,9 +43,6 @@ slice-aggregate-carry c = sym (length-take-le (c .before .before .before .put-by
 carry-requires : tie.Need-carry-requires
 carry-requires c κs = rw (← slice-aggregate-carry (c .before)) (c .before .before .if2 .left)
 
-same-length : tie.Need-same-length
-same-length c = search needs
-
 returns-3 : tie.Need-returns-3
 returns-3 c =
     let i = c .before .before .before .before .before .before .before .before .before in
@@ -63,13 +54,13 @@ pub write-line-spec : {M : Type 1} → statement M
 write-line-spec =
     tie.close
     (tie.spec
-    is-unwritable-requires
+    (λ c κs. search needs)
     returns
-    slice-aggregate-put-bytes
+    (λ c. search needs)
     put-bytes-requires
     returns-2
     array-share-prefix-bytes
     slice-aggregate-carry
     carry-requires
-    same-length
+    (λ c. search needs)
     returns-3)

@@ -9,30 +9,6 @@ use borrow.Author.Needs.{needs}
 use Rattle.meter_record.proofs.front_bytes.Statement.{statement}
 use Rattle.meter_record.proofs.front_bytes.Tie as tie
 
-mode-of-requires : tie.Need-mode-of-requires
-mode-of-requires c κs = search needs
-
-head-bytes-requires : tie.Need-head-bytes-requires
-head-bytes-requires c κs = search needs
-
-since-of-requires : tie.Need-since-of-requires
-since-of-requires c κs = search needs
-
-slice-aggregate-put-record : tie.Need-slice-aggregate-put-record
-slice-aggregate-put-record c = search needs
-
-slice-aggregate-put-record-2 : tie.Need-slice-aggregate-put-record-2
-slice-aggregate-put-record-2 c = search needs
-
-slice-aggregate-put-record-3 : tie.Need-slice-aggregate-put-record-3
-slice-aggregate-put-record-3 c = search needs
-
-slice-aggregate-put-record-4 : tie.Need-slice-aggregate-put-record-4
-slice-aggregate-put-record-4 c = search needs
-
-put-record-requires : tie.Need-put-record-requires
-put-record-requires c κs = search needs
-
 returns : tie.Need-returns
 returns c =
     let m = c .before .before .before .before .before .before .before .before .before .args .m in
@@ -48,12 +24,12 @@ pub front-bytes-spec : {M : Type 1} → statement M
 front-bytes-spec =
     tie.close
     (tie.spec
-    mode-of-requires
-    head-bytes-requires
-    since-of-requires
-    slice-aggregate-put-record
-    slice-aggregate-put-record-2
-    slice-aggregate-put-record-3
-    slice-aggregate-put-record-4
-    put-record-requires
+    (λ c κs. search needs)
+    (λ c κs. search needs)
+    (λ c κs. search needs)
+    (λ c. search needs)
+    (λ c. search needs)
+    (λ c. search needs)
+    (λ c. search needs)
+    (λ c κs. search needs)
     returns)

@@ -3,15 +3,6 @@ use borrow.Author.Needs.{needs}
 use Rattle.meter_record.proofs.mode_in.Statement.{statement}
 use Rattle.meter_record.proofs.mode_in.Tie as tie
 
-shared-slice-read-verifies : tie.Need-shared-slice-read-verifies
-shared-slice-read-verifies c = search needs
-
-number-at-requires : tie.Need-number-at-requires
-number-at-requires c κs = search needs
-
-shared-slice-read-t8 : tie.Need-shared-slice-read-t8
-shared-slice-read-t8 c = search needs
-
 returns : tie.Need-returns
 returns c = rw (c .before .before .if1 .taken, c .before .number-at .ensures .so)
 
@@ -21,4 +12,4 @@ returns-2 c = rw (c .if1 .left)
 pub mode-in-spec : {M : Type 1} → statement M
 mode-in-spec =
     tie.close
-    (tie.spec shared-slice-read-verifies number-at-requires shared-slice-read-t8 returns returns-2)
+    (tie.spec (λ c. search needs) (λ c κs. search needs) (λ c. search needs) returns returns-2)

@@ -3,14 +3,8 @@ use borrow.Author.Needs.{needs}
 use Rattle.meter_record.proofs.no_meter.Statement.{statement}
 use Rattle.meter_record.proofs.no_meter.Tie as tie
 
-plain-requires : tie.Need-plain-requires
-plain-requires c κs = search needs
-
-set-up-requires : tie.Need-set-up-requires
-set-up-requires c κs = search needs
-
 returns : tie.Need-returns
 returns c = rw (c .before .set-up .ensures, c .before .before .plain .ensures)
 
 pub no-meter-spec : {M : Type 1} → statement M
-no-meter-spec = tie.close (tie.spec plain-requires set-up-requires returns)
+no-meter-spec = tie.close (tie.spec (λ c κs. search needs) (λ c κs. search needs) returns)

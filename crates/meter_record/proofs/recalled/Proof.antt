@@ -19,23 +19,8 @@ behind c =
     ∙ ap telegramBytes (template-in (now (c .before .before .args .b)) (c .before .before .args .template))
     ∙ c .before .before .pre .1
 
-meter-in-requires : tie.Need-meter-in-requires
-meter-in-requires c κs = search needs
-
-front-bytes-requires : tie.Need-front-bytes-requires
-front-bytes-requires c κs = search needs
-
 slice-aggregate-is-same : tie.Need-slice-aggregate-is-same
 slice-aggregate-is-same c = omega (arith, c .before .before .before .before .pre .0, length-take 56 (now (c .before .before .before .before .args .b)))
-
-slice-aggregate-is-same-2 : tie.Need-slice-aggregate-is-same-2
-slice-aggregate-is-same-2 c = search needs
-
-is-same-requires : tie.Need-is-same-requires
-is-same-requires c κs = search needs
-
-no-meter-requires : tie.Need-no-meter-requires
-no-meter-requires c κs = search needs
 
 returns : tie.Need-returns
 returns c =
@@ -44,12 +29,6 @@ returns c =
     (behind (c .before .before .before .before .before .before))
     (c .before .before .before .before .before .front-bytes .ensures) (c .before .before .is-same .ensures) (c .before .if1 .taken)))
     ∙ ap (λ (m : Meter). shownSetup (recalled b m)) (c .before .before .before .before .before .before .meter-in .ensures)
-
-is-unreached-requires : tie.Need-is-unreached-requires
-is-unreached-requires c κs = search needs
-
-no-meter-requires-2 : tie.Need-no-meter-requires-2
-no-meter-requires-2 c κs = search needs
 
 returns-2 : tie.Need-returns-2
 returns-2 c =
@@ -73,14 +52,14 @@ pub recalled-spec : {M : Type 1} → statement M
 recalled-spec =
     tie.close
     (tie.spec
-    meter-in-requires
-    front-bytes-requires
+    (λ c κs. search needs)
+    (λ c κs. search needs)
     slice-aggregate-is-same
-    slice-aggregate-is-same-2
-    is-same-requires
-    no-meter-requires
+    (λ c. search needs)
+    (λ c κs. search needs)
+    (λ c κs. search needs)
     returns
-    is-unreached-requires
-    no-meter-requires-2
+    (λ c κs. search needs)
+    (λ c κs. search needs)
     returns-2
     returns-3)

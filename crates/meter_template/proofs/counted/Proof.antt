@@ -8,11 +8,8 @@ use mir.ValLaws.{toZ-ofZ}
 use Rattle.meter_template.proofs.counted.Statement.{statement}
 use Rattle.meter_template.proofs.counted.Tie as tie
 
-cast-count : tie.Need-cast-count
-cast-count c = search needs
-
 returns : tie.Need-returns
 returns c = rw (toZ-ofZ w64 (pos (c .args .total % 2 ^ 63)) (record { sfits = omega arith }))
 
 pub counted-spec : {M : Type 1} → statement M
-counted-spec = tie.close (tie.spec cast-count returns)
+counted-spec = tie.close (tie.spec (λ c. search needs) returns)

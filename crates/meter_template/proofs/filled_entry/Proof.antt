@@ -4,20 +4,8 @@ use borrow.Author.Needs.{needs}
 use Rattle.meter_template.proofs.filled_entry.Statement.{statement}
 use Rattle.meter_template.proofs.filled_entry.Tie as tie
 
-holds-requires : tie.Need-holds-requires
-holds-requires c κs = search needs
-
-counted-requires : tie.Need-counted-requires
-counted-requires c κs = search needs
-
 returns : tie.Need-returns
 returns c = rw (sym (c .before .before .holds .ensures) ∙ c .before .if1 .taken) (c .counted .ensures)
-
-holds-requires-2 : tie.Need-holds-requires-2
-holds-requires-2 c κs = search needs
-
-counted-requires-2 : tie.Need-counted-requires-2
-counted-requires-2 c κs = search needs
 
 returns-2 : tie.Need-returns-2
 returns-2 c = rw (
@@ -33,10 +21,10 @@ pub filled-entry-spec : {M : Type 1} → statement M
 filled-entry-spec =
     tie.close
     (tie.spec
-    holds-requires
-    counted-requires
+    (λ c κs. search needs)
+    (λ c κs. search needs)
     returns
-    holds-requires-2
-    counted-requires-2
+    (λ c κs. search needs)
+    (λ c κs. search needs)
     returns-2
     returns-3)

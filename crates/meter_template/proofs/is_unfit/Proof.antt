@@ -8,15 +8,6 @@ use Rattle.meter_template.specs.Templates.{isDataKind, lacks}
 use Rattle.meter_template.proofs.is_unfit.Statement.{statement}
 use Rattle.meter_template.proofs.is_unfit.Tie as tie
 
-is-data-requires : tie.Need-is-data-requires
-is-data-requires c κs = search needs
-
-is-unwritable-requires : tie.Need-is-unwritable-requires
-is-unwritable-requires c κs = search needs
-
-lacks-one-requires : tie.Need-lacks-one-requires
-lacks-one-requires c κs = search needs
-
 returns : tie.Need-returns
 returns c =
     let t = c .before .before .before .before .args .template in
@@ -27,7 +18,7 @@ pub is-unfit-spec : {M : Type 1} → statement M
 is-unfit-spec =
     tie.close
     (tie.spec
-    is-data-requires
-    is-unwritable-requires
-    lacks-one-requires
+    (λ c κs. search needs)
+    (λ c κs. search needs)
+    (λ c κs. search needs)
     returns)

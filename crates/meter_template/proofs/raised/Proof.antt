@@ -3,11 +3,8 @@ use borrow.Author.Needs.{needs}
 use Rattle.meter_template.proofs.raised.Statement.{statement}
 use Rattle.meter_template.proofs.raised.Tie as tie
 
-next-access-requires : tie.Need-next-access-requires
-next-access-requires c κs = search needs
-
 returns : tie.Need-returns
 returns c = rw (c .before .next-access .ensures)
 
 pub raised-spec : {M : Type 1} → statement M
-raised-spec = tie.close (tie.spec next-access-requires returns)
+raised-spec = tie.close (tie.spec (λ c κs. search needs) returns)

@@ -8,26 +8,11 @@ use borrow.Author.Needs.{needs}
 use Rattle.picture_text.proofs.draw.Statement.{statement}
 use Rattle.picture_text.proofs.draw.Tie as tie
 
-check-requires : tie.Need-check-requires
-check-requires c κs = search needs
-
-enum-known-count : tie.Need-enum-known-count
-enum-known-count c = search needs
-
 draw-rows-requires : tie.Need-draw-rows-requires
 draw-rows-requires c κs =
     let b = c .before .before .before .before .before .before .before .args .bundle .now in
     let n = c .before .before .count .given .0 .0 in
     shownChecked-same (checkOf b) (reads n) (sym (c .before .before .before .before .check .ensures) ∙ c .before .before .count .given .1)
-
-enum-known-number : tie.Need-enum-known-number
-enum-known-number c = search needs
-
-same-length : tie.Need-same-length
-same-length c = search needs
-
-returns : tie.Need-returns
-returns c = search needs
 
 returns-2 : tie.Need-returns-2
 returns-2 c =
@@ -42,10 +27,10 @@ pub draw-spec : {M : Type 1} → statement M
 draw-spec =
     tie.close
     (tie.spec
-    check-requires
-    enum-known-count
+    (λ c κs. search needs)
+    (λ c. search needs)
     draw-rows-requires
-    enum-known-number
-    same-length
-    returns
+    (λ c. search needs)
+    (λ c. search needs)
+    (λ c. search needs)
     returns-2)

@@ -5,15 +5,6 @@ use borrow.Author.Needs.{needs}
 use Rattle.picture_text.proofs.draw_rows.Statement.{statement}
 use Rattle.picture_text.proofs.draw_rows.Tie as tie
 
-verdicts-in-requires : tie.Need-verdicts-in-requires
-verdicts-in-requires c κs = search needs
-
-page-of-requires : tie.Need-page-of-requires
-page-of-requires c κs = search needs
-
-slice-aggregate-put-picture : tie.Need-slice-aggregate-put-picture
-slice-aggregate-put-picture c = search needs
-
 put-picture-requires : tie.Need-put-picture-requires
 put-picture-requires c κs = (c .before .before .before .before .before .before .pre, c .before .page-of .ensures .1)
 
@@ -34,9 +25,6 @@ put-picture-requires-2 c κs =
     let back10 = back5 .before .before .before .before .before in
     (back10 .pre, back5 .page-of .ensures .1)
 
-same-length : tie.Need-same-length
-same-length c = search needs
-
 returns-2 : tie.Need-returns-2
 returns-2 c =
     let back2 = c .before .before in
@@ -55,11 +43,11 @@ pub draw-rows-spec : {M : Type 1} → statement M
 draw-rows-spec =
     tie.close
     (tie.spec
-    verdicts-in-requires
-    page-of-requires
-    slice-aggregate-put-picture
+    (λ c κs. search needs)
+    (λ c κs. search needs)
+    (λ c. search needs)
     put-picture-requires
     returns
     put-picture-requires-2
-    same-length
+    (λ c. search needs)
     returns-2)

@@ -19,21 +19,6 @@ loop-holds : tie.Need-loop-holds Inv-loop μ-loop
 unfolding monthDays
 loop-holds c = (search needs, refl, search needs)
 
-add-month : tie.Need-add-month Inv-loop μ-loop
-add-month c = search needs
-
-days-in-requires : tie.Need-days-in-requires Inv-loop μ-loop
-days-in-requires c κs = search needs
-
-cast-days : tie.Need-cast-days Inv-loop μ-loop
-cast-days c = search needs
-
-add-days : tie.Need-add-days Inv-loop μ-loop
-add-days c = search needs
-
-loop-less : tie.Need-loop-less Inv-loop μ-loop
-loop-less c = search needs
-
 loop-again : tie.Need-loop-again Inv-loop μ-loop
 unfolding monthDays
 loop-again c =
@@ -56,10 +41,10 @@ month-days-spec =
     Inv-loop
     μ-loop
     loop-holds
-    add-month
-    days-in-requires
-    cast-days
-    add-days
-    loop-less
+    (λ c. search needs)
+    (λ c κs. search needs)
+    (λ c. search needs)
+    (λ c. search needs)
+    (λ c. search needs)
     loop-again
     returns)

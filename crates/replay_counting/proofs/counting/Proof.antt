@@ -6,24 +6,6 @@ use borrow.Author.Needs.{needs}
 use Rattle.replay_counting.proofs.counting.Statement.{statement}
 use Rattle.replay_counting.proofs.counting.Tie as tie
 
-check-requires : tie.Need-check-requires
-check-requires c κs = search needs
-
-enum-known-number : tie.Need-enum-known-number
-enum-known-number c = search needs
-
-refused-requires : tie.Need-refused-requires
-refused-requires c κs = search needs
-
-enum-known-count : tie.Need-enum-known-count
-enum-known-count c = search needs
-
-wrong-position-requires : tie.Need-wrong-position-requires
-wrong-position-requires c κs = search needs
-
-refused-requires-2 : tie.Need-refused-requires-2
-refused-requires-2 c κs = search needs
-
 returns : tie.Need-returns
 returns c =
     let back4 = c .before .before .before .before in
@@ -59,12 +41,12 @@ pub counting-spec : {M : Type 1} → statement M
 counting-spec =
     tie.close
     (tie.spec
-    check-requires
-    enum-known-number
-    refused-requires
-    enum-known-count
-    wrong-position-requires
-    refused-requires-2
+    (λ c κs. search needs)
+    (λ c. search needs)
+    (λ c κs. search needs)
+    (λ c. search needs)
+    (λ c κs. search needs)
+    (λ c κs. search needs)
     returns
     put-numbers-requires
     returns-2

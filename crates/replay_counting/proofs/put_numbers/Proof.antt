@@ -40,15 +40,6 @@ element-write-rows c =
     let a = back3 .before .before .args in
     omega (arith, few-rows (a .bundle .now) (a .count) (back3 .before .before .pre .0), back3 .loop .inv .few, back3 .loop .inv .whole)
 
-add-found : tie.Need-add-found Inv-loop μ-loop
-add-found c = search needs
-
-add-i : tie.Need-add-i Inv-loop μ-loop
-add-i c = search needs
-
-loop-less : tie.Need-loop-less Inv-loop μ-loop
-loop-less c = search needs
-
 loop-again : tie.Need-loop-again Inv-loop μ-loop
 loop-again c =
     let back3 = c .before .before .before in
@@ -71,8 +62,8 @@ put-numbers-spec =
     cast-rows
     mul-rows
     element-write-rows
-    add-found
-    add-i
-    loop-less
+    (λ c. search needs)
+    (λ c. search needs)
+    (λ c. search needs)
     loop-again
     returns)

@@ -3,14 +3,8 @@ use borrow.Author.Needs.{needs}
 use Rattle.replay_error.proofs.error_between.Statement.{statement}
 use Rattle.replay_error.proofs.error_between.Tie as tie
 
-interval-requires : tie.Need-interval-requires
-interval-requires c κs = search needs
-
-error-of-figures-requires : tie.Need-error-of-figures-requires
-error-of-figures-requires c κs = search needs
-
 returns : tie.Need-returns
 returns c = rw (c .error-of-figures .ensures, c .before .interval .ensures)
 
 pub error-between-spec : {M : Type 1} → statement M
-error-between-spec = tie.close (tie.spec interval-requires error-of-figures-requires returns)
+error-between-spec = tie.close (tie.spec (λ c κs. search needs) (λ c κs. search needs) returns)

@@ -18,12 +18,6 @@ returns : tie.Need-returns
 unfolding errorOfFigures
 returns c = rw (c .if1 .taken)
 
-wrong-interval-requires : tie.Need-wrong-interval-requires
-wrong-interval-requires c κs = search needs
-
-wrong-interval-requires-2 : tie.Need-wrong-interval-requires-2
-wrong-interval-requires-2 c κs = search needs
-
 returns-2 : tie.Need-returns-2
 unfolding errorOfFigures
 returns-2 c = rw (c .before .before .before .if1 .left, ← c .before .before .wrong-interval .ensures, ← c .before .wrong-interval2 .ensures, c .if2 .taken)
@@ -47,9 +41,6 @@ returns-4 c =
       c .if4 .taken,
     )
 
-sub-error-of-rises : tie.Need-sub-error-of-rises
-sub-error-of-rises c = search needs
-
 mul-error-of-rises : tie.Need-mul-error-of-rises
 mul-error-of-rises c =
     let back3 = c .before .before .before in
@@ -66,9 +57,6 @@ mul-error-of-rises-2 c =
     let a = back3 .before .before .before .args in
     let wrong = both (back3 .before .wrong-interval .ensures) (back3 .wrong-interval2 .ensures) (c .before .before .if2 .left) in
     omega (arith, standard-fits (a .v1) (a .v2) (a .s1) (a .s2) (back3 .before .before .if1 .left) (a .elapsed) (a .meter) wrong)
-
-error-of-rises-requires : tie.Need-error-of-rises-requires
-error-of-rises-requires c κs = search needs
 
 returns-5 : tie.Need-returns-5
 unfolding errorOfFigures
@@ -87,14 +75,14 @@ error-of-figures-spec =
     tie.close
     (tie.spec
     returns
-    wrong-interval-requires
-    wrong-interval-requires-2
+    (λ c κs. search needs)
+    (λ c κs. search needs)
     returns-2
     returns-3
     returns-4
-    sub-error-of-rises
+    (λ c. search needs)
     mul-error-of-rises
     sub-error-of-rises-2
     mul-error-of-rises-2
-    error-of-rises-requires
+    (λ c κs. search needs)
     returns-5)

@@ -15,20 +15,11 @@ use Rattle.replay_error.proofs.Laws.Replaying.{error-refused, error-tol
 use Rattle.replay_error.proofs.replay.Statement.{statement}
 use Rattle.replay_error.proofs.replay.Tie as tie
 
-counting-requires : tie.Need-counting-requires
-counting-requires c κs = search needs
-
-enum-known-outcome : tie.Need-enum-known-outcome
-enum-known-outcome c = search needs
-
 returns : tie.Need-returns
 returns c =
     let back3 = c .before .before .before in
     let a = back3 .before .before .args in
     replay-refused (a .bundle .now) (a .position) (a .s1) (a .s2) (a .elapsed) (back3 .counting .ensures) (c .before .outcome .given .1)
-
-enum-told : tie.Need-enum-told
-enum-told c = search needs
 
 returns-2 : tie.Need-returns-2
 returns-2 c =
@@ -36,15 +27,6 @@ returns-2 c =
     let a = back3 .before .before .args in
     let k = replay-counts (a .bundle .now) (a .position) (a .s1) (a .s2) (a .elapsed) (back3 .counting .ensures) (c .before .enum-told .given .1) in
     replay-few (a .bundle .now) (a .position) (a .s1) (a .s2) (a .elapsed) k (c .if1 .taken)
-
-array-read-first : tie.Need-array-read-first
-array-read-first c = search needs
-
-cast-first : tie.Need-cast-first
-cast-first c = search needs
-
-sub-last : tie.Need-sub-last
-sub-last c = search needs
 
 mul-last : tie.Need-mul-last
 mul-last c =
@@ -59,24 +41,6 @@ array-read-last c =
     let a = back4 .before .before .args in
     let k = replay-counts (a .bundle .now) (a .position) (a .s1) (a .s2) (a .elapsed) (back4 .counting .ensures) (c .before .before .enum-told .given .1) in
     omega (arith, count-fits (a .bundle .now) (a .position) (a .s1) (a .s2) (a .elapsed) k)
-
-cast-last : tie.Need-cast-last
-cast-last c = search needs
-
-figures-at-requires : tie.Need-figures-at-requires
-figures-at-requires c κs = search needs
-
-figures-at-requires-2 : tie.Need-figures-at-requires-2
-figures-at-requires-2 c κs = search needs
-
-error-between-requires : tie.Need-error-between-requires
-error-between-requires c κs = search needs
-
-enum-known-tenths : tie.Need-enum-known-tenths
-enum-known-tenths c = search needs
-
-enum-known-n : tie.Need-enum-known-n
-enum-known-n c = search needs
 
 returns-3 : tie.Need-returns-3
 returns-3 c =
@@ -114,21 +78,21 @@ pub replay-spec : {M : Type 1} → statement M
 replay-spec =
     tie.close
     (tie.spec
-    counting-requires
-    enum-known-outcome
+    (λ c κs. search needs)
+    (λ c. search needs)
     returns
-    enum-told
+    (λ c. search needs)
     returns-2
-    array-read-first
-    cast-first
-    sub-last
+    (λ c. search needs)
+    (λ c. search needs)
+    (λ c. search needs)
     mul-last
     array-read-last
-    cast-last
-    figures-at-requires
-    figures-at-requires-2
-    error-between-requires
-    enum-known-tenths
-    enum-known-n
+    (λ c. search needs)
+    (λ c κs. search needs)
+    (λ c κs. search needs)
+    (λ c κs. search needs)
+    (λ c. search needs)
+    (λ c. search needs)
     returns-3
     returns-4)

@@ -9,16 +9,10 @@ use Rattle.serial_marks.proofs.after_zero.Tie as tie
 returns : tie.Need-returns
 returns c = rw (drop-of-length-le (now (c .before .before .args .bytes)) (c .if1 .taken))
 
-shared-slice-read-wrong : tie.Need-shared-slice-read-wrong
-shared-slice-read-wrong c = search needs
-
-wrong-requires : tie.Need-wrong-requires
-wrong-requires c κs = search needs
-
 returns-2 : tie.Need-returns-2
 returns-2 c =
     let a = c .before .before .before .before .args in
     rw (here (now (a .bytes)) (a .at) (c .before .before .if1 .left), c .wrong .ensures)
 
 pub after-zero-spec : {M : Type 1} → statement M
-after-zero-spec = tie.close (tie.spec returns shared-slice-read-wrong wrong-requires returns-2)
+after-zero-spec = tie.close (tie.spec returns (λ c. search needs) (λ c κs. search needs) returns-2)

@@ -10,22 +10,10 @@ use Rattle.serial_marks.proofs.first_at.Tie as tie
 returns : tie.Need-returns
 returns c = rw (drop-of-length-le (now (c .before .before .args .bytes)) (c .if1 .taken))
 
-shared-slice-read-byte : tie.Need-shared-slice-read-byte
-shared-slice-read-byte c = search needs
-
-add-after-mark : tie.Need-add-after-mark
-add-after-mark c = search needs
-
-after-mark-requires : tie.Need-after-mark-requires
-after-mark-requires c κs = search needs
-
 returns-2 : tie.Need-returns-2
 returns-2 c =
     let a = c .before .before .before .before .before .args in
     rw (here (now (a .bytes)) (a .at) (c .before .before .before .if1 .left), eq-eqb _ _ (c .before .if2 .taken), c .after-mark .ensures)
-
-right-requires : tie.Need-right-requires
-right-requires c κs = search needs
 
 returns-3 : tie.Need-returns-3
 returns-3 c =
@@ -37,9 +25,9 @@ first-at-spec =
     tie.close
     (tie.spec
     returns
-    shared-slice-read-byte
-    add-after-mark
-    after-mark-requires
+    (λ c. search needs)
+    (λ c. search needs)
+    (λ c κs. search needs)
     returns-2
-    right-requires
+    (λ c κs. search needs)
     returns-3)

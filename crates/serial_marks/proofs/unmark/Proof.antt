@@ -18,15 +18,6 @@ abbrev μ-loop : tie.MeasureT-loop
 loop-holds : tie.Need-loop-holds Inv-loop μ-loop
 loop-holds c = along-none (now (c .before .before .args .bytes)) (now (c .before .before .args .characters))
 
-first-at-requires : tie.Need-first-at-requires Inv-loop μ-loop
-first-at-requires c κs = search needs
-
-enum-known-next : tie.Need-enum-known-next Inv-loop μ-loop
-enum-known-next c = search needs
-
-enum-told : tie.Need-enum-told Inv-loop μ-loop
-enum-told c = search needs
-
 same-length : tie.Need-same-length Inv-loop μ-loop
 same-length c = along-length (c .before .before .before .before .loop .inv)
 
@@ -36,9 +27,6 @@ returns c = along-stop (c .before .before .before .before .loop .inv) (sym (c .b
 mul-characters : tie.Need-mul-characters Inv-loop μ-loop
 mul-characters c = let n = along-length (c .before .before .before .before .before .loop .inv) in omega arith
 
-slice-write-characters : tie.Need-slice-write-characters Inv-loop μ-loop
-slice-write-characters c = search needs
-
 add-used : tie.Need-add-used Inv-loop μ-loop
 add-used c =
     omega (
@@ -46,9 +34,6 @@ add-used c =
       along-inside (c .before .before .before .before .before .loop .inv)
           (sym (c .before .before .before .first-at .ensures) ∙ c .before .next .given .1),
     )
-
-add-made : tie.Need-add-made Inv-loop μ-loop
-add-made c = search needs
 
 loop-less : tie.Need-loop-less Inv-loop μ-loop
 loop-less c = omega (arith, along-length (c .before .before .before .before .before .loop .inv))
@@ -71,15 +56,15 @@ unmark-spec =
     Inv-loop
     μ-loop
     loop-holds
-    first-at-requires
-    enum-known-next
-    enum-told
+    (λ c κs. search needs)
+    (λ c. search needs)
+    (λ c. search needs)
     same-length
     returns
     mul-characters
-    slice-write-characters
+    (λ c. search needs)
     add-used
-    add-made
+    (λ c. search needs)
     loop-less
     loop-again
     same-length-2

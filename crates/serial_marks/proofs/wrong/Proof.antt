@@ -4,11 +4,8 @@ use borrow.Author.Needs.{needs}
 use Rattle.serial_marks.proofs.wrong.Statement.{statement}
 use Rattle.serial_marks.proofs.wrong.Tie as tie
 
-right-requires : tie.Need-right-requires
-right-requires c κs = search needs
-
 returns : tie.Need-returns
 returns c = rw (c .right .ensures) (wronged-turned (c .before .args .byte))
 
 pub wrong-spec : {M : Type 1} → statement M
-wrong-spec = tie.close (tie.spec right-requires returns)
+wrong-spec = tie.close (tie.spec (λ c κs. search needs) returns)

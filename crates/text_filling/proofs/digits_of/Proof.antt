@@ -13,32 +13,14 @@ Inv-loop n bytes₀ start₀ rest₀ bytes start rest = Spelled n start rest byt
 abbrev μ-loop : tie.MeasureT-loop
 μ-loop n bytes₀ start₀ rest₀ bytes start rest = rest
 
-add-bytes : tie.Need-add-bytes Inv-loop μ-loop
-add-bytes c = search needs
-
-cast-bytes : tie.Need-cast-bytes Inv-loop μ-loop
-cast-bytes c = search needs
-
-array-write-bytes : tie.Need-array-write-bytes Inv-loop μ-loop
-array-write-bytes c = search needs
-
 loop-holds : tie.Need-loop-holds Inv-loop μ-loop
 loop-holds c = spelled-first (c .args .n) (replicate 20 0) (omega arith) refl
 
 sub-start : tie.Need-sub-start Inv-loop μ-loop
 sub-start c = omega (arith, spelled-more (c .before .loop .inv) (c .loop-test .taken))
 
-add-bytes-2 : tie.Need-add-bytes-2 Inv-loop μ-loop
-add-bytes-2 c = search needs
-
-cast-bytes-2 : tie.Need-cast-bytes-2 Inv-loop μ-loop
-cast-bytes-2 c = search needs
-
 array-write-bytes-2 : tie.Need-array-write-bytes-2 Inv-loop μ-loop
 array-write-bytes-2 c = omega (arith, spelled-more (c .before .loop .inv) (c .loop-test .taken))
-
-loop-less : tie.Need-loop-less Inv-loop μ-loop
-loop-less c = search needs
 
 loop-again : tie.Need-loop-again Inv-loop μ-loop
 loop-again c = spelled-next (c .before .loop .inv) (c .loop-test .taken)
@@ -52,14 +34,14 @@ digits-of-spec =
     (tie.spec
     Inv-loop
     μ-loop
-    add-bytes
-    cast-bytes
-    array-write-bytes
+    (λ c. search needs)
+    (λ c. search needs)
+    (λ c. search needs)
     loop-holds
     sub-start
-    add-bytes-2
-    cast-bytes-2
+    (λ c. search needs)
+    (λ c. search needs)
     array-write-bytes-2
-    loop-less
+    (λ c. search needs)
     loop-again
     returns)

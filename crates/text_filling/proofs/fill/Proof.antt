@@ -19,24 +19,6 @@ abbrev μ-loop : tie.MeasureT-loop
 loop-holds : tie.Need-loop-holds Inv-loop μ-loop
 loop-holds c = (search needs, search needs, left-all (search needs) (search needs))
 
-shared-slice-read-byte : tie.Need-shared-slice-read-byte Inv-loop μ-loop
-shared-slice-read-byte c = search needs
-
-add-i : tie.Need-add-i Inv-loop μ-loop
-add-i c = search needs
-
-number-or-none-requires : tie.Need-number-or-none-requires Inv-loop μ-loop
-number-or-none-requires c κs = search needs
-
-put-number-requires : tie.Need-put-number-requires Inv-loop μ-loop
-put-number-requires c κs = search needs
-
-add-used : tie.Need-add-used Inv-loop μ-loop
-add-used c = search needs
-
-loop-less : tie.Need-loop-less Inv-loop μ-loop
-loop-less c = search needs
-
 loop-again : tie.Need-loop-again Inv-loop μ-loop
 loop-again c =
     let at-loop = c .before .before .before .before .before .before .before .before in
@@ -45,12 +27,6 @@ loop-again c =
     let next = filledWith-hole (a .template .now) (a .numbers .now) (at-loop .loop .i) (at-loop .loop .used) (omega arith)
     (c .before .before .before .before .before .if1 .taken) (c .before .before .before .before .number-or-none .ensures) in
     (omega arith, omega arith, left-next (inv .2) next (c .before .before .put-number .ensures))
-
-put-byte-requires : tie.Need-put-byte-requires Inv-loop μ-loop
-put-byte-requires c κs = search needs
-
-loop-less-2 : tie.Need-loop-less-2 Inv-loop μ-loop
-loop-less-2 c = search needs
 
 loop-again-2 : tie.Need-loop-again-2 Inv-loop μ-loop
 loop-again-2 c =
@@ -78,15 +54,15 @@ fill-spec =
     Inv-loop
     μ-loop
     loop-holds
-    shared-slice-read-byte
-    add-i
-    number-or-none-requires
-    put-number-requires
-    add-used
-    loop-less
+    (λ c. search needs)
+    (λ c. search needs)
+    (λ c κs. search needs)
+    (λ c κs. search needs)
+    (λ c. search needs)
+    (λ c. search needs)
     loop-again
-    put-byte-requires
-    loop-less-2
+    (λ c κs. search needs)
+    (λ c. search needs)
     loop-again-2
     same-length
     returns)

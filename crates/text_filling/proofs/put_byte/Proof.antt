@@ -4,24 +4,9 @@ use Rattle.text_filling.proofs.Laws.WritingLaws.{one-past}
 use Rattle.text_filling.proofs.put_byte.Statement.{statement}
 use Rattle.text_filling.proofs.put_byte.Tie as tie
 
-slice-write-out : tie.Need-slice-write-out
-slice-write-out c = search needs
-
-add-result : tie.Need-add-result
-add-result c = search needs
-
-same-length : tie.Need-same-length
-same-length c = search needs
-
-returns : tie.Need-returns
-returns c = search needs
-
-behind-requires : tie.Need-behind-requires
-behind-requires c κs = search needs
-
 returns-2 : tie.Need-returns-2
 returns-2 c = one-past (c .before .before .before .args .byte) (c .before .if1 .left) (c .behind .ensures)
 
 pub put-byte-spec : {M : Type 1} → statement M
 put-byte-spec =
-    tie.close (tie.spec slice-write-out add-result same-length returns behind-requires returns-2)
+    tie.close (tie.spec (λ c. search needs) (λ c. search needs) (λ c. search needs) (λ c. search needs) (λ c κs. search needs) returns-2)

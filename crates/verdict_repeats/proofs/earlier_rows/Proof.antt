@@ -6,15 +6,6 @@ use borrow.Author.Needs.{needs}
 use Rattle.verdict_repeats.proofs.earlier_rows.Statement.{statement}
 use Rattle.verdict_repeats.proofs.earlier_rows.Tie as tie
 
-check-requires : tie.Need-check-requires
-check-requires c κs = search needs
-
-enum-known-number : tie.Need-enum-known-number
-enum-known-number c = search needs
-
-enum-known-count : tie.Need-enum-known-count
-enum-known-count c = search needs
-
 returns : tie.Need-returns
 returns c =
     let back4 = c .before .before .before .before in
@@ -27,17 +18,11 @@ mark-rows-requires c κs =
     let a = back5 .before .before .before .args in
     (check-reads (a .bundle .now) (back5 .check .ensures) (c .before .before .before .count .given .1), refl)
 
-put-earlier-requires : tie.Need-put-earlier-requires
-put-earlier-requires c κs = search needs
-
 returns-2 : tie.Need-returns-2
 returns-2 c =
     let back3 = c .before .before .before in
     let a = back3 .before .before .before .args in
     earlier-refused (a .bundle .now) (a .rows .now) (check-refused (a .bundle .now) (back3 .check .ensures) (c .before .number .given .1))
-
-same-length : tie.Need-same-length
-same-length c = search needs
 
 returns-3 : tie.Need-returns-3
 returns-3 c =
@@ -51,12 +36,12 @@ pub earlier-rows-spec : {M : Type 1} → statement M
 earlier-rows-spec =
     tie.close
     (tie.spec
-    check-requires
-    enum-known-number
-    enum-known-count
+    (λ c κs. search needs)
+    (λ c. search needs)
+    (λ c. search needs)
     returns
     mark-rows-requires
-    put-earlier-requires
+    (λ c κs. search needs)
     returns-2
-    same-length
+    (λ c. search needs)
     returns-3)

@@ -18,17 +18,8 @@ loop-holds c = putting-none (c .before .before .pre .0 .accepted) (c .before .be
 earlier-of-requires : tie.Need-earlier-of-requires Inv-loop μ-loop
 earlier-of-requires c κs = (c .before .before .before .before .pre .0, c .loop-test .taken)
 
-mul-rows : tie.Need-mul-rows Inv-loop μ-loop
-mul-rows c = search needs
-
 slice-write-rows : tie.Need-slice-write-rows Inv-loop μ-loop
 slice-write-rows c = omega (arith, c .before .loop-test .taken, c .before .before .loop .inv .room, c .before .before .loop .inv .size)
-
-add-i : tie.Need-add-i Inv-loop μ-loop
-add-i c = search needs
-
-loop-less : tie.Need-loop-less Inv-loop μ-loop
-loop-less c = search needs
 
 loop-again : tie.Need-loop-again Inv-loop μ-loop
 loop-again c = putting-next (c .before .before .loop .inv) (c .before .loop-test .taken) (c .earlier-of .ensures)
@@ -47,10 +38,10 @@ put-earlier-spec =
     μ-loop
     loop-holds
     earlier-of-requires
-    mul-rows
+    (λ c. search needs)
     slice-write-rows
-    add-i
-    loop-less
+    (λ c. search needs)
+    (λ c. search needs)
     loop-again
     same-length
     returns)

@@ -7,23 +7,11 @@ use borrow.Author.Needs.{needs}
 use Rattle.verdict_rows.proofs.verdicts_in.Statement.{statement}
 use Rattle.verdict_rows.proofs.verdicts_in.Tie as tie
 
-check-requires : tie.Need-check-requires
-check-requires c κs = search needs
-
-enum-known-count : tie.Need-enum-known-count
-enum-known-count c = search needs
-
 walk-requires : tie.Need-walk-requires
 walk-requires c κs =
     let back3 = c .before .before .before in
     let b = back3 .before .before .args .bundle .now in
     walkable-in b (check-reads b (back3 .check .ensures) (c .before .count .given .1))
-
-enum-known-number : tie.Need-enum-known-number
-enum-known-number c = search needs
-
-refused-requires : tie.Need-refused-requires
-refused-requires c κs = search needs
 
 returns : tie.Need-returns
 returns c =
@@ -41,10 +29,10 @@ pub verdicts-in-spec : {M : Type 1} → statement M
 verdicts-in-spec =
     tie.close
     (tie.spec
-    check-requires
-    enum-known-count
+    (λ c κs. search needs)
+    (λ c. search needs)
     walk-requires
-    enum-known-number
-    refused-requires
+    (λ c. search needs)
+    (λ c κs. search needs)
     returns
     returns-2)

@@ -5,9 +5,6 @@ use Rattle.bench_clock.proofs.Laws.Gaps.{gap-short, gap-long, gap-fine}
 use Rattle.bench_clock.proofs.Clock.gap.Statement.{statement}
 use Rattle.bench_clock.proofs.Clock.gap.Tie as tie
 
-since-requires : tie.Need-since-requires
-since-requires c κs = search needs
-
 returns : tie.Need-returns
 returns c =
     let a = c .before .before .args in
@@ -24,4 +21,4 @@ returns-3 c =
     rw (gap-fine (a .self .0) (a .begins .0) (omega arith) (omega arith))
 
 pub gap-spec : {M : Type 1} → statement M
-gap-spec = tie.close (tie.spec since-requires returns returns-2 returns-3)
+gap-spec = tie.close (tie.spec (λ c κs. search needs) returns returns-2 returns-3)

@@ -5,18 +5,6 @@ use Rattle.bundle_adding.proofs.Laws.Writing.{bodies-moved}
 use Rattle.bundle_adding.proofs.bodies.move_bodies.Statement.{statement}
 use Rattle.bundle_adding.proofs.bodies.move_bodies.Tie as tie
 
-move-by-twelve-requires : tie.Need-move-by-twelve-requires
-move-by-twelve-requires c κs = search needs
-
-add-lay : tie.Need-add-lay
-add-lay c = search needs
-
-lay-requires : tie.Need-lay-requires
-lay-requires c κs = search needs
-
-same-length : tie.Need-same-length
-same-length c = search needs
-
 returns : tie.Need-returns
 returns c =
     let back6 = c .before .before .before .before .before .before in
@@ -27,4 +15,4 @@ returns c =
 
 pub move-bodies-spec : {M : Type 1} → statement M
 move-bodies-spec =
-    tie.close (tie.spec move-by-twelve-requires add-lay lay-requires same-length returns)
+    tie.close (tie.spec (λ c κs. search needs) (λ c. search needs) (λ c κs. search needs) (λ c. search needs) returns)

@@ -16,38 +16,8 @@ abbrev μ-loop : tie.MeasureT-loop
 loop-holds : tie.Need-loop-holds Inv-loop μ-loop
 loop-holds c = placing-none (c .before .pre .0) (c .before .pre .1) (c .before .pre .2)
 
-unchecked-row-requires : tie.Need-unchecked-row-requires Inv-loop μ-loop
-unchecked-row-requires c κs = search needs
-
-cast-offset : tie.Need-cast-offset Inv-loop μ-loop
-cast-offset c = search needs
-
-row-bytes-requires : tie.Need-row-bytes-requires Inv-loop μ-loop
-row-bytes-requires c κs = search needs
-
-mul-lay : tie.Need-mul-lay Inv-loop μ-loop
-mul-lay c = search needs
-
-add-lay : tie.Need-add-lay Inv-loop μ-loop
-add-lay c = search needs
-
-slice-aggregate-lay : tie.Need-slice-aggregate-lay Inv-loop μ-loop
-slice-aggregate-lay c = search needs
-
-lay-requires : tie.Need-lay-requires Inv-loop μ-loop
-lay-requires c κs = search needs
-
-cast-at : tie.Need-cast-at Inv-loop μ-loop
-cast-at c = search needs
-
 add-at : tie.Need-add-at Inv-loop μ-loop
 add-at c = omega (arith, c .struct-known .given)
-
-add-i : tie.Need-add-i Inv-loop μ-loop
-add-i c = search needs
-
-loop-less : tie.Need-loop-less Inv-loop μ-loop
-loop-less c = search needs
 
 loop-again : tie.Need-loop-again Inv-loop μ-loop
 loop-again c =
@@ -59,9 +29,6 @@ loop-again c =
     placing-next (back10 .loop .inv) (back9 .loop-test .taken) (back7 .unchecked-row .ensures) (omega (arith, c .struct-known .given))
     (back6 .row-bytes .ensures) (back3 .lay .ensures) (back3 .lay .kept .0)
 
-same-length : tie.Need-same-length Inv-loop μ-loop
-same-length c = search needs
-
 returns : tie.Need-returns Inv-loop μ-loop
 returns c = placing-all (c .before .loop .inv) (c .loop-test .left)
 
@@ -72,17 +39,17 @@ place-rows-spec =
     Inv-loop
     μ-loop
     loop-holds
-    unchecked-row-requires
-    cast-offset
-    row-bytes-requires
-    mul-lay
-    add-lay
-    slice-aggregate-lay
-    lay-requires
-    cast-at
+    (λ c κs. search needs)
+    (λ c. search needs)
+    (λ c κs. search needs)
+    (λ c. search needs)
+    (λ c. search needs)
+    (λ c. search needs)
+    (λ c κs. search needs)
+    (λ c. search needs)
     add-at
-    add-i
-    loop-less
+    (λ c. search needs)
+    (λ c. search needs)
     loop-again
-    same-length
+    (λ c. search needs)
     returns)

@@ -29,29 +29,11 @@ inside c =
     let back5 = c .before .before .before .before .before in
     place-inside (now (back5 .args .bundle)) (back5 .args .i) (place c) (placed c)
 
-body-at-requires : tie.Need-body-at-requires
-body-at-requires c κs = search needs
-
-enum-known-offset : tie.Need-enum-known-offset
-enum-known-offset c = search needs
-
 add-result : tie.Need-add-result
 add-result c = omega (arith, inside c)
 
-sub-result : tie.Need-sub-result
-sub-result c = search needs
-
-part-result-start : tie.Need-part-result-start
-part-result-start c = search needs
-
 part-result-end : tie.Need-part-result-end
 part-result-end c = omega (arith, inside c)
-
-enum-told : tie.Need-enum-told
-enum-told c = search needs
-
-slice-aggregate-result : tie.Need-slice-aggregate-result
-slice-aggregate-result c = search needs
 
 returns : tie.Need-returns
 returns c = rw (placed (c .before)) (record {
@@ -74,13 +56,13 @@ pub body-spec : {M : Type 1} → statement M
 body-spec =
     tie.close
     (tie.spec
-    body-at-requires
-    enum-known-offset
+    (λ c κs. search needs)
+    (λ c. search needs)
     add-result
-    sub-result
-    part-result-start
+    (λ c. search needs)
+    (λ c. search needs)
     part-result-end
-    enum-told
-    slice-aggregate-result
+    (λ c. search needs)
+    (λ c. search needs)
     returns
     returns-2)

@@ -17,18 +17,6 @@ counted c =
     shownChecked-same (checkOf (now (back5 .args .bundle))) (reads (c .before .count .given .0 .0))
     (sym (c .before .before .before .check .ensures) ∙ c .before .count .given .1)
 
-check-requires : tie.Need-check-requires
-check-requires c κs = search needs
-
-enum-known-count : tie.Need-enum-known-count
-enum-known-count c = search needs
-
-unchecked-row-requires : tie.Need-unchecked-row-requires
-unchecked-row-requires c κs = search needs
-
-enum-known-number : tie.Need-enum-known-number
-enum-known-number c = search needs
-
 returns : tie.Need-returns
 returns c =
     let back6 = c .before .before .before .before .before .before in
@@ -55,10 +43,10 @@ pub row-spec : {M : Type 1} → statement M
 row-spec =
     tie.close
     (tie.spec
-    check-requires
-    enum-known-count
-    unchecked-row-requires
-    enum-known-number
+    (λ c κs. search needs)
+    (λ c. search needs)
+    (λ c κs. search needs)
+    (λ c. search needs)
     returns
     returns-2
     returns-3)

@@ -12,35 +12,11 @@ Inv-loop bundle count before₀ at₀ field₀ place₀ i₀ before at field pla
 abbrev μ-loop : tie.MeasureT-loop
 μ-loop bundle count before₀ at₀ field₀ place₀ i₀ before at field place i = count - i
 
-mul-at : tie.Need-mul-at Inv-loop μ-loop
-mul-at c = search needs
-
-add-at : tie.Need-add-at Inv-loop μ-loop
-add-at c = search needs
-
 loop-holds : tie.Need-loop-holds Inv-loop μ-loop
 loop-holds c = along-none (c .before .pre .0) (c .before .pre .1)
 
-unchecked-row-requires : tie.Need-unchecked-row-requires Inv-loop μ-loop
-unchecked-row-requires c κs = search needs
-
-cast-size : tie.Need-cast-size Inv-loop μ-loop
-cast-size c = search needs
-
-wrong-field-requires : tie.Need-wrong-field-requires Inv-loop μ-loop
-wrong-field-requires c κs = search needs
-
 add-end : tie.Need-add-end Inv-loop μ-loop
 add-end c = omega (arith, c .before .struct-known .given, c .before .before .before .before .loop .inv .near)
-
-cast-place : tie.Need-cast-place Inv-loop μ-loop
-cast-place c = search needs
-
-add-i : tie.Need-add-i Inv-loop μ-loop
-add-i c = search needs
-
-loop-less : tie.Need-loop-less Inv-loop μ-loop
-loop-less c = search needs
 
 loop-again : tie.Need-loop-again Inv-loop μ-loop
 loop-again c =
@@ -60,15 +36,15 @@ walk-rows-spec =
     (tie.spec
     Inv-loop
     μ-loop
-    mul-at
-    add-at
+    (λ c. search needs)
+    (λ c. search needs)
     loop-holds
-    unchecked-row-requires
-    cast-size
-    wrong-field-requires
+    (λ c κs. search needs)
+    (λ c. search needs)
+    (λ c κs. search needs)
     add-end
-    cast-place
-    add-i
-    loop-less
+    (λ c. search needs)
+    (λ c. search needs)
+    (λ c. search needs)
     loop-again
     returns)

@@ -27,12 +27,6 @@ few c = few-rows (now (c .before .before .before .before .before .before .before
 returns : tie.Need-returns
 returns c = let a = c .before .before .before .args in made-short (now (a .bundle)) (now (a .out)) (c .if1 .taken)
 
-check-requires : tie.Need-check-requires
-check-requires c κs = search needs
-
-enum-known-count : tie.Need-enum-known-count
-enum-known-count c = search needs
-
 put-bytes-requires : tie.Need-put-bytes-requires
 put-bytes-requires c κs = (few (c .before), omega (arith, ltb-false, c .before .before .before .before .before .if1 .left))
 
@@ -40,12 +34,6 @@ put-words-requires : tie.Need-put-words-requires
 put-words-requires c κs =
     let back5 = c .before .before .before .before .before in
     (few back5, omega (arith, ltb-false, back5 .before .before .before .before .if1 .left, c .before .before .before .put-bytes .kept .1))
-
-enum-known-number : tie.Need-enum-known-number
-enum-known-number c = search needs
-
-same-length : tie.Need-same-length
-same-length c = search needs
 
 returns-2 : tie.Need-returns-2
 returns-2 c =
@@ -69,11 +57,11 @@ columns-of-spec =
     tie.close
     (tie.spec
     returns
-    check-requires
-    enum-known-count
+    (λ c κs. search needs)
+    (λ c. search needs)
     put-bytes-requires
     put-words-requires
-    enum-known-number
-    same-length
+    (λ c. search needs)
+    (λ c. search needs)
     returns-2
     returns-3)

@@ -5,18 +5,6 @@ use Rattle.bundle_columns.proofs.Laws.Fields.{field-there, field-none}
 use Rattle.bundle_columns.proofs.making.field.Statement.{statement}
 use Rattle.bundle_columns.proofs.making.field.Tie as tie
 
-mul-number-at : tie.Need-mul-number-at
-mul-number-at c = search needs
-
-add-number-at : tie.Need-add-number-at
-add-number-at c = search needs
-
-add-number-at-2 : tie.Need-add-number-at-2
-add-number-at-2 c = search needs
-
-number-at-requires : tie.Need-number-at-requires
-number-at-requires c κs = search needs
-
 returns : tie.Need-returns
 returns c =
     let a = c .before .before .before .args in
@@ -29,4 +17,4 @@ returns-2 c = let a = c .before .before .args in field-none (now (a .bundle)) (a
 pub field-spec : {M : Type 1} → statement M
 field-spec =
     tie.close
-    (tie.spec mul-number-at add-number-at add-number-at-2 number-at-requires returns returns-2)
+    (tie.spec (λ c. search needs) (λ c. search needs) (λ c. search needs) (λ c κs. search needs) returns returns-2)

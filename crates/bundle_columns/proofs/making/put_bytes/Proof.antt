@@ -16,18 +16,6 @@ use Rattle.bundle_columns.proofs.Laws.Turning.{length-listed}
 use Rattle.bundle_columns.proofs.making.put_bytes.Statement.{statement}
 use Rattle.bundle_columns.proofs.making.put_bytes.Tie as tie
 
-put-number-requires : tie.Need-put-number-requires
-put-number-requires c κs = search needs
-
-put-list-requires : tie.Need-put-list-requires
-put-list-requires c κs = search needs
-
-put-list-requires-2 : tie.Need-put-list-requires-2
-put-list-requires-2 c κs = search needs
-
-same-length : tie.Need-same-length
-same-length c = search needs
-
 returns : tie.Need-returns
 returns c =
     let back6 = c .before .before .before .before .before .before in
@@ -47,4 +35,4 @@ returns c =
 pub put-bytes-spec : {M : Type 1} → statement M
 put-bytes-spec =
     tie.close
-    (tie.spec put-number-requires put-list-requires put-list-requires-2 same-length returns)
+    (tie.spec (λ c κs. search needs) (λ c κs. search needs) (λ c κs. search needs) (λ c. search needs) returns)

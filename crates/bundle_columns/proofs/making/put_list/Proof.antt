@@ -23,9 +23,6 @@ loop-holds c =
     let p = c .before .before .pre in
     list-none (a .place) (a .width) (a .count) (now (a .bundle)) (now (a .out)) (a .at) (p .0) (p .3)
 
-field-requires : tie.Need-field-requires Inv-loop μ-loop
-field-requires c κs = search needs
-
 mul-put-number : tie.Need-mul-put-number Inv-loop μ-loop
 mul-put-number c =
     let back6 = c .before .before .before .before .before .before in
@@ -58,15 +55,6 @@ add-put-number c =
       )),
     )
 
-put-number-requires : tie.Need-put-number-requires Inv-loop μ-loop
-put-number-requires c κs = search needs
-
-add-i : tie.Need-add-i Inv-loop μ-loop
-add-i c = search needs
-
-loop-less : tie.Need-loop-less Inv-loop μ-loop
-loop-less c = search needs
-
 loop-again : tie.Need-loop-again Inv-loop μ-loop
 loop-again c =
     let back4 = c .before .before .before .before in
@@ -91,12 +79,12 @@ put-list-spec =
     Inv-loop
     μ-loop
     loop-holds
-    field-requires
+    (λ c κs. search needs)
     mul-put-number
     add-put-number
-    put-number-requires
-    add-i
-    loop-less
+    (λ c κs. search needs)
+    (λ c. search needs)
+    (λ c. search needs)
     loop-again
     same-length
     returns)

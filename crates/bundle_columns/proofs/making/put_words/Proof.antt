@@ -12,18 +12,6 @@ use Rattle.bundle_columns.proofs.Laws.Turning.{length-listed}
 use Rattle.bundle_columns.proofs.making.put_words.Statement.{statement}
 use Rattle.bundle_columns.proofs.making.put_words.Tie as tie
 
-put-list-requires : tie.Need-put-list-requires
-put-list-requires c κs = search needs
-
-put-list-requires-2 : tie.Need-put-list-requires-2
-put-list-requires-2 c κs = search needs
-
-put-list-requires-3 : tie.Need-put-list-requires-3
-put-list-requires-3 c κs = search needs
-
-same-length : tie.Need-same-length
-same-length c = search needs
-
 returns : tie.Need-returns
 returns c =
     let back6 = c .before .before .before .before .before .before in
@@ -41,4 +29,4 @@ returns c =
 pub put-words-spec : {M : Type 1} → statement M
 put-words-spec =
     tie.close
-    (tie.spec put-list-requires put-list-requires-2 put-list-requires-3 same-length returns)
+    (tie.spec (λ c κs. search needs) (λ c κs. search needs) (λ c κs. search needs) (λ c. search needs) returns)

@@ -11,9 +11,6 @@ use Rattle.bundle_columns.proofs.scanning.next_place.Tie as tie
 returns : tie.Need-returns
 returns c = let a = c .before .before .args in ap shownNext (scan-past (now (a .positions)) (a .position) (a .from) (c .if1 .taken))
 
-pass-blocks-requires : tie.Need-pass-blocks-requires
-pass-blocks-requires c κs = search needs
-
 pass-blocks-requires-2 : tie.Need-pass-blocks-requires-2
 pass-blocks-requires-2 c κs = (c .pass-blocks .ensures .inside, search needs)
 
@@ -37,7 +34,7 @@ next-place-spec =
     tie.close
     (tie.spec
     returns
-    pass-blocks-requires
+    (λ c κs. search needs)
     pass-blocks-requires-2
     first-place-requires
     returns-2

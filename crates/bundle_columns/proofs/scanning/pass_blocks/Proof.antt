@@ -18,32 +18,8 @@ abbrev μ-loop : tie.MeasureT-loop
 loop-holds : tie.Need-loop-holds Inv-loop μ-loop
 loop-holds c = passed-none (c .before .pre .0)
 
-sub-loop : tie.Need-sub-loop Inv-loop μ-loop
-sub-loop c = search needs
-
-add-has : tie.Need-add-has Inv-loop μ-loop
-add-has c = search needs
-
-sub-has : tie.Need-sub-has Inv-loop μ-loop
-sub-has c = search needs
-
-part-has-start : tie.Need-part-has-start Inv-loop μ-loop
-part-has-start c = search needs
-
-part-has-end : tie.Need-part-has-end Inv-loop μ-loop
-part-has-end c = search needs
-
-has-requires : tie.Need-has-requires Inv-loop μ-loop
-has-requires c κs = search needs
-
 returns : tie.Need-returns Inv-loop μ-loop
 returns c = c .before .before .before .before .loop .inv
-
-add-i : tie.Need-add-i Inv-loop μ-loop
-add-i c = search needs
-
-loop-less : tie.Need-loop-less Inv-loop μ-loop
-loop-less c = search needs
 
 loop-again : tie.Need-loop-again Inv-loop μ-loop
 loop-again c =
@@ -60,14 +36,14 @@ pass-blocks-spec =
     Inv-loop
     μ-loop
     loop-holds
-    sub-loop
-    add-has
-    sub-has
-    part-has-start
-    part-has-end
-    has-requires
+    (λ c. search needs)
+    (λ c. search needs)
+    (λ c. search needs)
+    (λ c. search needs)
+    (λ c. search needs)
+    (λ c κs. search needs)
     returns
-    add-i
-    loop-less
+    (λ c. search needs)
+    (λ c. search needs)
     loop-again
     returns-2)

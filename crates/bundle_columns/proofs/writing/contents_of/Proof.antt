@@ -13,12 +13,6 @@ counted : (c : tie.After-known-told) → Taken (now (c .before .before .before .
 counted c =
     taken (now (c .before .before .before .before .before .before .args .columns)) (c .before .before .before .count-in .ensures) (c .before .count .given .1)
 
-count-in-requires : tie.Need-count-in-requires
-count-in-requires c κs = search needs
-
-enum-known-count : tie.Need-enum-known-count
-enum-known-count c = search needs
-
 mul-short : tie.Need-mul-short
 mul-short c = omega (arith, counted c .few)
 
@@ -30,20 +24,11 @@ returns c =
     let a = c .before .before .before .before .before .before .before .args in
     wrote-short (now (a .columns)) (now (a .out)) (c .before .before .count .given .0 .0) (counted (c .before)) (c .if1 .taken)
 
-put-number-requires : tie.Need-put-number-requires
-put-number-requires c κs = search needs
-
 put-rows-requires : tie.Need-put-rows-requires
 put-rows-requires c κs =
     let back6 = c .before .before .before .before .before .before in
     let t = counted back6 in
     (t .size, t .few, omega (arith, ltb-false, c .before .before .before .before .before .if1 .left, c .before .before .before .put-number .kept .0))
-
-enum-known-number : tie.Need-enum-known-number
-enum-known-number c = search needs
-
-same-length : tie.Need-same-length
-same-length c = search needs
 
 returns-2 : tie.Need-returns-2
 returns-2 c =
@@ -63,14 +48,14 @@ pub contents-of-spec : {M : Type 1} → statement M
 contents-of-spec =
     tie.close
     (tie.spec
-    count-in-requires
-    enum-known-count
+    (λ c κs. search needs)
+    (λ c. search needs)
     mul-short
     add-short
     returns
-    put-number-requires
+    (λ c κs. search needs)
     put-rows-requires
-    enum-known-number
-    same-length
+    (λ c. search needs)
+    (λ c. search needs)
     returns-2
     returns-3)

@@ -22,30 +22,6 @@ loop-holds c =
     let back2 = c .before .before in
     rows-none (columnsIn (now (back2 .args .columns))) (back2 .args .count) (now (back2 .args .out)) (back2 .pre .2)
 
-kept-row-requires : tie.Need-kept-row-requires Inv-loop μ-loop
-kept-row-requires c κs = search needs
-
-row-bytes-requires : tie.Need-row-bytes-requires Inv-loop μ-loop
-row-bytes-requires c κs = search needs
-
-mul-lay : tie.Need-mul-lay Inv-loop μ-loop
-mul-lay c = search needs
-
-add-lay : tie.Need-add-lay Inv-loop μ-loop
-add-lay c = search needs
-
-slice-aggregate-lay : tie.Need-slice-aggregate-lay Inv-loop μ-loop
-slice-aggregate-lay c = search needs
-
-lay-requires : tie.Need-lay-requires Inv-loop μ-loop
-lay-requires c κs = search needs
-
-add-i : tie.Need-add-i Inv-loop μ-loop
-add-i c = search needs
-
-loop-less : tie.Need-loop-less Inv-loop μ-loop
-loop-less c = search needs
-
 loop-again : tie.Need-loop-again Inv-loop μ-loop
 loop-again c =
     let back5 = c .before .before .before .before .before in
@@ -70,14 +46,14 @@ put-rows-spec =
     Inv-loop
     μ-loop
     loop-holds
-    kept-row-requires
-    row-bytes-requires
-    mul-lay
-    add-lay
-    slice-aggregate-lay
-    lay-requires
-    add-i
-    loop-less
+    (λ c κs. search needs)
+    (λ c κs. search needs)
+    (λ c. search needs)
+    (λ c. search needs)
+    (λ c. search needs)
+    (λ c κs. search needs)
+    (λ c. search needs)
+    (λ c. search needs)
     loop-again
     same-length
     returns)

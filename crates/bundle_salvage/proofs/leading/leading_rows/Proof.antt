@@ -21,9 +21,6 @@ add-at c = omega (arith, c .before .pre .few)
 loop-holds : tie.Need-loop-holds Inv-loop μ-loop
 loop-holds c = trying-none (c .before .pre)
 
-unchecked-row-requires : tie.Need-unchecked-row-requires Inv-loop μ-loop
-unchecked-row-requires c κs = search needs
-
 rule-of-requires : tie.Need-rule-of-requires Inv-loop μ-loop
 rule-of-requires c κs = let g = c .before .before .loop .inv in (omega (arith, g .near, g .whole .fits), g .whole .fits)
 
@@ -32,19 +29,10 @@ returns c =
     trying-broken (c .before .before .before .before .loop .inv) (c .before .before .before .loop-test .taken) (c .before .before .unchecked-row .ensures)
     (c .before .rule-of .ensures) (c .if1 .taken)
 
-cast-at : tie.Need-cast-at Inv-loop μ-loop
-cast-at c = search needs
-
 add-at-2 : tie.Need-add-at-2 Inv-loop μ-loop
 add-at-2 c =
     let g = c .before .before .before .before .before .loop .inv in
     omega (arith, c .struct-known .given, g .near, g .whole .fits)
-
-add-i : tie.Need-add-i Inv-loop μ-loop
-add-i c = search needs
-
-loop-less : tie.Need-loop-less Inv-loop μ-loop
-loop-less c = search needs
 
 loop-again : tie.Need-loop-again Inv-loop μ-loop
 loop-again c =
@@ -64,12 +52,12 @@ leading-rows-spec =
     mul-at
     add-at
     loop-holds
-    unchecked-row-requires
+    (λ c κs. search needs)
     rule-of-requires
     returns
-    cast-at
+    (λ c. search needs)
     add-at-2
-    add-i
-    loop-less
+    (λ c. search needs)
+    (λ c. search needs)
     loop-again
     returns-2)

@@ -44,15 +44,6 @@ stretch c =
     c .any-over .ensures ∙ ap (λ (k : ℕ). any over (chars (take k (drop (a .at) b)))) size
     ∙ ap (λ (k : ℕ). any over (chars (take (a .row .length) (drop k b)))) (sym (c .before .before .before .if2 .left))
 
-cast-size : tie.Need-cast-size
-cast-size c = search needs
-
-cast-offset : tie.Need-cast-offset
-cast-offset c = search needs
-
-wrong-field-requires : tie.Need-wrong-field-requires
-wrong-field-requires c κs = search needs
-
 returns : tie.Need-returns
 returns c =
     let a = c .before .before .before .before .before .before .args in
@@ -73,18 +64,6 @@ returns-3 c =
     sym (rule-place (now (a .damaged)) (a .before) (a .at) (a .row) (field-is (c .before .before .before .before) ∙ c .before .before .if1 .left)
     (rw (eq-eqb (a .row .offset) (a .at) (c .before .if2 .left), lt-ltb (length (now (a .damaged))) (a .at + a .row .length) (c .if3 .taken))))
 
-sub-any-over : tie.Need-sub-any-over
-sub-any-over c = search needs
-
-part-any-over-start : tie.Need-part-any-over-start
-part-any-over-start c = search needs
-
-part-any-over-end : tie.Need-part-any-over-end
-part-any-over-end c = search needs
-
-any-over-requires : tie.Need-any-over-requires
-any-over-requires c κs = search needs
-
 returns-4 : tie.Need-returns-4
 returns-4 c =
     let back5 = c .before .before .before .before .before in
@@ -103,16 +82,16 @@ pub rule-of-spec : {M : Type 1} → statement M
 rule-of-spec =
     tie.close
     (tie.spec
-    cast-size
-    cast-offset
-    wrong-field-requires
+    (λ c. search needs)
+    (λ c. search needs)
+    (λ c κs. search needs)
     returns
     add-end
     returns-2
     returns-3
-    sub-any-over
-    part-any-over-start
-    part-any-over-end
-    any-over-requires
+    (λ c. search needs)
+    (λ c. search needs)
+    (λ c. search needs)
+    (λ c κs. search needs)
     returns-4
     returns-5)

@@ -32,9 +32,6 @@ loop-holds c =
     let back2 = c .before .before in
     lowered-none (now (back2 .args .damaged)) (back2 .args .kept) (back2 .args .count) (back2 .pre .0) (now (back2 .args .out)) (back2 .pre .1)
 
-unchecked-row-requires : tie.Need-unchecked-row-requires Inv-loop μ-loop
-unchecked-row-requires c κs = search needs
-
 sub-offset : tie.Need-sub-offset Inv-loop μ-loop
 sub-offset c =
     let back6 = c .before .before .before .before .before .before in
@@ -45,26 +42,11 @@ sub-offset c =
       ap (λ (r : Row). r .offset) (c .before .unchecked-row .ensures),
     )
 
-row-bytes-requires : tie.Need-row-bytes-requires Inv-loop μ-loop
-row-bytes-requires c κs = search needs
-
 mul-lay : tie.Need-mul-lay Inv-loop μ-loop
 mul-lay c = let back8 = c .before .before .before .before .before .before .before .before in omega (arith, back8 .pre .0 .part, back8 .pre .0 .whole .few)
 
 add-lay : tie.Need-add-lay Inv-loop μ-loop
 add-lay c = let back8 = c .before .before .before .before .before .before .before .before in omega (arith, back8 .pre .0 .part, back8 .pre .0 .whole .few)
-
-slice-aggregate-lay : tie.Need-slice-aggregate-lay Inv-loop μ-loop
-slice-aggregate-lay c = search needs
-
-lay-requires : tie.Need-lay-requires Inv-loop μ-loop
-lay-requires c κs = search needs
-
-add-i : tie.Need-add-i Inv-loop μ-loop
-add-i c = search needs
-
-loop-less : tie.Need-loop-less Inv-loop μ-loop
-loop-less c = search needs
 
 loop-again : tie.Need-loop-again Inv-loop μ-loop
 loop-again c =
@@ -93,15 +75,15 @@ put-rows-spec =
     mul-fewer
     cast-fewer
     loop-holds
-    unchecked-row-requires
+    (λ c κs. search needs)
     sub-offset
-    row-bytes-requires
+    (λ c κs. search needs)
     mul-lay
     add-lay
-    slice-aggregate-lay
-    lay-requires
-    add-i
-    loop-less
+    (λ c. search needs)
+    (λ c κs. search needs)
+    (λ c. search needs)
+    (λ c. search needs)
     loop-again
     same-length
     returns)

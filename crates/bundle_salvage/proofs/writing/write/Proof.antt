@@ -6,24 +6,6 @@ use Rattle.bundle_salvage.proofs.Laws.NewBundle.{end-there, steps-leave
 use Rattle.bundle_salvage.proofs.writing.write.Statement.{statement}
 use Rattle.bundle_salvage.proofs.writing.write.Tie as tie
 
-put-number-requires : tie.Need-put-number-requires
-put-number-requires c κs = search needs
-
-put-rows-requires : tie.Need-put-rows-requires
-put-rows-requires c κs = search needs
-
-mul-lay : tie.Need-mul-lay
-mul-lay c = search needs
-
-add-lay : tie.Need-add-lay
-add-lay c = search needs
-
-mul-lay-2 : tie.Need-mul-lay-2
-mul-lay-2 c = search needs
-
-add-lay-2 : tie.Need-add-lay-2
-add-lay-2 c = search needs
-
 sub-lay : tie.Need-sub-lay
 sub-lay c =
     let back = c .before .before .before .before .before .before .before .before .before .before .before in
@@ -42,12 +24,6 @@ part-lay-end c =
     let t = end-there (now (back .args .damaged)) (back .args .kept) (back .args .count) (back .pre .0) in
     omega (arith, back .pre .2, t .1)
 
-lay-requires : tie.Need-lay-requires
-lay-requires c κs = search needs
-
-same-length : tie.Need-same-length
-same-length c = search needs
-
 returns : tie.Need-returns
 returns c =
     let back7 = c .before .before .before .before .before .before .before in
@@ -61,15 +37,15 @@ pub write-spec : {M : Type 1} → statement M
 write-spec =
     tie.close
     (tie.spec
-    put-number-requires
-    put-rows-requires
-    mul-lay
-    add-lay
-    mul-lay-2
-    add-lay-2
+    (λ c κs. search needs)
+    (λ c κs. search needs)
+    (λ c. search needs)
+    (λ c. search needs)
+    (λ c. search needs)
+    (λ c. search needs)
     sub-lay
     part-lay-start
     part-lay-end
-    lay-requires
-    same-length
+    (λ c κs. search needs)
+    (λ c. search needs)
     returns)

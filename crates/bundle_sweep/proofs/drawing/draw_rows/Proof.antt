@@ -39,12 +39,6 @@ move-down-requires c κs = let g = c .before .before .before .before .before .lo
 add-kept : tie.Need-add-kept Inv-loop μ-loop
 add-kept c = let g = c .before .before .before .before .before .before .before .before .loop .inv in omega (arith, g .few, drawing-few g)
 
-add-i : tie.Need-add-i Inv-loop μ-loop
-add-i c = search needs
-
-loop-less : tie.Need-loop-less Inv-loop μ-loop
-loop-less c = search needs
-
 loop-again : tie.Need-loop-again Inv-loop μ-loop
 loop-again c =
     let back4 = c .before .before .before .before in
@@ -75,8 +69,8 @@ draw-rows-spec =
     add-move-down-2
     move-down-requires
     add-kept
-    add-i
-    loop-less
+    (λ c. search needs)
+    (λ c. search needs)
     loop-again
     same-length
     returns)

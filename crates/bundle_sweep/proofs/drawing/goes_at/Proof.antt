@@ -12,33 +12,12 @@ use Rattle.bundle_sweep.specs.Writing.{rowGoes}
 use Rattle.bundle_sweep.proofs.drawing.goes_at.Statement.{statement}
 use Rattle.bundle_sweep.proofs.drawing.goes_at.Tie as tie
 
-unchecked-row-requires : tie.Need-unchecked-row-requires
-unchecked-row-requires c κs = search needs
-
-cast-at : tie.Need-cast-at
-cast-at c = search needs
-
-cast-end : tie.Need-cast-end
-cast-end c = search needs
-
-add-end : tie.Need-add-end
-add-end c = search needs
-
-sub-is-gone : tie.Need-sub-is-gone
-sub-is-gone c = search needs
-
-part-is-gone-start : tie.Need-part-is-gone-start
-part-is-gone-start c = search needs
-
 part-is-gone-end : tie.Need-part-is-gone-end
 part-is-gone-end c =
     let back2 = c .before .before in
     let r = back2 .unchecked-row .result in
     let h : r .offset + r .length ≤ length (back2 .before .before .args .bundle .now) = rw (back2 .unchecked-row .ensures) (back2 .before .before .pre) in
     omega arith
-
-is-gone-requires : tie.Need-is-gone-requires
-is-gone-requires c κs = search needs
 
 returns : tie.Need-returns
 returns c =
@@ -52,12 +31,12 @@ pub goes-at-spec : {M : Type 1} → statement M
 goes-at-spec =
     tie.close
     (tie.spec
-    unchecked-row-requires
-    cast-at
-    cast-end
-    add-end
-    sub-is-gone
-    part-is-gone-start
+    (λ c κs. search needs)
+    (λ c. search needs)
+    (λ c. search needs)
+    (λ c. search needs)
+    (λ c. search needs)
+    (λ c. search needs)
     part-is-gone-end
-    is-gone-requires
+    (λ c κs. search needs)
     returns)

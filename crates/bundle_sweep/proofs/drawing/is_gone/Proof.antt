@@ -4,12 +4,9 @@ use Rattle.bundle_sweep.specs.Sweeping.{goes}
 use Rattle.bundle_sweep.proofs.drawing.is_gone.Statement.{statement}
 use Rattle.bundle_sweep.proofs.drawing.is_gone.Tie as tie
 
-is-wake-requires : tie.Need-is-wake-requires
-is-wake-requires c κs = search needs
-
 returns : tie.Need-returns
 unfolding goes
 returns c = rw (c .is-wake .ensures)
 
 pub is-gone-spec : {M : Type 1} → statement M
-is-gone-spec = tie.close (tie.spec is-wake-requires returns)
+is-gone-spec = tie.close (tie.spec (λ c κs. search needs) returns)

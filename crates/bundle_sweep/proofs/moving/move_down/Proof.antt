@@ -27,12 +27,6 @@ add-bundle-2 c = let g = c .before .before .loop .inv in omega (arith, g .lower,
 slice-write-bundle : tie.Need-slice-write-bundle Inv-loop μ-loop
 slice-write-bundle c = let g = c .before .before .loop .inv in omega (arith, g .lower, g .inside, moving-length g)
 
-add-i : tie.Need-add-i Inv-loop μ-loop
-add-i c = search needs
-
-loop-less : tie.Need-loop-less Inv-loop μ-loop
-loop-less c = search needs
-
 loop-again : tie.Need-loop-again Inv-loop μ-loop
 loop-again c = moving-next (c .before .before .loop .inv) (c .before .loop-test .taken)
 
@@ -53,8 +47,8 @@ move-down-spec =
     slice-read-bundle
     add-bundle-2
     slice-write-bundle
-    add-i
-    loop-less
+    (λ c. search needs)
+    (λ c. search needs)
     loop-again
     same-length
     returns)

@@ -21,15 +21,6 @@ add-at c = let o = c .before .pre in omega (arith, o .few)
 loop-holds : tie.Need-loop-holds Inv-loop μ-loop
 loop-holds c = placing-none (c .before .pre)
 
-unchecked-row-requires : tie.Need-unchecked-row-requires Inv-loop μ-loop
-unchecked-row-requires c κs = search needs
-
-cast-size : tie.Need-cast-size Inv-loop μ-loop
-cast-size c = search needs
-
-cast-move-down : tie.Need-cast-move-down Inv-loop μ-loop
-cast-move-down c = search needs
-
 move-down-requires : tie.Need-move-down-requires Inv-loop μ-loop
 move-down-requires c κs =
     let back3 = c .before .before .before in
@@ -38,20 +29,11 @@ move-down-requires c κs =
 cast-offset : tie.Need-cast-offset Inv-loop μ-loop
 cast-offset c = omega (arith, placing-near (c .before .before .before .before .before .before .before .before .before .loop .inv))
 
-row-bytes-requires : tie.Need-row-bytes-requires Inv-loop μ-loop
-row-bytes-requires c κs = search needs
-
 mul-lay : tie.Need-mul-lay Inv-loop μ-loop
 mul-lay c = omega (arith, c .before .before .before .before .before .before .before .before .before .before .before .loop .inv .order .few)
 
 add-lay : tie.Need-add-lay Inv-loop μ-loop
 add-lay c = omega (arith, c .before .before .before .before .before .before .before .before .before .before .before .loop .inv .order .few)
-
-slice-aggregate-lay : tie.Need-slice-aggregate-lay Inv-loop μ-loop
-slice-aggregate-lay c = search needs
-
-lay-requires : tie.Need-lay-requires Inv-loop μ-loop
-lay-requires c κs = search needs
 
 add-at-2 : tie.Need-add-at-2 Inv-loop μ-loop
 add-at-2 c =
@@ -60,12 +42,6 @@ add-at-2 c =
     let g = back12 .before .before .before .loop .inv in
     let room = placing-room g (back12 .before .before .loop-test .taken) (back12 .unchecked-row .ensures) in
     omega (arith, placing-near g, placing-length g, room .1)
-
-add-i : tie.Need-add-i Inv-loop μ-loop
-add-i c = search needs
-
-loop-less : tie.Need-loop-less Inv-loop μ-loop
-loop-less c = search needs
 
 loop-again : tie.Need-loop-again Inv-loop μ-loop
 loop-again c =
@@ -90,19 +66,19 @@ place-bodies-spec =
     mul-at
     add-at
     loop-holds
-    unchecked-row-requires
-    cast-size
-    cast-move-down
+    (λ c κs. search needs)
+    (λ c. search needs)
+    (λ c. search needs)
     move-down-requires
     cast-offset
-    row-bytes-requires
+    (λ c κs. search needs)
     mul-lay
     add-lay
-    slice-aggregate-lay
-    lay-requires
+    (λ c. search needs)
+    (λ c κs. search needs)
     add-at-2
-    add-i
-    loop-less
+    (λ c. search needs)
+    (λ c. search needs)
     loop-again
     same-length
     returns)

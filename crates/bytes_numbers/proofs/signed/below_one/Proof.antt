@@ -7,9 +7,6 @@ use Rattle.mbus_rules.proofs.Laws.Negation.{negation-fits, negated, lowered}
 use Rattle.bytes_numbers.proofs.signed.below_one.Statement.{statement}
 use Rattle.bytes_numbers.proofs.signed.below_one.Tie as tie
 
-cast-result : tie.Need-cast-result
-cast-result c = search needs
-
 sub-result : tie.Need-sub-result
 sub-result c = rw (negated (c .args .more) (c .pre)) (negation-fits (c .args .more) (c .pre))
 
@@ -20,4 +17,4 @@ returns : tie.Need-returns
 returns c = rw (lowered (c .args .more) (c .pre)) (toZ-ofZ w64 (negsuc (c .args .more)) (record { sfits = c .pre }))
 
 pub below-one-spec : {M : Type 1} → statement M
-below-one-spec = tie.close (tie.spec cast-result sub-result sub-result-2 returns)
+below-one-spec = tie.close (tie.spec (λ c. search needs) sub-result sub-result-2 returns)

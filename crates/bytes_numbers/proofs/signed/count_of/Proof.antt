@@ -8,18 +8,9 @@ use Rattle.bytes_numbers.proofs.Laws.TwosComplement.{count-above, count
 use Rattle.bytes_numbers.proofs.signed.count_of.Statement.{statement}
 use Rattle.bytes_numbers.proofs.signed.count_of.Tie as tie
 
-cast-result : tie.Need-cast-result
-cast-result c = search needs
-
 returns : tie.Need-returns
 returns c =
     toZ-ofZ w64 (pos (c .before .args .word)) (record { sfits = c .if1 .taken }) ∙ count-above (c .before .args .word) (c .if1 .taken)
-
-sub-below-one : tie.Need-sub-below-one
-sub-below-one c = search needs
-
-below-one-requires : tie.Need-below-one-requires
-below-one-requires c κs = search needs
 
 returns-2 : tie.Need-returns-2
 returns-2 c =
@@ -27,4 +18,4 @@ returns-2 c =
     ∙ count-below (c .before .before .args .word) (c .before .if1 .left)
 
 pub count-of-spec : {M : Type 1} → statement M
-count-of-spec = tie.close (tie.spec cast-result returns sub-below-one below-one-requires returns-2)
+count-of-spec = tie.close (tie.spec (λ c. search needs) returns (λ c. search needs) (λ c κs. search needs) returns-2)

@@ -12,9 +12,6 @@ use Rattle.cjt_reading.proofs.Laws.PartLaws.{read-part, all-word}
 use Rattle.cjt_reading.proofs.frame.party_of.Statement.{statement}
 use Rattle.cjt_reading.proofs.frame.party_of.Tie as tie
 
-number-at-requires : tie.Need-number-at-requires
-number-at-requires c κs = search needs
-
 returns : tie.Need-returns
 returns c =
     let s = now (c .before .before .before .args .b) in
@@ -22,9 +19,6 @@ returns c =
     let all : allAA (partyBytes s) ≡ true =
     sym (ap (λ (n : ℕ). eqb n 0xAAAAAAAAAAAAAA) (c .before .number-at .ensures .so) ∙ all-word s byte (c .before .before .before .pre)) ∙ c .if1 .taken in
     rw all
-
-packed-in-requires : tie.Need-packed-in-requires
-packed-in-requires c κs = search needs
 
 returns-2 : tie.Need-returns-2
 returns-2 c =
@@ -37,4 +31,4 @@ returns-2 c =
     rw (all, digits)
 
 pub party-of-spec : {M : Type 1} → statement M
-party-of-spec = tie.close (tie.spec number-at-requires returns packed-in-requires returns-2)
+party-of-spec = tie.close (tie.spec (λ c κs. search needs) returns (λ c κs. search needs) returns-2)

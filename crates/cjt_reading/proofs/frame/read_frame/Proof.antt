@@ -11,9 +11,6 @@ use Rattle.cjt_reading.proofs.Laws.FrameLaws.{frame-least}
 use Rattle.cjt_reading.proofs.frame.read_frame.Statement.{statement}
 use Rattle.cjt_reading.proofs.frame.read_frame.Tie as tie
 
-wrong-frame-requires : tie.Need-wrong-frame-requires
-wrong-frame-requires c κs = search needs
-
 returns : tie.Need-returns
 unfolding readCjtFrame
 returns c = rw (sym (c .before .wrong-frame .ensures) ∙ c .if1 .taken)
@@ -41,9 +38,6 @@ returns-3 c =
       sym (c .before .wrong-party .ensures) ∙ c .if3 .taken,
     )
 
-wrong-mark-requires : tie.Need-wrong-mark-requires
-wrong-mark-requires c κs = search needs
-
 returns-4 : tie.Need-returns-4
 unfolding readCjtFrame
 returns-4 c =
@@ -53,9 +47,6 @@ returns-4 c =
       sym (c .before .before .before .wrong-party .ensures) ∙ c .before .before .if3 .left,
       sym (c .before .wrong-mark .ensures) ∙ c .if4 .taken,
     )
-
-byte-at-requires : tie.Need-byte-at-requires
-byte-at-requires c κs = search needs
 
 request-of-requires : tie.Need-request-of-requires
 request-of-requires c κs = omega (
@@ -107,15 +98,15 @@ pub read-frame-spec : {M : Type 1} → statement M
 read-frame-spec =
     tie.close
     (tie.spec
-    wrong-frame-requires
+    (λ c κs. search needs)
     returns
     wrong-sum-requires
     returns-2
     wrong-party-requires
     returns-3
-    wrong-mark-requires
+    (λ c κs. search needs)
     returns-4
-    byte-at-requires
+    (λ c κs. search needs)
     request-of-requires
     returns-5
     read-listed-requires

@@ -12,27 +12,6 @@ use Rattle.cjt_reading.proofs.Laws.SkipLaws.{own-sum}
 use Rattle.cjt_reading.proofs.frame.read_in.Statement.{statement}
 use Rattle.cjt_reading.proofs.frame.read_in.Tie as tie
 
-skips-requires : tie.Need-skips-requires
-skips-requires c κs = search needs
-
-mul-more : tie.Need-mul-more
-mul-more c = search needs
-
-cast-more : tie.Need-cast-more
-cast-more c = search needs
-
-wrapping-add-u8-requires : tie.Need-wrapping-add-u8-requires
-wrapping-add-u8-requires c κs = search needs
-
-sub-read-frame : tie.Need-sub-read-frame
-sub-read-frame c = search needs
-
-part-read-frame-start : tie.Need-part-read-frame-start
-part-read-frame-start c = search needs
-
-part-read-frame-end : tie.Need-part-read-frame-end
-part-read-frame-end c = search needs
-
 read-frame-requires : tie.Need-read-frame-requires
 read-frame-requires c κs =
     let b = now (c .before .before .before .before .args .bytes) in
@@ -52,12 +31,12 @@ pub read-in-spec : {M : Type 1} → statement M
 read-in-spec =
     tie.close
     (tie.spec
-    skips-requires
-    mul-more
-    cast-more
-    wrapping-add-u8-requires
-    sub-read-frame
-    part-read-frame-start
-    part-read-frame-end
+    (λ c κs. search needs)
+    (λ c. search needs)
+    (λ c. search needs)
+    (λ c κs. search needs)
+    (λ c. search needs)
+    (λ c. search needs)
+    (λ c. search needs)
     read-frame-requires
     returns)

@@ -16,50 +16,11 @@ use Rattle.cjt_reading.proofs.Laws.PartLaws.{read-part, rest-is}
 use Rattle.cjt_reading.proofs.frame.read_listed.Statement.{statement}
 use Rattle.cjt_reading.proofs.frame.read_listed.Tie as tie
 
-sub-wrong-listed : tie.Need-sub-wrong-listed
-sub-wrong-listed c = search needs
-
-part-wrong-listed-start : tie.Need-part-wrong-listed-start
-part-wrong-listed-start c = search needs
-
-part-wrong-listed-end : tie.Need-part-wrong-listed-end
-part-wrong-listed-end c = search needs
-
-wrong-listed-requires : tie.Need-wrong-listed-requires
-wrong-listed-requires c κs = search needs
-
 returns : tie.Need-returns
 returns c =
     let s = now (c .before .before .before .before .args .b) in
     let wrong : wrongListed (drop 14 s) ≡ true = ap wrongListed (sym (rest-is s 14)) ∙ sym (c .before .wrong-listed .ensures) ∙ c .if1 .taken in
     rw wrong
-
-byte-at-requires : tie.Need-byte-at-requires
-byte-at-requires c κs = search needs
-
-number-at-requires : tie.Need-number-at-requires
-number-at-requires c κs = search needs
-
-packed-in-requires : tie.Need-packed-in-requires
-packed-in-requires c κs = search needs
-
-byte-at-requires-2 : tie.Need-byte-at-requires-2
-byte-at-requires-2 c κs = search needs
-
-sub-tells-in : tie.Need-sub-tells-in
-sub-tells-in c = search needs
-
-part-tells-in-start : tie.Need-part-tells-in-start
-part-tells-in-start c = search needs
-
-part-tells-in-end : tie.Need-part-tells-in-end
-part-tells-in-end c = search needs
-
-tells-in-requires : tie.Need-tells-in-requires
-tells-in-requires c κs = search needs
-
-wrong-units-requires : tie.Need-wrong-units-requires
-wrong-units-requires c κs = search needs
 
 returns-2 : tie.Need-returns-2
 returns-2 c =
@@ -107,19 +68,19 @@ pub read-listed-spec : {M : Type 1} → statement M
 read-listed-spec =
     tie.close
     (tie.spec
-    sub-wrong-listed
-    part-wrong-listed-start
-    part-wrong-listed-end
-    wrong-listed-requires
+    (λ c. search needs)
+    (λ c. search needs)
+    (λ c. search needs)
+    (λ c κs. search needs)
     returns
-    byte-at-requires
-    number-at-requires
-    packed-in-requires
-    byte-at-requires-2
-    sub-tells-in
-    part-tells-in-start
-    part-tells-in-end
-    tells-in-requires
-    wrong-units-requires
+    (λ c κs. search needs)
+    (λ c κs. search needs)
+    (λ c κs. search needs)
+    (λ c κs. search needs)
+    (λ c. search needs)
+    (λ c. search needs)
+    (λ c. search needs)
+    (λ c κs. search needs)
+    (λ c κs. search needs)
     returns-2
     returns-3)

@@ -8,29 +8,11 @@ use borrow.Author.Tests.{not-true, not-false}
 use Rattle.cjt_reading.proofs.frame.wrong_frame.Statement.{statement}
 use Rattle.cjt_reading.proofs.frame.wrong_frame.Tie as tie
 
-byte-at-requires : tie.Need-byte-at-requires
-byte-at-requires c κs = search needs
-
 returns : tie.Need-returns
 returns c = sym (frame-unknown (now (c .before .before .before .args .b)) (rw (← c .before .byte-at .ensures) (not-true _ (c .if1 .taken))))
 
-cast-if2 : tie.Need-cast-if2
-cast-if2 c = search needs
-
-add-if2 : tie.Need-add-if2
-add-if2 c = search needs
-
 returns-2 : tie.Need-returns-2
 returns-2 c = sym (frame-count (now (c .before .before .before .before .args .b)) (rw (← c .before .before .byte-at .ensures) (ne-eqb _ _ (c .if2 .taken))))
-
-shared-slice-read-result : tie.Need-shared-slice-read-result
-shared-slice-read-result c = search needs
-
-sub-result : tie.Need-sub-result
-sub-result c = search needs
-
-shared-slice-read-result-2 : tie.Need-shared-slice-read-result-2
-shared-slice-read-result-2 c = search needs
 
 returns-3 : tie.Need-returns-3
 returns-3 c =
@@ -42,12 +24,12 @@ pub wrong-frame-spec : {M : Type 1} → statement M
 wrong-frame-spec =
     tie.close
     (tie.spec
-    byte-at-requires
+    (λ c κs. search needs)
     returns
-    cast-if2
-    add-if2
+    (λ c. search needs)
+    (λ c. search needs)
     returns-2
-    shared-slice-read-result
-    sub-result
-    shared-slice-read-result-2
+    (λ c. search needs)
+    (λ c. search needs)
+    (λ c. search needs)
     returns-3)

@@ -3,18 +3,6 @@ use borrow.Author.Needs.{needs}
 use Rattle.cjt_reading.proofs.frame.wrong_mark.Statement.{statement}
 use Rattle.cjt_reading.proofs.frame.wrong_mark.Tie as tie
 
-byte-at-requires : tie.Need-byte-at-requires
-byte-at-requires c κs = search needs
-
-byte-at-requires-2 : tie.Need-byte-at-requires-2
-byte-at-requires-2 c κs = search needs
-
-byte-at-requires-3 : tie.Need-byte-at-requires-3
-byte-at-requires-3 c κs = search needs
-
-byte-at-requires-4 : tie.Need-byte-at-requires-4
-byte-at-requires-4 c κs = search needs
-
 returns : tie.Need-returns
 returns c = rw (
   ← c .before .byte-at4 .ensures,
@@ -37,9 +25,9 @@ pub wrong-mark-spec : {M : Type 1} → statement M
 wrong-mark-spec =
     tie.close
     (tie.spec
-    byte-at-requires
-    byte-at-requires-2
-    byte-at-requires-3
-    byte-at-requires-4
+    (λ c κs. search needs)
+    (λ c κs. search needs)
+    (λ c κs. search needs)
+    (λ c κs. search needs)
     returns
     returns-2)

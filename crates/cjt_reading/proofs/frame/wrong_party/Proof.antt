@@ -10,21 +10,6 @@ use Rattle.cjt_reading.proofs.Laws.PartLaws.{read-part, all-word}
 use Rattle.cjt_reading.proofs.frame.wrong_party.Statement.{statement}
 use Rattle.cjt_reading.proofs.frame.wrong_party.Tie as tie
 
-byte-at-requires : tie.Need-byte-at-requires
-byte-at-requires c κs = search needs
-
-is-heat-type-requires : tie.Need-is-heat-type-requires
-is-heat-type-requires c κs = search needs
-
-number-at-requires : tie.Need-number-at-requires
-number-at-requires c κs = search needs
-
-packed-in-requires : tie.Need-packed-in-requires
-packed-in-requires c κs = search needs
-
-byte-at-requires-2 : tie.Need-byte-at-requires-2
-byte-at-requires-2 c κs = search needs
-
 returns : tie.Need-returns
 returns c =
     let s = now (c .before .before .before .before .before .before .before .args .b) in
@@ -44,9 +29,9 @@ pub wrong-party-spec : {M : Type 1} → statement M
 wrong-party-spec =
     tie.close
     (tie.spec
-    byte-at-requires
-    is-heat-type-requires
-    number-at-requires
-    packed-in-requires
-    byte-at-requires-2
+    (λ c κs. search needs)
+    (λ c κs. search needs)
+    (λ c κs. search needs)
+    (λ c κs. search needs)
+    (λ c κs. search needs)
     returns)

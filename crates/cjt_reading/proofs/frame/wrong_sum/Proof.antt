@@ -15,12 +15,6 @@ sub-own c = omega (arith, frame-least (now (c .before .args .b)) (c .before .pre
 shared-slice-read-own : tie.Need-shared-slice-read-own
 shared-slice-read-own c = omega (arith, frame-least (now (c .before .before .args .b)) (c .before .before .pre .1))
 
-wrapping-add-u8-requires : tie.Need-wrapping-add-u8-requires
-wrapping-add-u8-requires c κs = search needs
-
-wrapping-add-u8-requires-2 : tie.Need-wrapping-add-u8-requires-2
-wrapping-add-u8-requires-2 c κs = search needs
-
 returns : tie.Need-returns
 returns c =
     let b = now (c .before .before .before .before .args .b) in
@@ -34,6 +28,6 @@ wrong-sum-spec =
     (tie.spec
     sub-own
     shared-slice-read-own
-    wrapping-add-u8-requires
-    wrapping-add-u8-requires-2
+    (λ c κs. search needs)
+    (λ c κs. search needs)
     returns)

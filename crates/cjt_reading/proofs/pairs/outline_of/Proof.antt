@@ -9,14 +9,8 @@ use Rattle.cjt_reading.proofs.Laws.TakingLaws.{view-shown}
 use Rattle.cjt_reading.proofs.pairs.outline_of.Statement.{statement}
 use Rattle.cjt_reading.proofs.pairs.outline_of.Tie as tie
 
-read-pairs-requires : tie.Need-read-pairs-requires
-read-pairs-requires c κs = search needs
-
-view-of-requires : tie.Need-view-of-requires
-view-of-requires c κs = search needs
-
 returns : tie.Need-returns
 returns c = c .view-of .ensures ∙ ap viewedAs (c .before .read-pairs .ensures) ∙ view-shown (readCjtLine (chars (now (c .before .before .before .args .bytes))))
 
 pub outline-of-spec : {M : Type 1} → statement M
-outline-of-spec = tie.close (tie.spec read-pairs-requires view-of-requires returns)
+outline-of-spec = tie.close (tie.spec (λ c κs. search needs) (λ c κs. search needs) returns)

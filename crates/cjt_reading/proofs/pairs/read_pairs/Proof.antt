@@ -14,27 +14,12 @@ returns : tie.Need-returns
 returns c = ap cjtShown (sym (none-is (chars (now (c .before .before .args .bytes))) (length-characters (now (c .before .before .args .bytes))
     ∙ c .if1 .taken)))
 
-soundness-of-requires : tie.Need-soundness-of-requires
-soundness-of-requires c κs = search needs
-
-far-of-requires : tie.Need-far-of-requires
-far-of-requires c κs = search needs
-
 returns-2 : tie.Need-returns-2
 returns-2 c =
     let size = length-characters (now (c .before .before .before .before .before .args .bytes)) in
     rw (c .far-of .ensures)
     (ap cjtShown (sym (taken-far (chars (now (c .before .before .before .before .before .args .bytes))) (omega
     (arith, size, c .before .before .if2 .taken)) (c .before .soundness-of .ensures) (omega (arith, size, c .before .before .if2 .taken)))))
-
-slice-aggregate-gather : tie.Need-slice-aggregate-gather
-slice-aggregate-gather c = search needs
-
-gather-requires : tie.Need-gather-requires
-gather-requires c κs = search needs
-
-enum-known-outcome : tie.Need-enum-known-outcome
-enum-known-outcome c = search needs
 
 returns-3 : tie.Need-returns-3
 returns-3 c =
@@ -44,12 +29,6 @@ returns-3 c =
     (c .before .before .before .before .before .before .before .if1 .left) (c .before .before .before .before .before .before .if2 .left)
     (c .before .before .before .before .gather .ensures .0) (c .before .before .before .before .gather .ensures .1)
     (c .before .outcome .given .1)))
-
-enum-told : tie.Need-enum-told
-enum-told c = search needs
-
-array-share-prefix-low : tie.Need-array-share-prefix-low
-array-share-prefix-low c = search needs
 
 slice-aggregate-read-in : tie.Need-slice-aggregate-read-in
 slice-aggregate-read-in c =
@@ -82,15 +61,15 @@ read-pairs-spec =
     tie.close
     (tie.spec
     returns
-    soundness-of-requires
-    far-of-requires
+    (λ c κs. search needs)
+    (λ c κs. search needs)
     returns-2
-    slice-aggregate-gather
-    gather-requires
-    enum-known-outcome
+    (λ c. search needs)
+    (λ c κs. search needs)
+    (λ c. search needs)
     returns-3
-    enum-told
-    array-share-prefix-low
+    (λ c. search needs)
+    (λ c. search needs)
     slice-aggregate-read-in
     read-in-requires
     returns-4)

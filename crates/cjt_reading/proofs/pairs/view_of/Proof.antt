@@ -3,35 +3,17 @@ use borrow.Author.Needs.{needs}
 use Rattle.cjt_reading.proofs.pairs.view_of.Statement.{statement}
 use Rattle.cjt_reading.proofs.pairs.view_of.Tie as tie
 
-enum-known-reading : tie.Need-enum-known-reading
-enum-known-reading c = search needs
-
-enum-known-reading-2 : tie.Need-enum-known-reading-2
-enum-known-reading-2 c = search needs
-
-enum-told : tie.Need-enum-told
-enum-told c = search needs
-
-enum-told-2 : tie.Need-enum-told-2
-enum-told-2 c = search needs
-
 returns : tie.Need-returns
 returns c = rw (c .before .reading .given .1)
-
-returns-2 : tie.Need-returns-2
-returns-2 c = search needs
-
-returns-3 : tie.Need-returns-3
-returns-3 c = search needs
 
 pub view-of-spec : {M : Type 1} → statement M
 view-of-spec =
     tie.close
     (tie.spec
-    enum-known-reading
-    enum-known-reading-2
-    enum-told
-    enum-told-2
+    (λ c. search needs)
+    (λ c. search needs)
+    (λ c. search needs)
+    (λ c. search needs)
     returns
-    returns-2
-    returns-3)
+    (λ c. search needs)
+    (λ c. search needs))

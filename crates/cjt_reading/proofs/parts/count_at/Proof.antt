@@ -10,12 +10,6 @@ use Rattle.cjt_reading.proofs.Laws.PartLaws.{read-part, count-fits}
 use Rattle.cjt_reading.proofs.parts.count_at.Statement.{statement}
 use Rattle.cjt_reading.proofs.parts.count_at.Tie as tie
 
-number-at-requires : tie.Need-number-at-requires
-number-at-requires c κs = search needs
-
-packed-in-requires : tie.Need-packed-in-requires
-packed-in-requires c κs = search needs
-
 cast-result : tie.Need-cast-result
 cast-result c =
     let s = now (c .before .before .before .before .args .d) in
@@ -40,4 +34,4 @@ returns c =
     ap (λ (p : Packed). p .count) digits
 
 pub count-at-spec : {M : Type 1} → statement M
-count-at-spec = tie.close (tie.spec number-at-requires packed-in-requires cast-result returns)
+count-at-spec = tie.close (tie.spec (λ c κs. search needs) (λ c κs. search needs) cast-result returns)

@@ -3,39 +3,6 @@ use borrow.Author.Needs.{needs}
 use Rattle.cjt_reading.proofs.parts.tells_in.Statement.{statement}
 use Rattle.cjt_reading.proofs.parts.tells_in.Tie as tie
 
-value-at-requires : tie.Need-value-at-requires
-value-at-requires c κs = search needs
-
-value-at-requires-2 : tie.Need-value-at-requires-2
-value-at-requires-2 c κs = search needs
-
-value-at-requires-3 : tie.Need-value-at-requires-3
-value-at-requires-3 c κs = search needs
-
-value-at-requires-4 : tie.Need-value-at-requires-4
-value-at-requires-4 c κs = search needs
-
-value-at-requires-5 : tie.Need-value-at-requires-5
-value-at-requires-5 c κs = search needs
-
-count-at-requires : tie.Need-count-at-requires
-count-at-requires c κs = search needs
-
-count-at-requires-2 : tie.Need-count-at-requires-2
-count-at-requires-2 c κs = search needs
-
-count-at-requires-3 : tie.Need-count-at-requires-3
-count-at-requires-3 c κs = search needs
-
-clock-in-requires : tie.Need-clock-in-requires
-clock-in-requires c κs = search needs
-
-byte-at-requires : tie.Need-byte-at-requires
-byte-at-requires c κs = search needs
-
-byte-at-requires-2 : tie.Need-byte-at-requires-2
-byte-at-requires-2 c κs = search needs
-
 returns : tie.Need-returns
 returns c =
     rw (
@@ -56,15 +23,15 @@ pub tells-in-spec : {M : Type 1} → statement M
 tells-in-spec =
     tie.close
     (tie.spec
-    value-at-requires
-    value-at-requires-2
-    value-at-requires-3
-    value-at-requires-4
-    value-at-requires-5
-    count-at-requires
-    count-at-requires-2
-    count-at-requires-3
-    clock-in-requires
-    byte-at-requires
-    byte-at-requires-2
+    (λ c κs. search needs)
+    (λ c κs. search needs)
+    (λ c κs. search needs)
+    (λ c κs. search needs)
+    (λ c κs. search needs)
+    (λ c κs. search needs)
+    (λ c κs. search needs)
+    (λ c κs. search needs)
+    (λ c κs. search needs)
+    (λ c κs. search needs)
+    (λ c κs. search needs)
     returns)

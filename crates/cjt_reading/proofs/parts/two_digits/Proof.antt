@@ -5,15 +5,9 @@ use Rattle.mbus_rules.specs.Digits.{digitsOf}
 use Rattle.cjt_reading.proofs.parts.two_digits.Statement.{statement}
 use Rattle.cjt_reading.proofs.parts.two_digits.Tie as tie
 
-mul-result : tie.Need-mul-result
-mul-result c = search needs
-
-add-result : tie.Need-add-result
-add-result c = search needs
-
 returns : tie.Need-returns
 unfolding digitsOf
 returns c = omega arith
 
 pub two-digits-spec : {M : Type 1} → statement M
-two-digits-spec = tie.close (tie.spec mul-result add-result returns)
+two-digits-spec = tie.close (tie.spec (λ c. search needs) (λ c. search needs) returns)

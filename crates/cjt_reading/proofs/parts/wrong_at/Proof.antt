@@ -10,12 +10,6 @@ use Rattle.cjt_reading.proofs.Laws.PartLaws.{read-part}
 use Rattle.cjt_reading.proofs.parts.wrong_at.Statement.{statement}
 use Rattle.cjt_reading.proofs.parts.wrong_at.Tie as tie
 
-number-at-requires : tie.Need-number-at-requires
-number-at-requires c κs = search needs
-
-packed-in-requires : tie.Need-packed-in-requires
-packed-in-requires c κs = search needs
-
 returns : tie.Need-returns
 returns c =
     let s = now (c .before .before .before .args .d) in
@@ -26,4 +20,4 @@ returns c =
     ap (λ (p : Packed). p .wrong) digits
 
 pub wrong-at-spec : {M : Type 1} → statement M
-wrong-at-spec = tie.close (tie.spec number-at-requires packed-in-requires returns)
+wrong-at-spec = tie.close (tie.spec (λ c κs. search needs) (λ c κs. search needs) returns)

@@ -5,21 +5,6 @@ use borrow.Author.Needs.{needs}
 use Rattle.cjt_writing.proofs.bytes.close.Statement.{statement}
 use Rattle.cjt_writing.proofs.bytes.close.Tie as tie
 
-sum-of-requires : tie.Need-sum-of-requires
-sum-of-requires c κs = search needs
-
-lay-requires : tie.Need-lay-requires
-lay-requires c κs = search needs
-
-slice-aggregate-lay : tie.Need-slice-aggregate-lay
-slice-aggregate-lay c = search needs
-
-lay-requires-2 : tie.Need-lay-requires-2
-lay-requires-2 c κs = search needs
-
-same-length : tie.Need-same-length
-same-length c = search needs
-
 returns : tie.Need-returns
 returns c = frame-closed (now (c .before .before .before .before .before .before .before .before .before .before .before .before .args .bytes)) (now
     (c .before .before .before .before .before .before .before .before .before .before .before .before .args .frame))
@@ -30,4 +15,4 @@ returns c = frame-closed (now (c .before .before .before .before .before .before
 pub close-spec : {M : Type 1} → statement M
 close-spec =
     tie.close
-    (tie.spec sum-of-requires lay-requires slice-aggregate-lay lay-requires-2 same-length returns)
+    (tie.spec (λ c κs. search needs) (λ c κs. search needs) (λ c. search needs) (λ c κs. search needs) (λ c. search needs) returns)

@@ -4,27 +4,6 @@ use borrow.Author.Needs.{needs}
 use Rattle.cjt_writing.proofs.bytes.packed_seven.Statement.{statement}
 use Rattle.cjt_writing.proofs.bytes.packed_seven.Tie as tie
 
-two-digits-requires : tie.Need-two-digits-requires
-two-digits-requires c κs = search needs
-
-two-digits-requires-2 : tie.Need-two-digits-requires-2
-two-digits-requires-2 c κs = search needs
-
-two-digits-requires-3 : tie.Need-two-digits-requires-3
-two-digits-requires-3 c κs = search needs
-
-two-digits-requires-4 : tie.Need-two-digits-requires-4
-two-digits-requires-4 c κs = search needs
-
-two-digits-requires-5 : tie.Need-two-digits-requires-5
-two-digits-requires-5 c κs = search needs
-
-two-digits-requires-6 : tie.Need-two-digits-requires-6
-two-digits-requires-6 c κs = search needs
-
-two-digits-requires-7 : tie.Need-two-digits-requires-7
-two-digits-requires-7 c κs = search needs
-
 returns : tie.Need-returns
 unfolding packed
 returns c = rw (
@@ -41,11 +20,11 @@ pub packed-seven-spec : {M : Type 1} → statement M
 packed-seven-spec =
     tie.close
     (tie.spec
-    two-digits-requires
-    two-digits-requires-2
-    two-digits-requires-3
-    two-digits-requires-4
-    two-digits-requires-5
-    two-digits-requires-6
-    two-digits-requires-7
+    (λ c κs. search needs)
+    (λ c κs. search needs)
+    (λ c κs. search needs)
+    (λ c κs. search needs)
+    (λ c κs. search needs)
+    (λ c κs. search needs)
+    (λ c κs. search needs)
     returns)

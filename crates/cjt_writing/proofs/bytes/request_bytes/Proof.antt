@@ -5,18 +5,6 @@ use borrow.Author.Needs.{needs}
 use Rattle.cjt_writing.proofs.bytes.request_bytes.Statement.{statement}
 use Rattle.cjt_writing.proofs.bytes.request_bytes.Tie as tie
 
-request-frame-requires : tie.Need-request-frame-requires
-request-frame-requires c κs = search needs
-
-slice-aggregate-close : tie.Need-slice-aggregate-close
-slice-aggregate-close c = search needs
-
-slice-aggregate-close-2 : tie.Need-slice-aggregate-close-2
-slice-aggregate-close-2 c = search needs
-
-close-requires : tie.Need-close-requires
-close-requires c κs = search needs
-
 returns : tie.Need-returns
 returns c = c .before .close .ensures ∙ ap closed (c .before .before .before .before .request-frame .ensures)
 
@@ -24,8 +12,8 @@ pub request-bytes-spec : {M : Type 1} → statement M
 request-bytes-spec =
     tie.close
     (tie.spec
-    request-frame-requires
-    slice-aggregate-close
-    slice-aggregate-close-2
-    close-requires
+    (λ c κs. search needs)
+    (λ c. search needs)
+    (λ c. search needs)
+    (λ c κs. search needs)
     returns)

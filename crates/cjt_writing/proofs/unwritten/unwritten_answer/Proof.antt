@@ -4,18 +4,6 @@ use borrow.Author.Needs.{needs}
 use Rattle.cjt_writing.proofs.unwritten.unwritten_answer.Statement.{statement}
 use Rattle.cjt_writing.proofs.unwritten.unwritten_answer.Tie as tie
 
-is-heat-type-requires : tie.Need-is-heat-type-requires
-is-heat-type-requires c κs = search needs
-
-unwritten-counts-requires : tie.Need-unwritten-counts-requires
-unwritten-counts-requires c κs = search needs
-
-wrong-clock-requires : tie.Need-wrong-clock-requires
-wrong-clock-requires c κs = search needs
-
-wrong-units-requires : tie.Need-wrong-units-requires
-wrong-units-requires c κs = search needs
-
 returns : tie.Need-returns
 unfolding unwritten
 returns c = rw (
@@ -29,8 +17,8 @@ pub unwritten-answer-spec : {M : Type 1} → statement M
 unwritten-answer-spec =
     tie.close
     (tie.spec
-    is-heat-type-requires
-    unwritten-counts-requires
-    wrong-clock-requires
-    wrong-units-requires
+    (λ c κs. search needs)
+    (λ c κs. search needs)
+    (λ c κs. search needs)
+    (λ c κs. search needs)
     returns)

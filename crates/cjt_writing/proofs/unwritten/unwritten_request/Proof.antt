@@ -4,16 +4,10 @@ use borrow.Author.Needs.{needs}
 use Rattle.cjt_writing.proofs.unwritten.unwritten_request.Statement.{statement}
 use Rattle.cjt_writing.proofs.unwritten.unwritten_request.Tie as tie
 
-is-heat-type-requires : tie.Need-is-heat-type-requires
-is-heat-type-requires c κs = search needs
-
-unwritten-party-requires : tie.Need-unwritten-party-requires
-unwritten-party-requires c κs = search needs
-
 returns : tie.Need-returns
 unfolding unwritten
 returns c = rw (c .before .is-heat-type .ensures, c .unwritten-party .ensures)
 
 pub unwritten-request-spec : {M : Type 1} → statement M
 unwritten-request-spec =
-    tie.close (tie.spec is-heat-type-requires unwritten-party-requires returns)
+    tie.close (tie.spec (λ c κs. search needs) (λ c κs. search needs) returns)

@@ -14,18 +14,6 @@ use Rattle.exchange_steps.proofs.Laws.Steps.{heard-parts}
 use Rattle.exchange_steps.proofs.Bench.heard.Statement.{statement}
 use Rattle.exchange_steps.proofs.Bench.heard.Tie as tie
 
-read-line-requires : tie.Need-read-line-requires
-read-line-requires c κs = search needs
-
-view-of-requires : tie.Need-view-of-requires
-view-of-requires c κs = search needs
-
-seen-requires : tie.Need-seen-requires
-seen-requires c κs = search needs
-
-ends-well-requires : tie.Need-ends-well-requires
-ends-well-requires c κs = search needs
-
 -- the step, from the view of the reading
 step-is : (c : tie.After-seen)
     → c .seen .result
@@ -35,9 +23,6 @@ step-is c =
     let a = c .before .before .before .before .args in
     c .seen .ensures ∙ ap (λ (v : View). shownStep (heardOn (a .self) v (a .t))) (c .before .view-of .ensures
     ∙ ap (λ (r : Reading). viewIn (r .outcome) (r .telegram)) (c .before .before .read-line .ensures) ∙ view-shown (readLine (now (a .line))))
-
-reply-of-requires : tie.Need-reply-of-requires
-reply-of-requires c κs = search needs
 
 returns : tie.Need-returns
 returns c =
@@ -50,9 +35,9 @@ pub heard-spec : {M : Type 1} → statement M
 heard-spec =
     tie.close
     (tie.spec
-    read-line-requires
-    view-of-requires
-    seen-requires
-    ends-well-requires
-    reply-of-requires
+    (λ c κs. search needs)
+    (λ c κs. search needs)
+    (λ c κs. search needs)
+    (λ c κs. search needs)
+    (λ c κs. search needs)
     returns)

@@ -4,22 +4,10 @@ use borrow.Author.Needs.{needs}
 use Rattle.exchange_steps.proofs.Exchange.resent.Statement.{statement}
 use Rattle.exchange_steps.proofs.Exchange.resent.Tie as tie
 
-sent-requires : tie.Need-sent-requires
-sent-requires c κs = search needs
-
-asks-for-requires : tie.Need-asks-for-requires
-asks-for-requires c κs = search needs
-
 returns : tie.Need-returns
 returns c =
     let a = c .before .before .before .args in
     resent-taken (a .self) (a .view) (a .t) (c .before .before .sent .ensures) (c .before .asks-for .ensures) (c .if1 .taken)
-
-enum-known-stepped : tie.Need-enum-known-stepped
-enum-known-stepped c = search needs
-
-enum-told : tie.Need-enum-told
-enum-told c = search needs
 
 returns-2 : tie.Need-returns-2
 returns-2 c =
@@ -37,10 +25,10 @@ pub resent-spec : {M : Type 1} → statement M
 resent-spec =
     tie.close
     (tie.spec
-    sent-requires
-    asks-for-requires
+    (λ c κs. search needs)
+    (λ c κs. search needs)
     returns
-    enum-known-stepped
-    enum-told
+    (λ c. search needs)
+    (λ c. search needs)
     returns-2
     returns-3)

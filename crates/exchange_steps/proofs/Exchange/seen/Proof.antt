@@ -4,21 +4,6 @@ use Rattle.exchange_steps.proofs.Laws.Steps.{line-parts}
 use Rattle.exchange_steps.proofs.Exchange.seen.Statement.{statement}
 use Rattle.exchange_steps.proofs.Exchange.seen.Tie as tie
 
-waits-requires : tie.Need-waits-requires
-waits-requires c κs = search needs
-
-late-requires : tie.Need-late-requires
-late-requires c κs = search needs
-
-after-line-requires : tie.Need-after-line-requires
-after-line-requires c κs = search needs
-
-moved-requires : tie.Need-moved-requires
-moved-requires c κs = search needs
-
-step-requires : tie.Need-step-requires
-step-requires c κs = search needs
-
 returns : tie.Need-returns
 returns c =
     let a = c .before .before .before .before .before .before .args in
@@ -29,9 +14,9 @@ pub seen-spec : {M : Type 1} → statement M
 seen-spec =
     tie.close
     (tie.spec
-    waits-requires
-    late-requires
-    after-line-requires
-    moved-requires
-    step-requires
+    (λ c κs. search needs)
+    (λ c κs. search needs)
+    (λ c κs. search needs)
+    (λ c κs. search needs)
+    (λ c κs. search needs)
     returns)

@@ -3,9 +3,6 @@ use borrow.Author.Needs.{needs}
 use Rattle.exchange_steps.proofs.Exchange.step.Statement.{statement}
 use Rattle.exchange_steps.proofs.Exchange.step.Tie as tie
 
-earlier-requires : tie.Need-earlier-requires
-earlier-requires c κs = search needs
-
 returns : tie.Need-returns
 returns c = rw (← c .before .earlier .ensures, c .if1 .taken)
 
@@ -16,4 +13,4 @@ returns-3 : tie.Need-returns-3
 returns-3 c = rw (← c .before .before .earlier .ensures, c .before .if1 .left, c .if2 .left)
 
 pub step-spec : {M : Type 1} → statement M
-step-spec = tie.close (tie.spec earlier-requires returns returns-2 returns-3)
+step-spec = tie.close (tie.spec (λ c κs. search needs) returns returns-2 returns-3)

@@ -9,21 +9,6 @@ use Rattle.host_bundle.proofs.Laws.Lent.{gives-value, gives-number}
 use Rattle.host_bundle.proofs.contents.skarrowith_contents_next.Statement.{statement}
 use Rattle.host_bundle.proofs.contents.skarrowith_contents_next.Tie as tie
 
-next-requires : tie.Need-next-requires
-next-requires c κs = search needs
-
-enum-known-place : tie.Need-enum-known-place
-enum-known-place c = search needs
-
-enum-known-number : tie.Need-enum-known-number
-enum-known-number c = search needs
-
-cast-result : tie.Need-cast-result
-cast-result c = search needs
-
-add-result : tie.Need-add-result
-add-result c = search needs
-
 returns : tie.Need-returns
 returns c =
     let a = c .before .before .before .before .before .args in
@@ -40,10 +25,10 @@ pub skarrowith-contents-next-spec : {M : Type 1} → statement M
 skarrowith-contents-next-spec =
     tie.close
     (tie.spec
-    next-requires
-    enum-known-place
-    enum-known-number
-    cast-result
-    add-result
+    (λ c κs. search needs)
+    (λ c. search needs)
+    (λ c. search needs)
+    (λ c. search needs)
+    (λ c. search needs)
     returns
     returns-2)

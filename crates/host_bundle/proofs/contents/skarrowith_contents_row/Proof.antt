@@ -9,27 +9,6 @@ use Rattle.host_bundle.specs.Rows.{rowRecord}
 use Rattle.host_bundle.proofs.contents.skarrowith_contents_row.Statement.{statement}
 use Rattle.host_bundle.proofs.contents.skarrowith_contents_row.Tie as tie
 
-count-in-requires : tie.Need-count-in-requires
-count-in-requires c κs = search needs
-
-enum-told : tie.Need-enum-told
-enum-told c = search needs
-
-row-into-requires : tie.Need-row-into-requires
-row-into-requires c κs = search needs
-
-enum-known-number : tie.Need-enum-known-number
-enum-known-number c = search needs
-
-cast-result : tie.Need-cast-result
-cast-result c = search needs
-
-add-result : tie.Need-add-result
-add-result c = search needs
-
-same-length : tie.Need-same-length
-same-length c = search needs
-
 returns : tie.Need-returns
 returns c =
     let back6 = c .before .before .before .before .before .before in
@@ -47,12 +26,12 @@ pub skarrowith-contents-row-spec : {M : Type 1} → statement M
 skarrowith-contents-row-spec =
     tie.close
     (tie.spec
-    count-in-requires
-    enum-told
-    row-into-requires
-    enum-known-number
-    cast-result
-    add-result
-    same-length
+    (λ c κs. search needs)
+    (λ c. search needs)
+    (λ c κs. search needs)
+    (λ c. search needs)
+    (λ c. search needs)
+    (λ c. search needs)
+    (λ c. search needs)
     returns
     returns-2)

@@ -19,32 +19,8 @@ abbrev μ-loop : tie.MeasureT-loop
 loop-holds : tie.Need-loop-holds Inv-loop μ-loop
 loop-holds c = (pieced-none entry-length (search needs), search needs)
 
-mul-entry-bytes : tie.Need-mul-entry-bytes Inv-loop μ-loop
-mul-entry-bytes c = search needs
-
-array-copy-out-entry-bytes : tie.Need-array-copy-out-entry-bytes Inv-loop μ-loop
-array-copy-out-entry-bytes c = search needs
-
-entry-bytes-requires : tie.Need-entry-bytes-requires Inv-loop μ-loop
-entry-bytes-requires c κs = search needs
-
 slice-aggregate-lay : tie.Need-slice-aggregate-lay Inv-loop μ-loop
 slice-aggregate-lay c = sym (pieced-length (c .before .before .before .before .loop .inv .0))
-
-mul-lay : tie.Need-mul-lay Inv-loop μ-loop
-mul-lay c = search needs
-
-slice-aggregate-lay-2 : tie.Need-slice-aggregate-lay-2 Inv-loop μ-loop
-slice-aggregate-lay-2 c = search needs
-
-lay-requires : tie.Need-lay-requires Inv-loop μ-loop
-lay-requires c κs = search needs
-
-add-i : tie.Need-add-i Inv-loop μ-loop
-add-i c = search needs
-
-loop-less : tie.Need-loop-less Inv-loop μ-loop
-loop-less c = search needs
 
 loop-again : tie.Need-loop-again Inv-loop μ-loop
 loop-again c =
@@ -61,14 +37,14 @@ entries-bytes-spec =
     Inv-loop
     μ-loop
     loop-holds
-    mul-entry-bytes
-    array-copy-out-entry-bytes
-    entry-bytes-requires
+    (λ c. search needs)
+    (λ c. search needs)
+    (λ c κs. search needs)
     slice-aggregate-lay
-    mul-lay
-    slice-aggregate-lay-2
-    lay-requires
-    add-i
-    loop-less
+    (λ c. search needs)
+    (λ c. search needs)
+    (λ c κs. search needs)
+    (λ c. search needs)
+    (λ c. search needs)
     loop-again
     returns)

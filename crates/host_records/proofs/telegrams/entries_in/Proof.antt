@@ -5,27 +5,6 @@ use Rattle.host_records.proofs.Laws.TelegramLaws.{entries-listed}
 use Rattle.host_records.proofs.telegrams.entries_in.Statement.{statement}
 use Rattle.host_records.proofs.telegrams.entries_in.Tie as tie
 
-entry-at-requires : tie.Need-entry-at-requires
-entry-at-requires c κs = search needs
-
-entry-at-requires-2 : tie.Need-entry-at-requires-2
-entry-at-requires-2 c κs = search needs
-
-entry-at-requires-3 : tie.Need-entry-at-requires-3
-entry-at-requires-3 c κs = search needs
-
-entry-at-requires-4 : tie.Need-entry-at-requires-4
-entry-at-requires-4 c κs = search needs
-
-entry-at-requires-5 : tie.Need-entry-at-requires-5
-entry-at-requires-5 c κs = search needs
-
-entry-at-requires-6 : tie.Need-entry-at-requires-6
-entry-at-requires-6 c κs = search needs
-
-entry-at-requires-7 : tie.Need-entry-at-requires-7
-entry-at-requires-7 c κs = search needs
-
 returns : tie.Need-returns
 returns c = rw (
   ← (entries-listed (now (c .before .before .before .before .before .before .before .before .args .b))),
@@ -44,11 +23,11 @@ pub entries-in-spec : {M : Type 1} → statement M
 entries-in-spec =
     tie.close
     (tie.spec
-    entry-at-requires
-    entry-at-requires-2
-    entry-at-requires-3
-    entry-at-requires-4
-    entry-at-requires-5
-    entry-at-requires-6
-    entry-at-requires-7
+    (λ c κs. search needs)
+    (λ c κs. search needs)
+    (λ c κs. search needs)
+    (λ c κs. search needs)
+    (λ c κs. search needs)
+    (λ c κs. search needs)
+    (λ c κs. search needs)
     returns)

@@ -9,21 +9,6 @@ use Rattle.host_records.specs.Telegrams.{entryIn}
 use Rattle.host_records.proofs.telegrams.entry_at.Statement.{statement}
 use Rattle.host_records.proofs.telegrams.entry_at.Tie as tie
 
-add-entry-in : tie.Need-add-entry-in
-add-entry-in c = search needs
-
-sub-entry-in : tie.Need-sub-entry-in
-sub-entry-in c = search needs
-
-part-entry-in-start : tie.Need-part-entry-in-start
-part-entry-in-start c = search needs
-
-part-entry-in-end : tie.Need-part-entry-in-end
-part-entry-in-end c = search needs
-
-entry-in-requires : tie.Need-entry-in-requires
-entry-in-requires c κs = search needs
-
 returns : tie.Need-returns
 returns c =
     let a = c .before .before .before .args in
@@ -34,9 +19,9 @@ pub entry-at-spec : {M : Type 1} → statement M
 entry-at-spec =
     tie.close
     (tie.spec
-    add-entry-in
-    sub-entry-in
-    part-entry-in-start
-    part-entry-in-end
-    entry-in-requires
+    (λ c. search needs)
+    (λ c. search needs)
+    (λ c. search needs)
+    (λ c. search needs)
+    (λ c κs. search needs)
     returns)

@@ -8,36 +8,6 @@ use borrow.Author.Needs.{needs}
 use Rattle.host_records.proofs.telegrams.telegram_in.Statement.{statement}
 use Rattle.host_records.proofs.telegrams.telegram_in.Tie as tie
 
-shared-slice-read-kind-in : tie.Need-shared-slice-read-kind-in
-shared-slice-read-kind-in c = search needs
-
-kind-in-requires : tie.Need-kind-in-requires
-kind-in-requires c κs = search needs
-
-shared-slice-read-address : tie.Need-shared-slice-read-address
-shared-slice-read-address c = search needs
-
-shared-slice-read-method : tie.Need-shared-slice-read-method
-shared-slice-read-method c = search needs
-
-header-in-requires : tie.Need-header-in-requires
-header-in-requires c κs = search needs
-
-number-at-requires : tie.Need-number-at-requires
-number-at-requires c κs = search needs
-
-sub-entries-in : tie.Need-sub-entries-in
-sub-entries-in c = search needs
-
-part-entries-in-start : tie.Need-part-entries-in-start
-part-entries-in-start c = search needs
-
-part-entries-in-end : tie.Need-part-entries-in-end
-part-entries-in-end c = search needs
-
-entries-in-requires : tie.Need-entries-in-requires
-entries-in-requires c κs = search needs
-
 returns : tie.Need-returns
 unfolding telegramIn
 returns c =
@@ -55,14 +25,14 @@ pub telegram-in-spec : {M : Type 1} → statement M
 telegram-in-spec =
     tie.close
     (tie.spec
-    shared-slice-read-kind-in
-    kind-in-requires
-    shared-slice-read-address
-    shared-slice-read-method
-    header-in-requires
-    number-at-requires
-    sub-entries-in
-    part-entries-in-start
-    part-entries-in-end
-    entries-in-requires
+    (λ c. search needs)
+    (λ c κs. search needs)
+    (λ c. search needs)
+    (λ c. search needs)
+    (λ c κs. search needs)
+    (λ c κs. search needs)
+    (λ c. search needs)
+    (λ c. search needs)
+    (λ c. search needs)
+    (λ c κs. search needs)
     returns)

@@ -4,14 +4,8 @@ use borrow.Author.Needs.{needs}
 use Rattle.host_records.proofs.telegrams.value_bytes.Statement.{statement}
 use Rattle.host_records.proofs.telegrams.value_bytes.Tie as tie
 
-value-word-requires : tie.Need-value-word-requires
-value-word-requires c κs = search needs
-
-bytes-of-requires : tie.Need-bytes-of-requires
-bytes-of-requires c κs = search needs
-
 returns : tie.Need-returns
 returns c = c .bytes-of .ensures ∙ c .before .value-word .ensures
 
 pub value-bytes-spec : {M : Type 1} → statement M
-value-bytes-spec = tie.close (tie.spec value-word-requires bytes-of-requires returns)
+value-bytes-spec = tie.close (tie.spec (λ c κs. search needs) (λ c κs. search needs) returns)

@@ -9,24 +9,6 @@ use Rattle.bytes_numbers.specs.Numbers.{bytesOf}
 use Rattle.host_records.proofs.telegrams.value_word.Statement.{statement}
 use Rattle.host_records.proofs.telegrams.value_word.Tie as tie
 
-enum-known-value : tie.Need-enum-known-value
-enum-known-value c = search needs
-
-word-of-requires : tie.Need-word-of-requires
-word-of-requires c κs = search needs
-
-enum-known-value-2 : tie.Need-enum-known-value-2
-enum-known-value-2 c = search needs
-
-moment-word-requires : tie.Need-moment-word-requires
-moment-word-requires c κs = search needs
-
-enum-known-value-3 : tie.Need-enum-known-value-3
-enum-known-value-3 c = search needs
-
-word-of-requires-2 : tie.Need-word-of-requires-2
-word-of-requires-2 c κs = search needs
-
 returns : tie.Need-returns
 returns c =
     let v = c .before .before .before .value .given in
@@ -48,12 +30,12 @@ pub value-word-spec : {M : Type 1} → statement M
 value-word-spec =
     tie.close
     (tie.spec
-    enum-known-value
-    word-of-requires
-    enum-known-value-2
-    moment-word-requires
-    enum-known-value-3
-    word-of-requires-2
+    (λ c. search needs)
+    (λ c κs. search needs)
+    (λ c. search needs)
+    (λ c κs. search needs)
+    (λ c. search needs)
+    (λ c κs. search needs)
     returns
     returns-2
     returns-3)

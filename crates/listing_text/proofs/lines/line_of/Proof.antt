@@ -9,27 +9,6 @@ use Rattle.listing_text.proofs.Laws.LineLaws.{row-joined}
 use Rattle.listing_text.proofs.lines.line_of.Statement.{statement}
 use Rattle.listing_text.proofs.lines.line_of.Tie as tie
 
-blank-requires : tie.Need-blank-requires
-blank-requires c κs = search needs
-
-with-number-requires : tie.Need-with-number-requires
-with-number-requires c κs = search needs
-
-with-direction-requires : tie.Need-with-direction-requires
-with-direction-requires c κs = search needs
-
-with-number-requires-2 : tie.Need-with-number-requires-2
-with-number-requires-2 c κs = search needs
-
-slice-aggregate-with : tie.Need-slice-aggregate-with
-slice-aggregate-with c = search needs
-
-with-requires : tie.Need-with-requires
-with-requires c κs = search needs
-
-array-share-prefix-bytes : tie.Need-array-share-prefix-bytes
-array-share-prefix-bytes c = search needs
-
 slice-aggregate-with-2 : tie.Need-slice-aggregate-with-2
 slice-aggregate-with-2 c =
     let word = c .before .before .before .before .before .before .before .before .args .word in
@@ -37,9 +16,6 @@ slice-aggregate-with-2 c =
 
 with-requires-2 : tie.Need-with-requires-2
 with-requires-2 c κs = omega (arith, slice-aggregate-with-2 c)
-
-slice-aggregate-with-3 : tie.Need-slice-aggregate-with-3
-slice-aggregate-with-3 c = search needs
 
 with-requires-3 : tie.Need-with-requires-3
 with-requires-3 c κs = omega (arith, slice-aggregate-with-2 (c .before .before))
@@ -65,15 +41,15 @@ pub line-of-spec : {M : Type 1} → statement M
 line-of-spec =
     tie.close
     (tie.spec
-    blank-requires
-    with-number-requires
-    with-direction-requires
-    with-number-requires-2
-    slice-aggregate-with
-    with-requires
-    array-share-prefix-bytes
+    (λ c κs. search needs)
+    (λ c κs. search needs)
+    (λ c κs. search needs)
+    (λ c κs. search needs)
+    (λ c. search needs)
+    (λ c κs. search needs)
+    (λ c. search needs)
     slice-aggregate-with-2
     with-requires-2
-    slice-aggregate-with-3
+    (λ c. search needs)
     with-requires-3
     returns)

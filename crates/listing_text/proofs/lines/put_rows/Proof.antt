@@ -35,25 +35,10 @@ row-line-requires c κs =
     let back4 = c .before .before .before .before in
     unchecked-inside (back4 .args .bundle .now) (c .before .loop .i) (back4 .args .count) (back4 .pre .0) (c .loop-test .taken)
 
-array-share-prefix-bytes : tie.Need-array-share-prefix-bytes Inv-loop μ-loop
-array-share-prefix-bytes c = search needs
-
 slice-aggregate-lay : tie.Need-slice-aggregate-lay Inv-loop μ-loop
 slice-aggregate-lay c =
     let back3 = c .before .before .before in
     sym (length-take-le (back3 .row-line .result .size) (back3 .row-line .result .bytes) (omega arith))
-
-lay-requires : tie.Need-lay-requires Inv-loop μ-loop
-lay-requires c κs = search needs
-
-add-next : tie.Need-add-next Inv-loop μ-loop
-add-next c = search needs
-
-add-i : tie.Need-add-i Inv-loop μ-loop
-add-i c = search needs
-
-loop-less : tie.Need-loop-less Inv-loop μ-loop
-loop-less c = search needs
 
 loop-again : tie.Need-loop-again Inv-loop μ-loop
 loop-again c =
@@ -68,9 +53,6 @@ loop-again c =
     let line : Holds 48 (back6 .row-line .result) (lineFor (a .bundle .now) (getD (contentsOf (a .bundle .now)) i blankRow)) =
     rw (row-there (a .bundle .now) i (a .count) e (back7 .loop-test .taken)) at (back6 .row-line .ensures) in
     lined-next (back8 .loop .inv) h line (c .before .before .lay .ensures) (c .before .before .lay .kept .0)
-
-same-length : tie.Need-same-length Inv-loop μ-loop
-same-length c = search needs
 
 returns : tie.Need-returns Inv-loop μ-loop
 returns c =
@@ -87,12 +69,12 @@ put-rows-spec =
     μ-loop
     loop-holds
     row-line-requires
-    array-share-prefix-bytes
+    (λ c. search needs)
     slice-aggregate-lay
-    lay-requires
-    add-next
-    add-i
-    loop-less
+    (λ c κs. search needs)
+    (λ c. search needs)
+    (λ c. search needs)
+    (λ c. search needs)
     loop-again
-    same-length
+    (λ c. search needs)
     returns)

@@ -4,18 +4,9 @@ use borrow.Author.Needs.{needs}
 use Rattle.listing_text.proofs.lines.refused.Statement.{statement}
 use Rattle.listing_text.proofs.lines.refused.Tie as tie
 
-slice-aggregate-begin : tie.Need-slice-aggregate-begin
-slice-aggregate-begin c = search needs
-
-begin-requires : tie.Need-begin-requires
-begin-requires c κs = search needs
-
-with-number-requires : tie.Need-with-number-requires
-with-number-requires c κs = search needs
-
 returns : tie.Need-returns
 returns c = record { small = omega arith; whole = c .with-number .ensures .whole; so = rw (c .with-number .ensures .so, c .before .begin .ensures .so) }
 
 pub refused-spec : {M : Type 1} → statement M
 refused-spec =
-    tie.close (tie.spec slice-aggregate-begin begin-requires with-number-requires returns)
+    tie.close (tie.spec (λ c. search needs) (λ c κs. search needs) (λ c κs. search needs) returns)

@@ -11,36 +11,12 @@ use Rattle.listing_text.specs.Listings.{wordOf, rowText}
 use Rattle.listing_text.proofs.lines.row_line.Statement.{statement}
 use Rattle.listing_text.proofs.lines.row_line.Tie as tie
 
-unchecked-row-requires : tie.Need-unchecked-row-requires
-unchecked-row-requires c κs = search needs
-
-cast-at : tie.Need-cast-at
-cast-at c = search needs
-
-cast-end : tie.Need-cast-end
-cast-end c = search needs
-
-add-end : tie.Need-add-end
-add-end c = search needs
-
-sub-word-of : tie.Need-sub-word-of
-sub-word-of c = search needs
-
-part-word-of-start : tie.Need-part-word-of-start
-part-word-of-start c = search needs
-
 part-word-of-end : tie.Need-part-word-of-end
 part-word-of-end c =
     let r = c .before .before .unchecked-row .result in
     let h : r .offset + r .length ≤ length (c .before .before .before .before .args .bundle .now) = rw (c .before .before .unchecked-row .ensures)
     (c .before .before .before .before .pre) in
     omega arith
-
-word-of-requires : tie.Need-word-of-requires
-word-of-requires c κs = search needs
-
-line-of-requires : tie.Need-line-of-requires
-line-of-requires c κs = search needs
 
 returns : tie.Need-returns
 returns c =
@@ -61,13 +37,13 @@ pub row-line-spec : {M : Type 1} → statement M
 row-line-spec =
     tie.close
     (tie.spec
-    unchecked-row-requires
-    cast-at
-    cast-end
-    add-end
-    sub-word-of
-    part-word-of-start
+    (λ c κs. search needs)
+    (λ c. search needs)
+    (λ c. search needs)
+    (λ c. search needs)
+    (λ c. search needs)
+    (λ c. search needs)
     part-word-of-end
-    word-of-requires
-    line-of-requires
+    (λ c κs. search needs)
+    (λ c κs. search needs)
     returns)

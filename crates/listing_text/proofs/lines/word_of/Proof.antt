@@ -6,24 +6,6 @@ use Rattle.listing_text.specs.Listings.{wordOf}
 use Rattle.listing_text.proofs.lines.word_of.Statement.{statement}
 use Rattle.listing_text.proofs.lines.word_of.Tie as tie
 
-column-of-requires : tie.Need-column-of-requires
-column-of-requires c κs = search needs
-
-enum-told : tie.Need-enum-told
-enum-told c = search needs
-
-slice-aggregate-begin : tie.Need-slice-aggregate-begin
-slice-aggregate-begin c = search needs
-
-begin-requires : tie.Need-begin-requires
-begin-requires c κs = search needs
-
-enum-known-view : tie.Need-enum-known-view
-enum-known-view c = search needs
-
-word-for-requires : tie.Need-word-for-requires
-word-for-requires c κs = search needs
-
 returns : tie.Need-returns
 unfolding wordOf
 returns c = record {
@@ -44,11 +26,11 @@ pub word-of-spec : {M : Type 1} → statement M
 word-of-spec =
     tie.close
     (tie.spec
-    column-of-requires
-    enum-told
-    slice-aggregate-begin
-    begin-requires
-    enum-known-view
-    word-for-requires
+    (λ c κs. search needs)
+    (λ c. search needs)
+    (λ c. search needs)
+    (λ c κs. search needs)
+    (λ c. search needs)
+    (λ c κs. search needs)
     returns
     returns-2)

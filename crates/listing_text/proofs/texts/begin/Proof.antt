@@ -5,16 +5,10 @@ use borrow.Author.Needs.{needs}
 use Rattle.listing_text.proofs.texts.begin.Statement.{statement}
 use Rattle.listing_text.proofs.texts.begin.Tie as tie
 
-blank-requires : tie.Need-blank-requires
-blank-requires c κs = search needs
-
-with-requires : tie.Need-with-requires
-with-requires c κs = search needs
-
 returns : tie.Need-returns
 returns c =
     let none : c .before .blank .result .size ≡ 0 = omega arith in
     record { small = omega arith; whole = c .with .ensures .whole; so = c .with .ensures .so ∙ rw none }
 
 pub begin-spec : {M : Type 1} → statement M
-begin-spec = tie.close (tie.spec blank-requires with-requires returns)
+begin-spec = tie.close (tie.spec (λ c κs. search needs) (λ c κs. search needs) returns)

@@ -8,15 +8,6 @@ use mathlib.Core.Path.{_≡_}
 use Rattle.listing_text.proofs.texts.with.Statement.{statement}
 use Rattle.listing_text.proofs.texts.with.Tie as tie
 
-slice-aggregate-lay : tie.Need-slice-aggregate-lay
-slice-aggregate-lay c = search needs
-
-lay-requires : tie.Need-lay-requires
-lay-requires c κs = search needs
-
-add-t10 : tie.Need-add-t10
-add-t10 c = search needs
-
 returns : tie.Need-returns
 returns c = let h : 48 ≡ length (c .before .before .before .before .before .args .line .bytes) = search needs in let a =
     c .before .before .before .before .before .args in record {
@@ -28,4 +19,4 @@ returns c = let h : 48 ≡ length (c .before .before .before .before .before .ar
     }
 
 pub with-spec : {M : Type 1} → statement M
-with-spec = tie.close (tie.spec slice-aggregate-lay lay-requires add-t10 returns)
+with-spec = tie.close (tie.spec (λ c. search needs) (λ c κs. search needs) (λ c. search needs) returns)

@@ -10,12 +10,6 @@ use borrow.Author.Needs.{needs}
 use Rattle.listing_text.proofs.texts.with_number.Statement.{statement}
 use Rattle.listing_text.proofs.texts.with_number.Tie as tie
 
-slice-aggregate-put-number : tie.Need-slice-aggregate-put-number
-slice-aggregate-put-number c = search needs
-
-put-number-requires : tie.Need-put-number-requires
-put-number-requires c κs = search needs
-
 returns : tie.Need-returns
 returns c =
     let a = c .before .before .before .before .args in
@@ -27,4 +21,4 @@ returns c =
     record { small = omega (arith, few, front .0); whole = writes-length w ∙ search needs; so = front .1 }
 
 pub with-number-spec : {M : Type 1} → statement M
-with-number-spec = tie.close (tie.spec slice-aggregate-put-number put-number-requires returns)
+with-number-spec = tie.close (tie.spec (λ c. search needs) (λ c κs. search needs) returns)

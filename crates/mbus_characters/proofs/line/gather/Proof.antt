@@ -25,15 +25,6 @@ mul-c c = let h = placed-in _ refl (c .before .loop .inv) (c .loop-test .taken) 
 shared-slice-read-c : tie.Need-shared-slice-read-c Inv-loop μ-loop
 shared-slice-read-c c = let h = placed-in _ refl (c .before .before .loop .inv) (c .before .loop-test .taken) in omega arith
 
-cast-b : tie.Need-cast-b Inv-loop μ-loop
-cast-b c = search needs
-
-folded-requires : tie.Need-folded-requires Inv-loop μ-loop
-folded-requires c κs = search needs
-
-wrapping-add-u16-requires : tie.Need-wrapping-add-u16-requires Inv-loop μ-loop
-wrapping-add-u16-requires c κs = search needs
-
 slice-write-out : tie.Need-slice-write-out Inv-loop μ-loop
 slice-write-out c = let h = placed-in _ refl (c .before .before .before .before .loop .inv) (c .before .before .before .loop-test .taken) in h .1
 
@@ -50,12 +41,6 @@ loop-again c =
     let test = c .before .before .before .loop-test .taken in
     rw (c .wrapping-add-u16 .ensures)
     (walk-first w (placed-in line refl w test .2) (placed-at line refl w test refl) (c .before .folded .ensures))
-
-told-by-requires : tie.Need-told-by-requires Inv-loop μ-loop
-told-by-requires c κs = search needs
-
-cast-t18 : tie.Need-cast-t18 Inv-loop μ-loop
-cast-t18 c = search needs
 
 same-length : tie.Need-same-length Inv-loop μ-loop
 same-length c = copied-length (c .before .before .loop .inv .stored)
@@ -76,14 +61,14 @@ gather-spec =
     loop-holds
     mul-c
     shared-slice-read-c
-    cast-b
-    folded-requires
-    wrapping-add-u16-requires
+    (λ c. search needs)
+    (λ c κs. search needs)
+    (λ c κs. search needs)
     slice-write-out
     add-i
     loop-less
     loop-again
-    told-by-requires
-    cast-t18
+    (λ c κs. search needs)
+    (λ c. search needs)
     same-length
     returns)

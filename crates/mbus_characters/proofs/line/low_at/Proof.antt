@@ -6,15 +6,6 @@ use Rattle.mbus_rules.proofs.Laws.ListLaws.{at-bytes, at-bytes-end}
 use Rattle.mbus_characters.proofs.line.low_at.Statement.{statement}
 use Rattle.mbus_characters.proofs.line.low_at.Tie as tie
 
-mul-result : tie.Need-mul-result
-mul-result c = search needs
-
-shared-slice-read-result : tie.Need-shared-slice-read-result
-shared-slice-read-result c = search needs
-
-cast-result : tie.Need-cast-result
-cast-result c = search needs
-
 returns : tie.Need-returns
 returns c = let a = c .before .before .args in sym (at-bytes (now (a .line)) (a .i))
 
@@ -23,4 +14,4 @@ returns-2 c = let a = c .before .args in sym (at-bytes-end (now (a .line)) (a .i
 
 pub low-at-spec : {M : Type 1} → statement M
 low-at-spec =
-    tie.close (tie.spec mul-result shared-slice-read-result cast-result returns returns-2)
+    tie.close (tie.spec (λ c. search needs) (λ c. search needs) (λ c. search needs) returns returns-2)

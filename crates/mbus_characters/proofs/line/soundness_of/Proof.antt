@@ -19,26 +19,8 @@ abbrev μ-loop : tie.MeasureT-loop
 loop-holds : tie.Need-loop-holds Inv-loop μ-loop
 loop-holds c = (omega arith, flagged-none)
 
-mul-folded : tie.Need-mul-folded Inv-loop μ-loop
-mul-folded c = search needs
-
-shared-slice-read-folded : tie.Need-shared-slice-read-folded Inv-loop μ-loop
-shared-slice-read-folded c = search needs
-
-folded-requires : tie.Need-folded-requires Inv-loop μ-loop
-folded-requires c κs = search needs
-
-add-i : tie.Need-add-i Inv-loop μ-loop
-add-i c = search needs
-
-loop-less : tie.Need-loop-less Inv-loop μ-loop
-loop-less c = search needs
-
 loop-again : tie.Need-loop-again Inv-loop μ-loop
 loop-again c = (omega arith, flagged-next _ (c .before .before .before .loop .inv .1) (c .before .before .loop-test .taken) refl (c .folded .ensures))
-
-told-by-requires : tie.Need-told-by-requires Inv-loop μ-loop
-told-by-requires c κs = search needs
 
 returns : tie.Need-returns Inv-loop μ-loop
 returns c = c .told-by .ensures ∙ flagged-all _ _ (c .before .before .loop .inv .1) (c .before .loop-test .left)
@@ -50,11 +32,11 @@ soundness-of-spec =
     Inv-loop
     μ-loop
     loop-holds
-    mul-folded
-    shared-slice-read-folded
-    folded-requires
-    add-i
-    loop-less
+    (λ c. search needs)
+    (λ c. search needs)
+    (λ c κs. search needs)
+    (λ c. search needs)
+    (λ c. search needs)
     loop-again
-    told-by-requires
+    (λ c κs. search needs)
     returns)

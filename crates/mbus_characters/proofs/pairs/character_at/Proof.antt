@@ -6,14 +6,8 @@ use Rattle.mbus_characters.proofs.Laws.PairLaws.{character-none}
 use Rattle.mbus_characters.proofs.pairs.character_at.Statement.{statement}
 use Rattle.mbus_characters.proofs.pairs.character_at.Tie as tie
 
-pair-at-requires : tie.Need-pair-at-requires
-pair-at-requires c κs = search needs
-
-returns : tie.Need-returns
-returns c = search needs
-
 returns-2 : tie.Need-returns-2
 returns-2 c = sym (character-none (now (c .before .before .args .bytes)) (c .before .before .args .i) (c .if1 .left))
 
 pub character-at-spec : {M : Type 1} → statement M
-character-at-spec = tie.close (tie.spec pair-at-requires returns returns-2)
+character-at-spec = tie.close (tie.spec (λ c κs. search needs) (λ c. search needs) returns-2)

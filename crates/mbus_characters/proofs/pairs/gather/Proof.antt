@@ -26,16 +26,10 @@ counted : (c : tie.After-fewer)
     → (c .fewer .result ≤ length (line c)) × (c .fewer .result ≤ length (places c)) × (take (c .fewer .result) (line c) ≡ take (length (places c)) (line c))
 counted c = fewer-all (line c) (places c) (sym (length-characters (now (c .before .before .before .args .bytes)))) (c .fewer .ensures)
 
-fewer-requires : tie.Need-fewer-requires
-fewer-requires c κs = search needs
-
 gather-short-requires : tie.Need-gather-short-requires
 gather-short-requires c κs =
     let h = counted (c .before .before) in
     (omega (arith, h .0, length-characters (now (c .before .before .before .before .before .args .bytes))), h .1)
-
-same-length : tie.Need-same-length
-same-length c = search needs
 
 returns : tie.Need-returns
 returns c =
@@ -49,9 +43,6 @@ gather-long-requires c κs =
     let h = counted (c .before .before) in
     (c .before .if1 .left, omega (arith, h .0, length-characters (now (c .before .before .before .before .before .args .bytes))), h .1)
 
-same-length-2 : tie.Need-same-length-2
-same-length-2 c = search needs
-
 returns-2 : tie.Need-returns-2
 returns-2 c =
     let start = c .before .before .before .before .before in
@@ -63,10 +54,10 @@ pub gather-spec : {M : Type 1} → statement M
 gather-spec =
     tie.close
     (tie.spec
-    fewer-requires
+    (λ c κs. search needs)
     gather-short-requires
-    same-length
+    (λ c. search needs)
     returns
     gather-long-requires
-    same-length-2
+    (λ c. search needs)
     returns-2)

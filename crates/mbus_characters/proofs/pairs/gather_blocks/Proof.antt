@@ -35,15 +35,6 @@ loop-holds c =
 pair-at-requires : tie.Need-pair-at-requires Inv-loop μ-loop
 pair-at-requires c κs = omega (arith, c .loop-test .taken, c .before .before .before .before .pre .0)
 
-cast-b : tie.Need-cast-b Inv-loop μ-loop
-cast-b c = search needs
-
-folded-requires : tie.Need-folded-requires Inv-loop μ-loop
-folded-requires c κs = search needs
-
-wrapping-add-u16-requires : tie.Need-wrapping-add-u16-requires Inv-loop μ-loop
-wrapping-add-u16-requires c κs = search needs
-
 slice-write-out : tie.Need-slice-write-out Inv-loop μ-loop
 slice-write-out c =
     let loop = c .before .before .before .before in
@@ -84,9 +75,9 @@ gather-blocks-spec =
     μ-loop
     loop-holds
     pair-at-requires
-    cast-b
-    folded-requires
-    wrapping-add-u16-requires
+    (λ c. search needs)
+    (λ c κs. search needs)
+    (λ c κs. search needs)
     slice-write-out
     add-i
     loop-less

@@ -36,15 +36,6 @@ add-pair-at c = omega (arith, c .loop-test .taken)
 pair-at-requires : tie.Need-pair-at-requires Inv-loop μ-loop
 pair-at-requires c κs = omega (arith, c .loop-test .taken, c .before .before .before .before .pre .1)
 
-cast-b : tie.Need-cast-b Inv-loop μ-loop
-cast-b c = search needs
-
-counted-requires : tie.Need-counted-requires Inv-loop μ-loop
-counted-requires c κs = search needs
-
-wrapping-add-u16-requires : tie.Need-wrapping-add-u16-requires Inv-loop μ-loop
-wrapping-add-u16-requires c κs = search needs
-
 add-out : tie.Need-add-out Inv-loop μ-loop
 add-out c = omega (arith, c .before .before .before .loop-test .taken)
 
@@ -94,9 +85,9 @@ gather-few-spec =
     sub-loop
     add-pair-at
     pair-at-requires
-    cast-b
-    counted-requires
-    wrapping-add-u16-requires
+    (λ c. search needs)
+    (λ c κs. search needs)
+    (λ c κs. search needs)
     add-out
     slice-write-out
     add-i

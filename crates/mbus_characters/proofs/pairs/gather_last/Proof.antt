@@ -22,12 +22,6 @@ abbrev μ-loop : tie.MeasureT-loop
 sub-from : tie.Need-sub-from Inv-loop μ-loop
 sub-from c = omega (arith, c .before .before .pre .0)
 
-cast-left : tie.Need-cast-left Inv-loop μ-loop
-cast-left c = search needs
-
-add-left : tie.Need-add-left Inv-loop μ-loop
-add-left c = search needs
-
 loop-holds : tie.Need-loop-holds Inv-loop μ-loop
 loop-holds c =
     let a = c .before .before .args in
@@ -36,17 +30,11 @@ loop-holds c =
     let to : a .count ≤ length l = omega (arith, pre .1, length-characters (now (a .bytes))) in
     last-none (take (a .count) l) (length-take-le (a .count) l to) (pre .0) (pre .2)
 
-cast-i : tie.Need-cast-i Inv-loop μ-loop
-cast-i c = search needs
-
 add-i : tie.Need-add-i Inv-loop μ-loop
 add-i c = omega (arith, c .loop-test .taken, c .before .before .before .before .pre .0)
 
 pair-at-requires : tie.Need-pair-at-requires Inv-loop μ-loop
 pair-at-requires c κs = omega (arith, c .loop-test .taken, c .before .before .before .before .pre .0, c .before .before .before .before .pre .1)
-
-cast-b : tie.Need-cast-b Inv-loop μ-loop
-cast-b c = search needs
 
 add-c : tie.Need-add-c Inv-loop μ-loop
 add-c c = omega (arith, c .before .loop-test .taken)
@@ -57,12 +45,6 @@ mul-c c =
     let j = c .before .before .loop .j in
     let k : (n % 16 + 16 + j) / 32 < 2 = omega (arith, c .before .loop-test .taken) in
     omega (arith, times-one (c .pair-at .result) ((n % 16 + 16 + j) / 32) k)
-
-folded-requires : tie.Need-folded-requires Inv-loop μ-loop
-folded-requires c κs = search needs
-
-wrapping-add-u16-requires : tie.Need-wrapping-add-u16-requires Inv-loop μ-loop
-wrapping-add-u16-requires c κs = search needs
 
 slice-write-out : tie.Need-slice-write-out Inv-loop μ-loop
 slice-write-out c = omega (
@@ -109,17 +91,17 @@ gather-last-spec =
     Inv-loop
     μ-loop
     sub-from
-    cast-left
-    add-left
+    (λ c. search needs)
+    (λ c. search needs)
     loop-holds
-    cast-i
+    (λ c. search needs)
     add-i
     pair-at-requires
-    cast-b
+    (λ c. search needs)
     add-c
     mul-c
-    folded-requires
-    wrapping-add-u16-requires
+    (λ c κs. search needs)
+    (λ c κs. search needs)
     slice-write-out
     add-j
     loop-less

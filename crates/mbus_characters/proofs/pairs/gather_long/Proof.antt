@@ -11,21 +11,6 @@ use Rattle.mbus_characters.proofs.Laws.PartLaws.{parts-told, parts-over
 use Rattle.mbus_characters.proofs.pairs.gather_long.Statement.{statement}
 use Rattle.mbus_characters.proofs.pairs.gather_long.Tie as tie
 
-mul-whole : tie.Need-mul-whole
-mul-whole c = search needs
-
-gather-last-requires : tie.Need-gather-last-requires
-gather-last-requires c κs = search needs
-
-gather-blocks-requires : tie.Need-gather-blocks-requires
-gather-blocks-requires c κs = search needs
-
-told-of-requires : tie.Need-told-of-requires
-told-of-requires c κs = search needs
-
-same-length : tie.Need-same-length
-same-length c = search needs
-
 returns : tie.Need-returns
 returns c =
     let first = c .before .before .before in
@@ -43,4 +28,4 @@ returns c =
     )
 
 pub gather-long-spec : {M : Type 1} → statement M
-gather-long-spec = tie.close (tie.spec mul-whole gather-last-requires gather-blocks-requires told-of-requires same-length returns)
+gather-long-spec = tie.close (tie.spec (λ c. search needs) (λ c κs. search needs) (λ c κs. search needs) (λ c κs. search needs) (λ c. search needs) returns)

@@ -11,21 +11,6 @@ use Rattle.mbus_characters.proofs.Laws.PartLaws.{parts-told, parts-on}
 use Rattle.mbus_characters.proofs.pairs.gather_short.Statement.{statement}
 use Rattle.mbus_characters.proofs.pairs.gather_short.Tie as tie
 
-mul-whole : tie.Need-mul-whole
-mul-whole c = search needs
-
-gather-blocks-requires : tie.Need-gather-blocks-requires
-gather-blocks-requires c κs = search needs
-
-gather-few-requires : tie.Need-gather-few-requires
-gather-few-requires c κs = search needs
-
-told-of-requires : tie.Need-told-of-requires
-told-of-requires c κs = search needs
-
-same-length : tie.Need-same-length
-same-length c = search needs
-
 returns : tie.Need-returns
 returns c =
     let few = c .before .before .before in
@@ -40,4 +25,4 @@ returns c =
     (c .told-of .ensures ∙ parts-told l le to (blocks .0) (rest .0), parts-on l le to (now (a .out)) (start .pre .1) (blocks .1) (rest .1))
 
 pub gather-short-spec : {M : Type 1} → statement M
-gather-short-spec = tie.close (tie.spec mul-whole gather-blocks-requires gather-few-requires told-of-requires same-length returns)
+gather-short-spec = tie.close (tie.spec (λ c. search needs) (λ c κs. search needs) (λ c κs. search needs) (λ c κs. search needs) (λ c. search needs) returns)

@@ -21,12 +21,6 @@ abbrev μ-loop : tie.MeasureT-loop
 loop-holds : tie.Need-loop-holds Inv-loop μ-loop
 loop-holds c = (omega arith, flagged-none)
 
-character-at-requires : tie.Need-character-at-requires Inv-loop μ-loop
-character-at-requires c κs = search needs
-
-folded-requires : tie.Need-folded-requires Inv-loop μ-loop
-folded-requires c κs = search needs
-
 add-i : tie.Need-add-i Inv-loop μ-loop
 add-i c = omega arith
 
@@ -41,9 +35,6 @@ loop-again c =
           (c .folded .ensures),
     )
 
-told-by-requires : tie.Need-told-by-requires Inv-loop μ-loop
-told-by-requires c κs = search needs
-
 returns : tie.Need-returns Inv-loop μ-loop
 returns c =
     let b = now (c .before .before .before .before .args .bytes) in
@@ -56,10 +47,10 @@ soundness-of-spec =
     Inv-loop
     μ-loop
     loop-holds
-    character-at-requires
-    folded-requires
+    (λ c κs. search needs)
+    (λ c κs. search needs)
     add-i
     loop-less
     loop-again
-    told-by-requires
+    (λ c κs. search needs)
     returns)

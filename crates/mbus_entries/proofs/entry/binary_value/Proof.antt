@@ -11,12 +11,6 @@ use Rattle.mbus_entries.proofs.Laws.TryLaws.{binary-refused, binary-hol
 use Rattle.mbus_entries.proofs.entry.binary_value.Statement.{statement}
 use Rattle.mbus_entries.proofs.entry.binary_value.Tie as tie
 
-coded-of-requires : tie.Need-coded-of-requires
-coded-of-requires c κs = search needs
-
-may-fall-requires : tie.Need-may-fall-requires
-may-fall-requires c κs = search needs
-
 returns : tie.Need-returns
 returns c =
     let a = c .before .before .before .before .before .args in
@@ -34,4 +28,4 @@ returns-2 c =
     (c .before .before .before .may-fall .ensures) (c .before .if1 .left))
 
 pub binary-value-spec : {M : Type 1} → statement M
-binary-value-spec = tie.close (tie.spec coded-of-requires may-fall-requires returns returns-2)
+binary-value-spec = tie.close (tie.spec (λ c κs. search needs) (λ c κs. search needs) returns returns-2)

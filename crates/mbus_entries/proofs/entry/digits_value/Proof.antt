@@ -7,9 +7,6 @@ use Rattle.mbus_entries.proofs.Laws.TryLaws.{digits-refused, digits-hel
 use Rattle.mbus_entries.proofs.entry.digits_value.Statement.{statement}
 use Rattle.mbus_entries.proofs.entry.digits_value.Tie as tie
 
-wrong-number-requires : tie.Need-wrong-number-requires
-wrong-number-requires c κs = search needs
-
 returns : tie.Need-returns
 returns c =
     let a = c .before .before .args in
@@ -23,4 +20,4 @@ returns-2 c =
     (digits-held (a .unit) (a .number) (c .before .before .wrong-number .ensures) (c .before .if1 .left))
 
 pub digits-value-spec : {M : Type 1} → statement M
-digits-value-spec = tie.close (tie.spec wrong-number-requires returns returns-2)
+digits-value-spec = tie.close (tie.spec (λ c κs. search needs) returns returns-2)

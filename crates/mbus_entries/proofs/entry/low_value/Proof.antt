@@ -17,9 +17,6 @@ slice-aggregate-timed-of c =
     let p = c .before .before .before in
     omega (arith, p .pre .time (eq-eqb _ _ (c .before .if1 .taken)), length-take 6 (now (p .args .value)))
 
-timed-of-requires : tie.Need-timed-of-requires
-timed-of-requires c κs = search needs
-
 returns : tie.Need-returns
 returns c =
     let p = c .before .before .before .before .before in
@@ -36,9 +33,6 @@ returns-2 c =
     (c .before .before .timed-of .ensures ∙ ap timedOf (take-all 6 (now (p .args .value)) (omega (arith, p .pre .time (eq-eqb _ _ t)))))
     (c .before .if2 .left)
 
-binary-value-requires : tie.Need-binary-value-requires
-binary-value-requires c κs = search needs
-
 returns-3 : tie.Need-returns-3
 returns-3 c =
     let p = c .before .before .before in
@@ -49,8 +43,8 @@ low-value-spec =
     tie.close
     (tie.spec
     slice-aggregate-timed-of
-    timed-of-requires
+    (λ c κs. search needs)
     returns
     returns-2
-    binary-value-requires
+    (λ c κs. search needs)
     returns-3)

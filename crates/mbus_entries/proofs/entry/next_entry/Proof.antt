@@ -6,15 +6,6 @@ use Rattle.mbus_entries.proofs.Laws.TryLaws.{next-refused, next-few, ne
 use Rattle.mbus_entries.proofs.entry.next_entry.Statement.{statement}
 use Rattle.mbus_entries.proofs.entry.next_entry.Tie as tie
 
-try-entry-requires : tie.Need-try-entry-requires
-try-entry-requires c κs = search needs
-
-enum-known-passed : tie.Need-enum-known-passed
-enum-known-passed c = search needs
-
-enum-known-passed-2 : tie.Need-enum-known-passed-2
-enum-known-passed-2 c = search needs
-
 array-read-if1 : tie.Need-array-read-if1
 array-read-if1 c = omega (
   arith,
@@ -40,9 +31,9 @@ pub next-entry-spec : {M : Type 1} → statement M
 next-entry-spec =
     tie.close
     (tie.spec
-    try-entry-requires
-    enum-known-passed
-    enum-known-passed-2
+    (λ c κs. search needs)
+    (λ c. search needs)
+    (λ c. search needs)
     array-read-if1
     returns
     returns-2

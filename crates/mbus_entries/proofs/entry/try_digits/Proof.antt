@@ -8,28 +8,10 @@ use Rattle.mbus_entries.proofs.Laws.TryLaws.{wide-unfit, wide-tried}
 use Rattle.mbus_entries.proofs.entry.try_digits.Statement.{statement}
 use Rattle.mbus_entries.proofs.entry.try_digits.Tie as tie
 
-shared-slice-read-structure : tie.Need-shared-slice-read-structure
-shared-slice-read-structure c = search needs
-
-shared-slice-read-unit : tie.Need-shared-slice-read-unit
-shared-slice-read-unit c = search needs
-
-digits-at-requires : tie.Need-digits-at-requires
-digits-at-requires c κs = search needs
-
 returns : tie.Need-returns
 returns c =
     let p = c .before .before .before .before .before .before in
     wide-unfit (p .pre .0) (p .pre .1) (c .before .before .digits-at .ensures) (c .if1 .taken)
-
-signed-in-requires : tie.Need-signed-in-requires
-signed-in-requires c κs = search needs
-
-digits-value-requires : tie.Need-digits-value-requires
-digits-value-requires c κs = search needs
-
-entry-with-requires : tie.Need-entry-with-requires
-entry-with-requires c κs = search needs
 
 returns-2 : tie.Need-returns-2
 returns-2 c =
@@ -45,11 +27,11 @@ pub try-digits-spec : {M : Type 1} → statement M
 try-digits-spec =
     tie.close
     (tie.spec
-    shared-slice-read-structure
-    shared-slice-read-unit
-    digits-at-requires
+    (λ c. search needs)
+    (λ c. search needs)
+    (λ c κs. search needs)
     returns
-    signed-in-requires
-    digits-value-requires
-    entry-with-requires
+    (λ c κs. search needs)
+    (λ c κs. search needs)
+    (λ c κs. search needs)
     returns-2)

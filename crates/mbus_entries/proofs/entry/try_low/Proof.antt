@@ -18,18 +18,6 @@ told c = record {
   pair = c .before .goes-with .ensures;
 }
 
-shared-slice-read-structure : tie.Need-shared-slice-read-structure
-shared-slice-read-structure c = search needs
-
-shared-slice-read-unit : tie.Need-shared-slice-read-unit
-shared-slice-read-unit c = search needs
-
-goes-with-requires : tie.Need-goes-with-requires
-goes-with-requires c κs = search needs
-
-low-width-requires : tie.Need-low-width-requires
-low-width-requires c κs = search needs
-
 add-if1 : tie.Need-add-if1
 add-if1 c = omega (arith, told-narrow (told c))
 
@@ -39,20 +27,11 @@ returns c = told-unfit (told (c .before)) (c .if1 .taken)
 add-low-value : tie.Need-add-low-value
 add-low-value c = omega (arith, told-narrow (told (c .before)))
 
-sub-low-value : tie.Need-sub-low-value
-sub-low-value c = search needs
-
-part-low-value-start : tie.Need-part-low-value-start
-part-low-value-start c = search needs
-
 part-low-value-end : tie.Need-part-low-value-end
 part-low-value-end c = told-inside (told (c .before)) (c .if1 .left)
 
 low-value-requires : tie.Need-low-value-requires
 low-value-requires c κs = told-long (told (c .before .before)) (c .before .if1 .left)
-
-entry-with-requires : tie.Need-entry-with-requires
-entry-with-requires c κs = search needs
 
 returns-2 : tie.Need-returns-2
 returns-2 c =
@@ -63,16 +42,16 @@ pub try-low-spec : {M : Type 1} → statement M
 try-low-spec =
     tie.close
     (tie.spec
-    shared-slice-read-structure
-    shared-slice-read-unit
-    goes-with-requires
-    low-width-requires
+    (λ c. search needs)
+    (λ c. search needs)
+    (λ c κs. search needs)
+    (λ c κs. search needs)
     add-if1
     returns
     add-low-value
-    sub-low-value
-    part-low-value-start
+    (λ c. search needs)
+    (λ c. search needs)
     part-low-value-end
     low-value-requires
-    entry-with-requires
+    (λ c κs. search needs)
     returns-2)

@@ -15,12 +15,6 @@ use Rattle.mbus_fields.proofs.Laws.CodeLaws.{word-inside, coded-word}
 use Rattle.mbus_fields.proofs.binary.coded_of.Statement.{statement}
 use Rattle.mbus_fields.proofs.binary.coded_of.Tie as tie
 
-number-at-requires : tie.Need-number-at-requires
-number-at-requires c κs = search needs
-
-most-of-requires : tie.Need-most-of-requires
-most-of-requires c κs = search needs
-
 -- the bytes that count, and what is known of them
 abbrev bytes : tie.After-most-of → List ℕ
 bytes c = take 8 (now (c .before .before .before .args .value))
@@ -42,9 +36,6 @@ most c =
 extended-requires : tie.Need-extended-requires
 extended-requires c κs = word-inside (bytes c) (known c) (few c) (c .before .number-at .ensures .so) (most c)
 
-count-of-requires : tie.Need-count-of-requires
-count-of-requires c κs = search needs
-
 returns : tie.Need-returns
 returns c =
     let n = c .count-of in
@@ -53,4 +44,4 @@ returns c =
     (coded-word (bytes m) (known m) (few m) (m .before .number-at .ensures .so) (most m) (n .ensures ∙ ap (toZ w64) (c .before .extended .ensures)))
 
 pub coded-of-spec : {M : Type 1} → statement M
-coded-of-spec = tie.close (tie.spec number-at-requires most-of-requires extended-requires count-of-requires returns)
+coded-of-spec = tie.close (tie.spec (λ c κs. search needs) (λ c κs. search needs) extended-requires (λ c κs. search needs) returns)

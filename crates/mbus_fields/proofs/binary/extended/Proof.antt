@@ -3,17 +3,8 @@ use borrow.Author.Needs.{needs}
 use Rattle.mbus_fields.proofs.binary.extended.Statement.{statement}
 use Rattle.mbus_fields.proofs.binary.extended.Tie as tie
 
-sub-result : tie.Need-sub-result
-sub-result c = search needs
-
-add-result : tie.Need-add-result
-add-result c = search needs
-
 returns : tie.Need-returns
 returns c = rw (c .if1 .taken)
 
-returns-2 : tie.Need-returns-2
-returns-2 c = search needs
-
 pub extended-spec : {M : Type 1} → statement M
-extended-spec = tie.close (tie.spec sub-result add-result returns returns-2)
+extended-spec = tie.close (tie.spec (λ c. search needs) (λ c. search needs) returns (λ c. search needs))

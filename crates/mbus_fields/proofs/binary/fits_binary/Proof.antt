@@ -10,18 +10,6 @@ use Rattle.mbus_fields.proofs.Laws.CodeLaws.{fits-below, fits-above}
 use Rattle.mbus_fields.proofs.binary.fits_binary.Statement.{statement}
 use Rattle.mbus_fields.proofs.binary.fits_binary.Tie as tie
 
-most-of-requires : tie.Need-most-of-requires
-most-of-requires c κs = search needs
-
-size-of-requires : tie.Need-size-of-requires
-size-of-requires c κs = search needs
-
-is-below-zero-requires : tie.Need-is-below-zero-requires
-is-below-zero-requires c κs = search needs
-
-sub-result : tie.Need-sub-result
-sub-result c = search needs
-
 returns : tie.Need-returns
 returns c =
     let a = c .before .before .before .before .args in
@@ -40,9 +28,9 @@ pub fits-binary-spec : {M : Type 1} → statement M
 fits-binary-spec =
     tie.close
     (tie.spec
-    most-of-requires
-    size-of-requires
-    is-below-zero-requires
-    sub-result
+    (λ c κs. search needs)
+    (λ c κs. search needs)
+    (λ c κs. search needs)
+    (λ c. search needs)
     returns
     returns-2)

@@ -7,9 +7,6 @@ use Rattle.mbus_fields.proofs.Laws.CodeLaws.{mark-none, mark-most, word
 use Rattle.mbus_fields.proofs.binary.most_of.Statement.{statement}
 use Rattle.mbus_fields.proofs.binary.most_of.Tie as tie
 
-mark-of-requires : tie.Need-mark-of-requires
-mark-of-requires c κs = search needs
-
 returns : tie.Need-returns
 returns c = mark-none (min (c .before .before .args .width) 8) (rw (c .before .mark-of .ensures) at (c .if1 .taken))
 
@@ -17,9 +14,6 @@ returns c = mark-none (min (c .before .before .args .width) 8) (rw (c .before .m
 most : (c : tie.Else1) → (c .before .mark-of .result / 15 - 1) * 16 + 15 ≡ 256 ^ min (c .before .before .args .width) 8 - 1
 most c =
     rw (c .before .mark-of .ensures) (mark-most (min (c .before .before .args .width) 8) (rw (c .before .mark-of .ensures) at (c .if1 .left)))
-
-sub-result : tie.Need-sub-result
-sub-result c = search needs
 
 mul-result : tie.Need-mul-result
 mul-result c = omega (arith, most c, word-wide (c .before .before .args .width))
@@ -32,4 +26,4 @@ returns-2 c = most c
 
 pub most-of-spec : {M : Type 1} → statement M
 most-of-spec =
-    tie.close (tie.spec mark-of-requires returns sub-result mul-result add-result returns-2)
+    tie.close (tie.spec (λ c κs. search needs) returns (λ c. search needs) mul-result add-result returns-2)

@@ -24,12 +24,6 @@ mul-eights c = let j = word-joins (c .args .word) _ _ _ (omega arith) refl refl 
 sub-eights : tie.Need-sub-eights
 sub-eights c = let j = word-joins (c .args .word) _ _ _ (omega arith) refl refl refl in omega (arith, j .third)
 
-mul-result : tie.Need-mul-result
-mul-result c = search needs
-
-add-result : tie.Need-add-result
-add-result c = search needs
-
 returns : tie.Need-returns
 returns c = (word-joins (c .args .word) _ _ _ (omega arith) refl refl refl) .so
 
@@ -43,6 +37,6 @@ count-of-spec =
     sub-fours
     mul-eights
     sub-eights
-    mul-result
-    add-result
+    (λ c. search needs)
+    (λ c. search needs)
     returns)

@@ -6,29 +6,17 @@ use Rattle.mbus_rules.specs.Quantities.{widthOf}
 use Rattle.mbus_fields.proofs.digits.digits_at.Statement.{statement}
 use Rattle.mbus_fields.proofs.digits.digits_at.Tie as tie
 
-wide-at-requires : tie.Need-wide-at-requires
-wide-at-requires c κs = search needs
-
 returns : tie.Need-returns
 unfolding widthOf
 returns c = c .wide-at .ensures ∙ rw (c .before .if1 .taken)
-
-wide-at-requires-2 : tie.Need-wide-at-requires-2
-wide-at-requires-2 c κs = search needs
 
 returns-2 : tie.Need-returns-2
 unfolding widthOf
 returns-2 c = c .wide-at2 .ensures ∙ rw (c .before .if2 .taken)
 
-wide-at-requires-3 : tie.Need-wide-at-requires-3
-wide-at-requires-3 c κs = search needs
-
 returns-3 : tie.Need-returns-3
 unfolding widthOf
 returns-3 c = c .wide-at3 .ensures ∙ rw (c .before .if3 .taken)
-
-wide-at-requires-4 : tie.Need-wide-at-requires-4
-wide-at-requires-4 c κs = search needs
 
 returns-4 : tie.Need-returns-4
 unfolding widthOf
@@ -48,12 +36,12 @@ pub digits-at-spec : {M : Type 1} → statement M
 digits-at-spec =
     tie.close
     (tie.spec
-    wide-at-requires
+    (λ c κs. search needs)
     returns
-    wide-at-requires-2
+    (λ c κs. search needs)
     returns-2
-    wide-at-requires-3
+    (λ c κs. search needs)
     returns-3
-    wide-at-requires-4
+    (λ c κs. search needs)
     returns-4
     returns-5)

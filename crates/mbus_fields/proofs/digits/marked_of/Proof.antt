@@ -4,12 +4,6 @@ use Rattle.mbus_fields.proofs.Laws.MarkLaws.{word-small}
 use Rattle.mbus_fields.proofs.digits.marked_of.Statement.{statement}
 use Rattle.mbus_fields.proofs.digits.marked_of.Tie as tie
 
-unmarked-requires : tie.Need-unmarked-requires
-unmarked-requires c κs = search needs
-
-packed-in-requires : tie.Need-packed-in-requires
-packed-in-requires c κs = search needs
-
 sign-on-requires : tie.Need-sign-on-requires
 sign-on-requires c κs = rw (c .packed-in .ensures) (word-small (c .before .unmarked .result))
 
@@ -17,4 +11,4 @@ returns : tie.Need-returns
 returns c = rw (c .sign-on .ensures, c .before .packed-in .ensures, c .before .before .unmarked .ensures)
 
 pub marked-of-spec : {M : Type 1} → statement M
-marked-of-spec = tie.close (tie.spec unmarked-requires packed-in-requires sign-on-requires returns)
+marked-of-spec = tie.close (tie.spec (λ c κs. search needs) (λ c κs. search needs) sign-on-requires returns)

@@ -7,9 +7,6 @@ use Rattle.mbus_rules.proofs.Laws.Negation.{negation-fits, negated}
 use Rattle.mbus_fields.proofs.digits.negated.Statement.{statement}
 use Rattle.mbus_fields.proofs.digits.negated.Tie as tie
 
-cast-result : tie.Need-cast-result
-cast-result c = search needs
-
 sub-result : tie.Need-sub-result
 sub-result c = rw (negated (c .args .size) (c .pre)) (negation-fits (c .args .size) (c .pre))
 
@@ -17,4 +14,4 @@ returns : tie.Need-returns
 returns c = rw (negated (c .args .size) (c .pre)) (toZ-ofZ w64 (negℤ (pos (c .args .size))) (negation-fits (c .args .size) (c .pre)))
 
 pub negated-spec : {M : Type 1} → statement M
-negated-spec = tie.close (tie.spec cast-result sub-result returns)
+negated-spec = tie.close (tie.spec (λ c. search needs) sub-result returns)

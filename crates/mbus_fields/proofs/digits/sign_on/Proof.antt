@@ -6,19 +6,13 @@ use mir.ValLaws.{toZ-ofZ}
 use Rattle.mbus_fields.proofs.digits.sign_on.Statement.{statement}
 use Rattle.mbus_fields.proofs.digits.sign_on.Tie as tie
 
-negated-requires : tie.Need-negated-requires
-negated-requires c κs = search needs
-
 returns : tie.Need-returns
 returns c =
     let n = c .before .before .negated in
     rw (c .before .before .before .if1 .taken, toZ-ofZ w64 (n .result) (record { sfits = n .ok }), n .ensures)
 
-cast-count : tie.Need-cast-count
-cast-count c = search needs
-
 returns-2 : tie.Need-returns-2
 returns-2 c = rw (c .before .if1 .left, toZ-ofZ w64 (pos (c .before .before .args .size .count)) (record { sfits = c .before .before .pre }))
 
 pub sign-on-spec : {M : Type 1} → statement M
-sign-on-spec = tie.close (tie.spec negated-requires returns cast-count returns-2)
+sign-on-spec = tie.close (tie.spec (λ c κs. search needs) returns (λ c. search needs) returns-2)

@@ -16,15 +16,6 @@ use Rattle.mbus_fields.proofs.digits.signed_in.Tie as tie
 told : (c : tie.After-packed-in) {t : Bool} → c .packed-in .result .wrong ≡ t → any overNine (bytesOf 8 (c .before .args .word)) ≡ t
 told c w = sym (ap (λ (p : Packed). p .wrong) (c .packed-in .ensures)) ∙ w
 
-packed-in-requires : tie.Need-packed-in-requires
-packed-in-requires c κs = search needs
-
-mark-of-requires : tie.Need-mark-of-requires
-mark-of-requires c κs = search needs
-
-marked-of-requires : tie.Need-marked-of-requires
-marked-of-requires c κs = search needs
-
 returns : tie.Need-returns
 returns c = c .marked-of .ensures ∙ rw (c .before .mark-of .ensures, told (c .before .before .before) (c .before .before .if1 .taken))
 
@@ -43,9 +34,9 @@ pub signed-in-spec : {M : Type 1} → statement M
 signed-in-spec =
     tie.close
     (tie.spec
-    packed-in-requires
-    mark-of-requires
-    marked-of-requires
+    (λ c κs. search needs)
+    (λ c κs. search needs)
+    (λ c κs. search needs)
     returns
     sign-on-requires
     returns-2)

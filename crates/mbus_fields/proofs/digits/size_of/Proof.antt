@@ -53,10 +53,7 @@ cast-result-2 c =
     let f = c .before .fits .count in
     rw (toZ-ofZ w64 z f) (above-cast z f (sym (below-tested z f) ∙ c .if1 .left))
 
-returns-2 : tie.Need-returns-2
-returns-2 c = search needs
-
 pub size-of-spec : {M : Type 1} → statement M
 size-of-spec =
     tie.close
-    (tie.spec add-result sub-result cast-result add-result-2 returns cast-result-2 returns-2)
+    (tie.spec add-result sub-result cast-result add-result-2 returns cast-result-2 (λ c. search needs))

@@ -9,14 +9,8 @@ use lib.ListN.{length}
 use Rattle.mbus_fields.proofs.digits.wide_at.Statement.{statement}
 use Rattle.mbus_fields.proofs.digits.wide_at.Tie as tie
 
-add-if1 : tie.Need-add-if1
-add-if1 c = search needs
-
 returns : tie.Need-returns
 returns c = rw (lt-ltb (length (now (c .before .before .args .rest))) (2 + c .before .before .args .width) (c .if1 .taken))
-
-number-at-requires : tie.Need-number-at-requires
-number-at-requires c κs = search needs
 
 returns-2 : tie.Need-returns-2
 returns-2 c =
@@ -25,4 +19,4 @@ returns-2 c =
     rw (le-ltb (length (now (a .rest))) (2 + a .width) (c .before .if1 .left), c .number-at .ensures .so, few)
 
 pub wide-at-spec : {M : Type 1} → statement M
-wide-at-spec = tie.close (tie.spec add-if1 returns number-at-requires returns-2)
+wide-at-spec = tie.close (tie.spec (λ c. search needs) returns (λ c κs. search needs) returns-2)

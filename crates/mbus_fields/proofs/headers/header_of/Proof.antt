@@ -8,29 +8,11 @@ use Rattle.mbus_fields.proofs.Laws.GatherLaws.{number-fits}
 use Rattle.mbus_fields.proofs.headers.header_of.Statement.{statement}
 use Rattle.mbus_fields.proofs.headers.header_of.Tie as tie
 
-number-of-requires : tie.Need-number-of-requires
-number-of-requires c κs = search needs
-
 cast-number : tie.Need-cast-number
 cast-number c =
     let part = now (c .before .before .before .args .part) in
     let byte : (i : ℕ) → at part i < 256 = λ i. omega (arith, c .before .before .shared-slice-known .given i) in
     rw (c .before .number-of .ensures) (omega (arith, number-fits part byte))
-
-maker-of-requires : tie.Need-maker-of-requires
-maker-of-requires c κs = search needs
-
-byte-at-requires : tie.Need-byte-at-requires
-byte-at-requires c κs = search needs
-
-byte-at-requires-2 : tie.Need-byte-at-requires-2
-byte-at-requires-2 c κs = search needs
-
-byte-at-requires-3 : tie.Need-byte-at-requires-3
-byte-at-requires-3 c κs = search needs
-
-byte-at-requires-4 : tie.Need-byte-at-requires-4
-byte-at-requires-4 c κs = search needs
 
 returns : tie.Need-returns
 returns c = rw (
@@ -46,11 +28,11 @@ pub header-of-spec : {M : Type 1} → statement M
 header-of-spec =
     tie.close
     (tie.spec
-    number-of-requires
+    (λ c κs. search needs)
     cast-number
-    maker-of-requires
-    byte-at-requires
-    byte-at-requires-2
-    byte-at-requires-3
-    byte-at-requires-4
+    (λ c κs. search needs)
+    (λ c κs. search needs)
+    (λ c κs. search needs)
+    (λ c κs. search needs)
+    (λ c κs. search needs)
     returns)

@@ -10,16 +10,10 @@ use Rattle.mbus_fields.proofs.Laws.GatherLaws.{word-packed}
 use Rattle.mbus_fields.proofs.headers.number_of.Statement.{statement}
 use Rattle.mbus_fields.proofs.headers.number_of.Tie as tie
 
-number-at-requires : tie.Need-number-at-requires
-number-at-requires c κs = search needs
-
-packed-in-requires : tie.Need-packed-in-requires
-packed-in-requires c κs = search needs
-
 returns : tie.Need-returns
 returns c =
     c .packed-in .ensures ∙ ap (λ (n : ℕ). packedOf (bytesOf 8 n)) (c .before .number-at .ensures .so)
     ∙ word-packed 4 (now (c .before .before .before .args .part)) (λ i. omega (arith, c .before .before .shared-slice-known .given i)) (omega arith)
 
 pub number-of-spec : {M : Type 1} → statement M
-number-of-spec = tie.close (tie.spec number-at-requires packed-in-requires returns)
+number-of-spec = tie.close (tie.spec (λ c κs. search needs) (λ c κs. search needs) returns)

@@ -5,27 +5,6 @@ use Rattle.mbus_rules.specs.Headers.{wrongHeader}
 use Rattle.mbus_fields.proofs.headers.wrong_header.Statement.{statement}
 use Rattle.mbus_fields.proofs.headers.wrong_header.Tie as tie
 
-number-of-requires : tie.Need-number-of-requires
-number-of-requires c κs = search needs
-
-maker-of-requires : tie.Need-maker-of-requires
-maker-of-requires c κs = search needs
-
-maker-named-requires : tie.Need-maker-named-requires
-maker-named-requires c κs = search needs
-
-byte-at-requires : tie.Need-byte-at-requires
-byte-at-requires c κs = search needs
-
-heat-meter-requires : tie.Need-heat-meter-requires
-heat-meter-requires c κs = search needs
-
-byte-at-requires-2 : tie.Need-byte-at-requires-2
-byte-at-requires-2 c κs = search needs
-
-byte-at-requires-3 : tie.Need-byte-at-requires-3
-byte-at-requires-3 c κs = search needs
-
 returns : tie.Need-returns
 unfolding wrongHeader
 returns c = rw (
@@ -42,11 +21,11 @@ pub wrong-header-spec : {M : Type 1} → statement M
 wrong-header-spec =
     tie.close
     (tie.spec
-    number-of-requires
-    maker-of-requires
-    maker-named-requires
-    byte-at-requires
-    heat-meter-requires
-    byte-at-requires-2
-    byte-at-requires-3
+    (λ c κs. search needs)
+    (λ c κs. search needs)
+    (λ c κs. search needs)
+    (λ c κs. search needs)
+    (λ c κs. search needs)
+    (λ c κs. search needs)
+    (λ c κs. search needs)
     returns)

@@ -3,11 +3,8 @@ use borrow.Author.Needs.{needs}
 use Rattle.mbus_fields.proofs.moments.date_exists.Statement.{statement}
 use Rattle.mbus_fields.proofs.moments.date_exists.Tie as tie
 
-days-in-requires : tie.Need-days-in-requires
-days-in-requires c κs = search needs
-
 returns : tie.Need-returns
 returns c = rw (c .before .before .before .before .before .days-in .ensures)
 
 pub date-exists-spec : {M : Type 1} → statement M
-date-exists-spec = tie.close (tie.spec days-in-requires returns)
+date-exists-spec = tie.close (tie.spec (λ c κs. search needs) returns)

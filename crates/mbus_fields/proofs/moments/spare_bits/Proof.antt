@@ -3,18 +3,9 @@ use borrow.Author.Needs.{needs}
 use Rattle.mbus_fields.proofs.moments.spare_bits.Statement.{statement}
 use Rattle.mbus_fields.proofs.moments.spare_bits.Tie as tie
 
-byte-at-requires : tie.Need-byte-at-requires
-byte-at-requires c κs = search needs
-
-byte-at-requires-2 : tie.Need-byte-at-requires-2
-byte-at-requires-2 c κs = search needs
-
-byte-at-requires-3 : tie.Need-byte-at-requires-3
-byte-at-requires-3 c κs = search needs
-
 returns : tie.Need-returns
 returns c = rw (c .before .before .byte-at .ensures, c .before .byte-at2 .ensures, c .byte-at3 .ensures)
 
 pub spare-bits-spec : {M : Type 1} → statement M
 spare-bits-spec =
-    tie.close (tie.spec byte-at-requires byte-at-requires-2 byte-at-requires-3 returns)
+    tie.close (tie.spec (λ c κs. search needs) (λ c κs. search needs) (λ c κs. search needs) returns)

@@ -8,17 +8,11 @@ use Rattle.mbus_fields.proofs.quantities.goes_with.Tie as tie
 returns : tie.Need-returns
 returns c = rw (eq-eqb _ _ (c .if1 .taken))
 
-is-packed-requires : tie.Need-is-packed-requires
-is-packed-requires c κs = search needs
-
 returns-2 : tie.Need-returns-2
 returns-2 c = rw (ne-eqb _ _ (c .before .before .if1 .left), sym (c .before .is-packed .ensures) ∙ c .if2 .taken)
-
-is-binary-requires : tie.Need-is-binary-requires
-is-binary-requires c κs = search needs
 
 returns-3 : tie.Need-returns-3
 returns-3 c = rw (ne-eqb _ _ (c .before .before .before .if1 .left), sym (c .before .before .is-packed .ensures) ∙ c .before .if2 .left, c .is-binary .ensures)
 
 pub goes-with-spec : {M : Type 1} → statement M
-goes-with-spec = tie.close (tie.spec returns is-packed-requires returns-2 is-binary-requires returns-3)
+goes-with-spec = tie.close (tie.spec returns (λ c κs. search needs) returns-2 (λ c κs. search needs) returns-3)

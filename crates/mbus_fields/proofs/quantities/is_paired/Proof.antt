@@ -6,15 +6,9 @@ use Rattle.mbus_fields.proofs.Laws.TableLaws.{goes-paired}
 use Rattle.mbus_fields.proofs.quantities.is_paired.Statement.{statement}
 use Rattle.mbus_fields.proofs.quantities.is_paired.Tie as tie
 
-quantity-of-requires : tie.Need-quantity-of-requires
-quantity-of-requires c κs = search needs
-
-goes-with-requires : tie.Need-goes-with-requires
-goes-with-requires c κs = search needs
-
 returns : tie.Need-returns
 returns c = c .goes-with .ensures ∙ ap (goesWith (c .before .before .args .structure)) (c .before .quantity-of .ensures) ∙ goes-paired
     (c .before .before .args .structure) (c .before .before .args .unit)
 
 pub is-paired-spec : {M : Type 1} → statement M
-is-paired-spec = tie.close (tie.spec quantity-of-requires goes-with-requires returns)
+is-paired-spec = tie.close (tie.spec (λ c κs. search needs) (λ c κs. search needs) returns)

@@ -7,11 +7,8 @@ use Rattle.mbus_fields.proofs.quantities.low_width.Tie as tie
 returns : tie.Need-returns
 returns c = rw (eq-eqb _ _ (c .if1 .taken))
 
-cast-result : tie.Need-cast-result
-cast-result c = search needs
-
 returns-2 : tie.Need-returns-2
 returns-2 c = rw (ne-eqb _ _ (c .if1 .left))
 
 pub low-width-spec : {M : Type 1} → statement M
-low-width-spec = tie.close (tie.spec returns cast-result returns-2)
+low-width-spec = tie.close (tie.spec returns (λ c. search needs) returns-2)

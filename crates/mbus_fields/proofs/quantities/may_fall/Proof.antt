@@ -3,11 +3,8 @@ use borrow.Author.Needs.{needs}
 use Rattle.mbus_fields.proofs.quantities.may_fall.Statement.{statement}
 use Rattle.mbus_fields.proofs.quantities.may_fall.Tie as tie
 
-quantity-of-requires : tie.Need-quantity-of-requires
-quantity-of-requires c κs = search needs
-
 returns : tie.Need-returns
 returns c = rw (c .quantity-of .ensures)
 
 pub may-fall-spec : {M : Type 1} → statement M
-may-fall-spec = tie.close (tie.spec quantity-of-requires returns)
+may-fall-spec = tie.close (tie.spec (λ c κs. search needs) returns)

@@ -8,20 +8,11 @@ use Rattle.mbus_fields.proofs.Laws.TableLaws.{known-width}
 use Rattle.mbus_fields.proofs.quantities.width_of.Statement.{statement}
 use Rattle.mbus_fields.proofs.quantities.width_of.Tie as tie
 
-is-packed-requires : tie.Need-is-packed-requires
-is-packed-requires c κs = search needs
-
-is-binary-requires : tie.Need-is-binary-requires
-is-binary-requires c κs = search needs
-
 -- the width by the tests that were made
 by-tests : (c : tie.After-is-binary)
     → widthOf (c .before .before .args .structure)
     ≡ cond (c .before .is-packed .result || c .is-binary .result) (lowWidth (c .before .before .args .structure)) 0
 by-tests c = rw (c .before .is-packed .ensures, c .is-binary .ensures) (known-width (c .before .before .args .structure))
-
-low-width-requires : tie.Need-low-width-requires
-low-width-requires c κs = search needs
 
 returns : tie.Need-returns
 returns c = c .low-width .ensures ∙ sym (by-tests (c .before .before) ∙ rw (c .before .if1 .taken))
@@ -31,4 +22,4 @@ returns-2 c = sym (by-tests (c .before) ∙ rw (c .if1 .left))
 
 pub width-of-spec : {M : Type 1} → statement M
 width-of-spec =
-    tie.close (tie.spec is-packed-requires is-binary-requires low-width-requires returns returns-2)
+    tie.close (tie.spec (λ c κs. search needs) (λ c κs. search needs) (λ c κs. search needs) returns returns-2)

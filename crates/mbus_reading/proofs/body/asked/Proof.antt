@@ -8,24 +8,6 @@ use Rattle.mbus_shape.specs.Shapes.{askedOf}
 use Rattle.mbus_reading.proofs.body.asked.Statement.{statement}
 use Rattle.mbus_reading.proofs.body.asked.Tie as tie
 
-enum-known-request : tie.Need-enum-known-request
-enum-known-request c = search needs
-
-plain-requires : tie.Need-plain-requires
-plain-requires c κs = search needs
-
-enum-known-request-2 : tie.Need-enum-known-request-2
-enum-known-request-2 c = search needs
-
-plain-requires-2 : tie.Need-plain-requires-2
-plain-requires-2 c κs = search needs
-
-enum-known-request-3 : tie.Need-enum-known-request-3
-enum-known-request-3 c = search needs
-
-plain-requires-3 : tie.Need-plain-requires-3
-plain-requires-3 c κs = search needs
-
 returns : tie.Need-returns
 returns c = c .plain .ensures ∙ ap (λ (q : Request). shown (reads (askedOf q))) (sym (c .before .before .request .given .1))
 
@@ -39,12 +21,12 @@ pub asked-spec : {M : Type 1} → statement M
 asked-spec =
     tie.close
     (tie.spec
-    enum-known-request
-    plain-requires
-    enum-known-request-2
-    plain-requires-2
-    enum-known-request-3
-    plain-requires-3
+    (λ c. search needs)
+    (λ c κs. search needs)
+    (λ c. search needs)
+    (λ c κs. search needs)
+    (λ c. search needs)
+    (λ c κs. search needs)
     returns
     returns-2
     returns-3)

@@ -10,29 +10,11 @@ use Rattle.mbus_reading.proofs.body.body_of.Tie as tie
 slice-aggregate-wrong-header : tie.Need-slice-aggregate-wrong-header
 slice-aggregate-wrong-header c = sym (length-take-le 12 (now (c .before .before .args .part)) (c .before .before .pre))
 
-wrong-header-requires : tie.Need-wrong-header-requires
-wrong-header-requires c κs = search needs
-
-blank-entry-requires : tie.Need-blank-entry-requires
-blank-entry-requires c κs = search needs
-
 returns : tie.Need-returns
 returns c = rw (
   sym (head-wrong (now (c .before .before .before .before .before .args .part))) ∙ sym (c .before .before .wrong-header .ensures) ∙ c .before .if1 .taken,
   c .blank-entry .ensures,
 )
-
-sub-read-entries : tie.Need-sub-read-entries
-sub-read-entries c = search needs
-
-part-read-entries-start : tie.Need-part-read-entries-start
-part-read-entries-start c = search needs
-
-part-read-entries-end : tie.Need-part-read-entries-end
-part-read-entries-end c = search needs
-
-read-entries-requires : tie.Need-read-entries-requires
-read-entries-requires c κs = search needs
 
 returns-2 : tie.Need-returns-2
 returns-2 c =
@@ -44,11 +26,11 @@ body-of-spec =
     tie.close
     (tie.spec
     slice-aggregate-wrong-header
-    wrong-header-requires
-    blank-entry-requires
+    (λ c κs. search needs)
+    (λ c κs. search needs)
     returns
-    sub-read-entries
-    part-read-entries-start
-    part-read-entries-end
-    read-entries-requires
+    (λ c. search needs)
+    (λ c. search needs)
+    (λ c. search needs)
+    (λ c κs. search needs)
     returns-2)

@@ -7,15 +7,6 @@ use Rattle.mbus_reading.proofs.Laws.BodyLaws.{data-refused, data-outlin
 use Rattle.mbus_reading.proofs.body.outline_data.Statement.{statement}
 use Rattle.mbus_reading.proofs.body.outline_data.Tie as tie
 
-body-of-requires : tie.Need-body-of-requires
-body-of-requires c κs = search needs
-
-enum-known-outcome : tie.Need-enum-known-outcome
-enum-known-outcome c = search needs
-
-enum-told : tie.Need-enum-told
-enum-told c = search needs
-
 returns : tie.Need-returns
 returns c =
     ap viewed
@@ -30,4 +21,4 @@ returns-2 c =
 
 pub outline-data-spec : {M : Type 1} → statement M
 outline-data-spec =
-    tie.close (tie.spec body-of-requires enum-known-outcome enum-told returns returns-2)
+    tie.close (tie.spec (λ c κs. search needs) (λ c. search needs) (λ c. search needs) returns returns-2)

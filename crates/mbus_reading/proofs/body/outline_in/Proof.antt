@@ -10,12 +10,6 @@ use Rattle.mbus_shape.proofs.Laws.LeftLaws.{left-by, asks-left}
 use Rattle.mbus_reading.proofs.body.outline_in.Statement.{statement}
 use Rattle.mbus_reading.proofs.body.outline_in.Tie as tie
 
-shape-of-requires : tie.Need-shape-of-requires
-shape-of-requires c κs = search needs
-
-enum-known-shape : tie.Need-enum-known-shape
-enum-known-shape c = search needs
-
 sub-outline-data : tie.Need-sub-outline-data
 sub-outline-data c = let h = left-by (now (c .before .before .before .before .before .args .bytes)) (c .before .before .before .before .before .args .sum)
     (c .before .before .before .shape-of .ensures)
@@ -31,9 +25,6 @@ part-outline-data-start c = let h = left-by (now (c .before .before .before .bef
     (c .before .before .before .before .before .args .sum) (c .before .before .before .shape-of .ensures)
     (c .before .shape .given .1) in omega (arith, h .0)
 
-part-outline-data-end : tie.Need-part-outline-data-end
-part-outline-data-end c = search needs
-
 outline-data-requires : tie.Need-outline-data-requires
 outline-data-requires c κs =
     let b = now (c .before .before .before .before .before .before .args .bytes) in
@@ -41,15 +32,6 @@ outline-data-requires c κs =
     (c .before .before .before .before .shape-of .ensures)
     (c .before .before .shape .given .1) in
     omega (arith, h .0, length-take (length b - 2 - 7) (drop 7 b), length-drop 7 b)
-
-enum-known-shape-2 : tie.Need-enum-known-shape-2
-enum-known-shape-2 c = search needs
-
-enum-told : tie.Need-enum-told
-enum-told c = search needs
-
-enum-known-shape-3 : tie.Need-enum-known-shape-3
-enum-known-shape-3 c = search needs
 
 returns : tie.Need-returns
 returns c = let h = left-by (now (c .before .before .before .before .before .before .before .args .bytes))
@@ -76,16 +58,16 @@ pub outline-in-spec : {M : Type 1} → statement M
 outline-in-spec =
     tie.close
     (tie.spec
-    shape-of-requires
-    enum-known-shape
+    (λ c κs. search needs)
+    (λ c. search needs)
     sub-outline-data
     sub-outline-data-2
     part-outline-data-start
-    part-outline-data-end
+    (λ c. search needs)
     outline-data-requires
-    enum-known-shape-2
-    enum-told
-    enum-known-shape-3
+    (λ c. search needs)
+    (λ c. search needs)
+    (λ c. search needs)
     returns
     returns-2
     returns-3

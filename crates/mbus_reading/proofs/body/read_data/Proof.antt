@@ -8,15 +8,6 @@ use Rattle.mbus_reading.proofs.Laws.BodyLaws.{head-is, data-refused, da
 use Rattle.mbus_reading.proofs.body.read_data.Statement.{statement}
 use Rattle.mbus_reading.proofs.body.read_data.Tie as tie
 
-body-of-requires : tie.Need-body-of-requires
-body-of-requires c κs = search needs
-
-enum-known-outcome : tie.Need-enum-known-outcome
-enum-known-outcome c = search needs
-
-refused-requires : tie.Need-refused-requires
-refused-requires c κs = search needs
-
 returns : tie.Need-returns
 returns c =
     c .refused .ensures
@@ -25,15 +16,9 @@ returns c =
     (data-refused (c .before .before .before .before .before .before .args .address) (now (c .before .before .before .before .before .before .args .part))
     (c .before .before .before .before .body-of .result) (c .before .before .before .before .body-of .ensures) _ (c .before .before .outcome .given .1)))
 
-enum-told : tie.Need-enum-told
-enum-told c = search needs
-
 slice-aggregate-header-of : tie.Need-slice-aggregate-header-of
 slice-aggregate-header-of c = sym
     (length-take-le 12 (now (c .before .before .before .before .before .args .part)) (c .before .before .before .before .before .pre))
-
-header-of-requires : tie.Need-header-of-requires
-header-of-requires c κs = search needs
 
 returns-2 : tie.Need-returns-2
 returns-2 c =
@@ -46,11 +31,11 @@ pub read-data-spec : {M : Type 1} → statement M
 read-data-spec =
     tie.close
     (tie.spec
-    body-of-requires
-    enum-known-outcome
-    refused-requires
+    (λ c κs. search needs)
+    (λ c. search needs)
+    (λ c κs. search needs)
     returns
-    enum-told
+    (λ c. search needs)
     slice-aggregate-header-of
-    header-of-requires
+    (λ c κs. search needs)
     returns-2)

@@ -10,12 +10,6 @@ use Rattle.mbus_shape.proofs.Laws.LeftLaws.{left-by}
 use Rattle.mbus_reading.proofs.body.read_in.Statement.{statement}
 use Rattle.mbus_reading.proofs.body.read_in.Tie as tie
 
-shape-of-requires : tie.Need-shape-of-requires
-shape-of-requires c κs = search needs
-
-enum-known-shape : tie.Need-enum-known-shape
-enum-known-shape c = search needs
-
 sub-read-data : tie.Need-sub-read-data
 sub-read-data c = let h = left-by (now (c .before .before .before .before .before .args .bytes)) (c .before .before .before .before .before .args .sum)
     (c .before .before .before .shape-of .ensures)
@@ -31,9 +25,6 @@ part-read-data-start c = let h = left-by (now (c .before .before .before .before
     (c .before .before .before .shape-of .ensures)
     (c .before .shape .given .1) in omega (arith, h .0)
 
-part-read-data-end : tie.Need-part-read-data-end
-part-read-data-end c = search needs
-
 read-data-requires : tie.Need-read-data-requires
 read-data-requires c κs =
     let b = now (c .before .before .before .before .before .before .args .bytes) in
@@ -41,24 +32,6 @@ read-data-requires c κs =
     (c .before .before .before .before .shape-of .ensures)
     (c .before .before .shape .given .1) in
     omega (arith, h .0, length-take (length b - 2 - 7) (drop 7 b), length-drop 7 b)
-
-enum-known-shape-2 : tie.Need-enum-known-shape-2
-enum-known-shape-2 c = search needs
-
-refused-requires : tie.Need-refused-requires
-refused-requires c κs = search needs
-
-enum-told : tie.Need-enum-told
-enum-told c = search needs
-
-plain-requires : tie.Need-plain-requires
-plain-requires c κs = search needs
-
-enum-known-shape-3 : tie.Need-enum-known-shape-3
-enum-known-shape-3 c = search needs
-
-asked-requires : tie.Need-asked-requires
-asked-requires c κs = search needs
 
 returns : tie.Need-returns
 returns c = let h = left-by (now (c .before .before .before .before .before .before .before .args .bytes))
@@ -90,19 +63,19 @@ pub read-in-spec : {M : Type 1} → statement M
 read-in-spec =
     tie.close
     (tie.spec
-    shape-of-requires
-    enum-known-shape
+    (λ c κs. search needs)
+    (λ c. search needs)
     sub-read-data
     sub-read-data-2
     part-read-data-start
-    part-read-data-end
+    (λ c. search needs)
     read-data-requires
-    enum-known-shape-2
-    refused-requires
-    enum-told
-    plain-requires
-    enum-known-shape-3
-    asked-requires
+    (λ c. search needs)
+    (λ c κs. search needs)
+    (λ c. search needs)
+    (λ c κs. search needs)
+    (λ c. search needs)
+    (λ c κs. search needs)
     returns
     returns-2
     returns-3

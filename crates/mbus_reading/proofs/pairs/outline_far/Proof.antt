@@ -12,18 +12,6 @@ use Rattle.mbus_reading.proofs.Laws.TakingLaws.{far-line}
 use Rattle.mbus_reading.proofs.pairs.outline_far.Statement.{statement}
 use Rattle.mbus_reading.proofs.pairs.outline_far.Tie as tie
 
-soundness-of-requires : tie.Need-soundness-of-requires
-soundness-of-requires c κs = search needs
-
-character-at-requires : tie.Need-character-at-requires
-character-at-requires c κs = search needs
-
-cast-far-of : tie.Need-cast-far-of
-cast-far-of c = search needs
-
-far-of-requires : tie.Need-far-of-requires
-far-of-requires c κs = search needs
-
 returns : tie.Need-returns
 returns c =
     let b = now (c .before .before .before .before .args .bytes) in
@@ -37,4 +25,4 @@ returns c =
 pub outline-far-spec : {M : Type 1} → statement M
 outline-far-spec =
     tie.close
-    (tie.spec soundness-of-requires character-at-requires cast-far-of far-of-requires returns)
+    (tie.spec (λ c κs. search needs) (λ c κs. search needs) (λ c. search needs) (λ c κs. search needs) returns)

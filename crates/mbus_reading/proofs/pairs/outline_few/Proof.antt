@@ -21,15 +21,6 @@ returns c =
     let b = now (c .before .before .args .bytes) in
     ap viewed (sym (none-is (chars b) (length-characters b ∙ c .if1 .taken)))
 
-slice-aggregate-take-few : tie.Need-slice-aggregate-take-few
-slice-aggregate-take-few c = search needs
-
-take-few-requires : tie.Need-take-few-requires
-take-few-requires c κs = search needs
-
-enum-known-outcome : tie.Need-enum-known-outcome
-enum-known-outcome c = search needs
-
 returns-2 : tie.Need-returns-2
 returns-2 c =
     let b = now (c .before .before .before .before .before .before .before .before .args .bytes) in
@@ -39,12 +30,6 @@ returns-2 c =
     let t = taken-as s low (total (map byteOf s) % 256) (c .before .outcome .given .1) (c .before .before .before .before .take-few .ensures) in
     ap viewed (sym t)
 
-enum-told : tie.Need-enum-told
-enum-told c = search needs
-
-array-share-prefix-few : tie.Need-array-share-prefix-few
-array-share-prefix-few c = search needs
-
 slice-aggregate-brief-shape : tie.Need-slice-aggregate-brief-shape
 slice-aggregate-brief-shape c =
     let b = now (c .before .before .before .before .before .before .before .before .args .bytes) in
@@ -53,9 +38,6 @@ slice-aggregate-brief-shape c =
     let size = length-characters b in
     let t = taken-as s low (total (map byteOf s) % 256) (c .before .enum-told .given .1) (c .before .before .before .before .take-few .ensures) in
     cut-count s low (sym size) (ap (λ (n : ℕ). take n low) (sym size) ∙ t .1)
-
-brief-shape-requires : tie.Need-brief-shape-requires
-brief-shape-requires c κs = search needs
 
 returns-3 : tie.Need-returns-3
 returns-3 c =
@@ -73,12 +55,12 @@ outline-few-spec =
     tie.close
     (tie.spec
     returns
-    slice-aggregate-take-few
-    take-few-requires
-    enum-known-outcome
+    (λ c. search needs)
+    (λ c κs. search needs)
+    (λ c. search needs)
     returns-2
-    enum-told
-    array-share-prefix-few
+    (λ c. search needs)
+    (λ c. search needs)
     slice-aggregate-brief-shape
-    brief-shape-requires
+    (λ c κs. search needs)
     returns-3)

@@ -13,18 +13,6 @@ use Rattle.mbus_reading.proofs.Laws.TakingLaws.{taken-some, taken-as, c
 use Rattle.mbus_reading.proofs.pairs.outline_many.Statement.{statement}
 use Rattle.mbus_reading.proofs.pairs.outline_many.Tie as tie
 
-slice-aggregate-write-apart : tie.Need-slice-aggregate-write-apart
-slice-aggregate-write-apart c = search needs
-
-write-apart-requires : tie.Need-write-apart-requires
-write-apart-requires c κs = search needs
-
-slice-aggregate-gather : tie.Need-slice-aggregate-gather
-slice-aggregate-gather c = search needs
-
-gather-requires : tie.Need-gather-requires
-gather-requires c κs = search needs
-
 -- the line is taken in
 taken : (c : tie.After-gather)
     → TakenBytes (chars (now (c .before .before .before .before .before .before .args .bytes))) (c .gather .last .1 .0) (c .gather .result .outcome)
@@ -37,19 +25,10 @@ taken c =
     (omega (arith, size, w .kept, length-replicate {A = ℕ} 261 0, c .before .before .before .before .before .before .pre .1)) (c .gather .ensures .0)
     (c .gather .ensures .1) (omega (arith, size, c .before .before .before .before .before .before .pre .0))
 
-enum-known-outcome : tie.Need-enum-known-outcome
-enum-known-outcome c = search needs
-
 returns : tie.Need-returns
 returns c =
     let g = c .before .before .before .before .gather in
     ap viewed (sym (taken-as _ (g .last .1 .0) (g .result .sum) (c .before .outcome .given .1) (taken (c .before .before .before .before))))
-
-enum-told : tie.Need-enum-told
-enum-told c = search needs
-
-array-share-prefix-low : tie.Need-array-share-prefix-low
-array-share-prefix-low c = search needs
 
 slice-aggregate-outline-in : tie.Need-slice-aggregate-outline-in
 slice-aggregate-outline-in c =
@@ -58,9 +37,6 @@ slice-aggregate-outline-in c =
     let size = length-characters b in
     let t = taken-as (chars b) (g .last .1 .0) (g .result .sum) (c .before .enum-told .given .1) (taken (c .before .before .before .before)) in
     cut-count (chars b) (g .last .1 .0) (sym size) (ap (λ (n : ℕ). take n (g .last .1 .0)) (sym size) ∙ t .1)
-
-outline-in-requires : tie.Need-outline-in-requires
-outline-in-requires c κs = search needs
 
 returns-2 : tie.Need-returns-2
 returns-2 c =
@@ -73,14 +49,14 @@ pub outline-many-spec : {M : Type 1} → statement M
 outline-many-spec =
     tie.close
     (tie.spec
-    slice-aggregate-write-apart
-    write-apart-requires
-    slice-aggregate-gather
-    gather-requires
-    enum-known-outcome
+    (λ c. search needs)
+    (λ c κs. search needs)
+    (λ c. search needs)
+    (λ c κs. search needs)
+    (λ c. search needs)
     returns
-    enum-told
-    array-share-prefix-low
+    (λ c. search needs)
+    (λ c. search needs)
     slice-aggregate-outline-in
-    outline-in-requires
+    (λ c κs. search needs)
     returns-2)

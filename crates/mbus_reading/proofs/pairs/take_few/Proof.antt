@@ -25,18 +25,12 @@ abbrev μ-loop : tie.MeasureT-loop
 loop-holds : tie.Need-loop-holds Inv-loop μ-loop
 loop-holds c = walked-none (c .before .before .pre)
 
-character-at-requires : tie.Need-character-at-requires Inv-loop μ-loop
-character-at-requires c κs = search needs
-
 same-length : tie.Need-same-length Inv-loop μ-loop
 same-length c = copied-length (c .before .before .before .loop .inv .stored)
 
 returns : tie.Need-returns Inv-loop μ-loop
 returns c = walked-over (c .before .before .before .loop .inv) (c .before .before .loop-test .taken) (c .before .character-at .ensures)
     (lt-ltb 511 _ (c .if1 .taken))
-
-counts-odd-requires : tie.Need-counts-odd-requires Inv-loop μ-loop
-counts-odd-requires c κs = search needs
 
 mul-any-over : tie.Need-mul-any-over Inv-loop μ-loop
 mul-any-over c = omega arith
@@ -46,12 +40,6 @@ sub-any-over c = omega arith
 
 part-any-over-start : tie.Need-part-any-over-start Inv-loop μ-loop
 part-any-over-start c = omega arith
-
-part-any-over-end : tie.Need-part-any-over-end Inv-loop μ-loop
-part-any-over-end c = search needs
-
-any-over-requires : tie.Need-any-over-requires Inv-loop μ-loop
-any-over-requires c κs = search needs
 
 same-length-2 : tie.Need-same-length-2 Inv-loop μ-loop
 same-length-2 c = copied-length (c .before .before .before .before .before .before .before .before .loop .inv .stored)
@@ -76,9 +64,6 @@ returns-3 c =
     (c .before .before .before .before .counts-odd .ensures) (c .before .before .before .if2 .taken)
     (sym (c .if3 .left) ∙ c .before .any-over .ensures ∙ ap (λ (l : List ℕ). any over (chars l))
     (rest-is b (2 * c .before .before .before .before .before .before .before .before .loop .i)))
-
-cast-b : tie.Need-cast-b Inv-loop μ-loop
-cast-b c = search needs
 
 slice-write-out : tie.Need-slice-write-out Inv-loop μ-loop
 slice-write-out c = let n = copied-length (c .before .before .before .before .before .loop .inv .stored) in omega
@@ -109,20 +94,20 @@ take-few-spec =
     Inv-loop
     μ-loop
     loop-holds
-    character-at-requires
+    (λ c κs. search needs)
     same-length
     returns
-    counts-odd-requires
+    (λ c κs. search needs)
     mul-any-over
     sub-any-over
     part-any-over-start
-    part-any-over-end
-    any-over-requires
+    (λ c. search needs)
+    (λ c κs. search needs)
     same-length-2
     returns-2
     same-length-3
     returns-3
-    cast-b
+    (λ c. search needs)
     slice-write-out
     add-i
     loop-less

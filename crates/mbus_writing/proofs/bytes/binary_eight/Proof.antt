@@ -9,12 +9,6 @@ use Rattle.bytes_numbers.proofs.Laws.TwosComplement.{word-bytes}
 use Rattle.mbus_writing.proofs.bytes.binary_eight.Statement.{statement}
 use Rattle.mbus_writing.proofs.bytes.binary_eight.Tie as tie
 
-word-of-requires : tie.Need-word-of-requires
-word-of-requires c κs = search needs
-
-bytes-of-requires : tie.Need-bytes-of-requires
-bytes-of-requires c κs = search needs
-
 returns : tie.Need-returns
 returns c =
     let a = c .before .before in
@@ -22,4 +16,4 @@ returns c =
     c .bytes-of .ensures ∙ ap (bytesOf 8) (c .before .word-of .ensures ∙ ap (ofZ w64) t) ∙ word-bytes (a .args .count)
 
 pub binary-eight-spec : {M : Type 1} → statement M
-binary-eight-spec = tie.close (tie.spec word-of-requires bytes-of-requires returns)
+binary-eight-spec = tie.close (tie.spec (λ c κs. search needs) (λ c κs. search needs) returns)

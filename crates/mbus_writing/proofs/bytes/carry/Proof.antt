@@ -16,23 +16,11 @@ abbrev μ-loop : tie.MeasureT-loop
 loop-holds : tie.Need-loop-holds Inv-loop μ-loop
 loop-holds c = carried-none (c .before .before .pre)
 
-shared-slice-read-carrier-of : tie.Need-shared-slice-read-carrier-of Inv-loop μ-loop
-shared-slice-read-carrier-of c = search needs
-
-carrier-of-requires : tie.Need-carrier-of-requires Inv-loop μ-loop
-carrier-of-requires c κs = search needs
-
 mul-out : tie.Need-mul-out Inv-loop μ-loop
 mul-out c = omega (arith, c .before .before .before .before .before .before .good)
 
 slice-write-out : tie.Need-slice-write-out Inv-loop μ-loop
 slice-write-out c = let n = carried-length (c .before .before .before .loop .inv) in omega (arith, c .before .before .before .before .before .before .pre)
-
-add-place : tie.Need-add-place Inv-loop μ-loop
-add-place c = search needs
-
-loop-less : tie.Need-loop-less Inv-loop μ-loop
-loop-less c = search needs
 
 loop-again : tie.Need-loop-again Inv-loop μ-loop
 loop-again c = carried-next (c .before .before .before .loop .inv) (c .before .before .loop-test .taken) (c .carrier-of .ensures)
@@ -50,12 +38,12 @@ carry-spec =
     Inv-loop
     μ-loop
     loop-holds
-    shared-slice-read-carrier-of
-    carrier-of-requires
+    (λ c. search needs)
+    (λ c κs. search needs)
     mul-out
     slice-write-out
-    add-place
-    loop-less
+    (λ c. search needs)
+    (λ c. search needs)
     loop-again
     same-length
     returns)

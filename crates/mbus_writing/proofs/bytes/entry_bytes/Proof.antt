@@ -9,35 +9,8 @@ use Rattle.mbus_writing.specs.Laying.{eightBytes}
 use Rattle.mbus_writing.proofs.bytes.entry_bytes.Statement.{statement}
 use Rattle.mbus_writing.proofs.bytes.entry_bytes.Tie as tie
 
-width-of-requires : tie.Need-width-of-requires
-width-of-requires c κs = search needs
-
 value-bytes-requires : tie.Need-value-bytes-requires
 value-bytes-requires c κs = rw (c .width-of .ensures) (c .before .pre)
-
-array-read-t8 : tie.Need-array-read-t8
-array-read-t8 c = search needs
-
-array-read-t11 : tie.Need-array-read-t11
-array-read-t11 c = search needs
-
-array-read-t14 : tie.Need-array-read-t14
-array-read-t14 c = search needs
-
-array-read-t17 : tie.Need-array-read-t17
-array-read-t17 c = search needs
-
-array-read-t20 : tie.Need-array-read-t20
-array-read-t20 c = search needs
-
-array-read-t23 : tie.Need-array-read-t23
-array-read-t23 c = search needs
-
-array-read-t26 : tie.Need-array-read-t26
-array-read-t26 c = search needs
-
-array-read-t29 : tie.Need-array-read-t29
-array-read-t29 c = search needs
 
 returns : tie.Need-returns
 returns c =
@@ -50,14 +23,14 @@ pub entry-bytes-spec : {M : Type 1} → statement M
 entry-bytes-spec =
     tie.close
     (tie.spec
-    width-of-requires
+    (λ c κs. search needs)
     value-bytes-requires
-    array-read-t8
-    array-read-t11
-    array-read-t14
-    array-read-t17
-    array-read-t20
-    array-read-t23
-    array-read-t26
-    array-read-t29
+    (λ c. search needs)
+    (λ c. search needs)
+    (λ c. search needs)
+    (λ c. search needs)
+    (λ c. search needs)
+    (λ c. search needs)
+    (λ c. search needs)
+    (λ c. search needs)
     returns)

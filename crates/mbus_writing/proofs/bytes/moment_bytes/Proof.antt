@@ -20,9 +20,6 @@ mul-hour c = let w = weekday-below (c .before) in omega arith
 add-hour : tie.Need-add-hour
 add-hour c = let x = there (c .before .before) in let w = weekday-below (c .before .before) in omega arith
 
-mul-day : tie.Need-mul-day
-mul-day c = search needs
-
 add-day : tie.Need-add-day
 add-day c = let x = there (c .before .before .before .before) in omega arith
 
@@ -32,8 +29,5 @@ mul-month c = let x = there (c .before .before .before .before .before) in omega
 add-month : tie.Need-add-month
 add-month c = let x = there (c .before .before .before .before .before .before) in omega arith
 
-returns : tie.Need-returns
-returns c = search needs
-
 pub moment-bytes-spec : {M : Type 1} → statement M
-moment-bytes-spec = tie.close (tie.spec mul-hour add-hour mul-day add-day mul-month add-month returns)
+moment-bytes-spec = tie.close (tie.spec mul-hour add-hour (λ c. search needs) add-day mul-month add-month (λ c. search needs))

@@ -4,24 +4,6 @@ use Rattle.mbus_rules.specs.Digits.{packed}
 use Rattle.mbus_writing.proofs.bytes.packed_six.Statement.{statement}
 use Rattle.mbus_writing.proofs.bytes.packed_six.Tie as tie
 
-two-digits-requires : tie.Need-two-digits-requires
-two-digits-requires c κs = search needs
-
-two-digits-requires-2 : tie.Need-two-digits-requires-2
-two-digits-requires-2 c κs = search needs
-
-two-digits-requires-3 : tie.Need-two-digits-requires-3
-two-digits-requires-3 c κs = search needs
-
-two-digits-requires-4 : tie.Need-two-digits-requires-4
-two-digits-requires-4 c κs = search needs
-
-two-digits-requires-5 : tie.Need-two-digits-requires-5
-two-digits-requires-5 c κs = search needs
-
-two-digits-requires-6 : tie.Need-two-digits-requires-6
-two-digits-requires-6 c κs = search needs
-
 returns : tie.Need-returns
 unfolding packed
 returns c = rw (
@@ -38,10 +20,10 @@ pub packed-six-spec : {M : Type 1} → statement M
 packed-six-spec =
     tie.close
     (tie.spec
-    two-digits-requires
-    two-digits-requires-2
-    two-digits-requires-3
-    two-digits-requires-4
-    two-digits-requires-5
-    two-digits-requires-6
+    (λ c κs. search needs)
+    (λ c κs. search needs)
+    (λ c κs. search needs)
+    (λ c κs. search needs)
+    (λ c κs. search needs)
+    (λ c κs. search needs)
     returns)

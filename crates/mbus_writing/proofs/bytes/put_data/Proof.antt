@@ -8,28 +8,13 @@ use Rattle.mbus_writing.proofs.bytes.put_data.Tie as tie
 put-entries-requires : tie.Need-put-entries-requires
 put-entries-requires c κs = entries-fit (c .before .before .before .before .pre)
 
-sub-head-bytes : tie.Need-sub-head-bytes
-sub-head-bytes c = search needs
-
 cast-head-bytes : tie.Need-cast-head-bytes
 cast-head-bytes c = let e = entries-end (c .before .before .before .before .before .before .before .pre) (c .before .before .put-entries .ensures)
     in omega arith
 
-head-bytes-requires : tie.Need-head-bytes-requires
-head-bytes-requires c κs = search needs
-
-slice-aggregate-lay : tie.Need-slice-aggregate-lay
-slice-aggregate-lay c = search needs
-
-lay-requires : tie.Need-lay-requires
-lay-requires c κs = search needs
-
 close-requires : tie.Need-close-requires
 close-requires c κs = let e = entries-end (c .before .before .before .before .before .before .before .before .before .before .before .before .before .before
     .pre) (c .before .before .before .before .before .before .before .before .before .put-entries .ensures) in (omega arith, omega arith, search needs)
-
-same-length : tie.Need-same-length
-same-length c = search needs
 
 returns : tie.Need-returns
 returns c =
@@ -44,11 +29,11 @@ put-data-spec =
     tie.close
     (tie.spec
     put-entries-requires
-    sub-head-bytes
+    (λ c. search needs)
     cast-head-bytes
-    head-bytes-requires
-    slice-aggregate-lay
-    lay-requires
+    (λ c κs. search needs)
+    (λ c. search needs)
+    (λ c κs. search needs)
     close-requires
-    same-length
+    (λ c. search needs)
     returns)

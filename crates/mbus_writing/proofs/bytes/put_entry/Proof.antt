@@ -16,9 +16,6 @@ use Rattle.mbus_writing.proofs.bytes.put_entry.Tie as tie
 entry-bytes-requires : tie.Need-entry-bytes-requires
 entry-bytes-requires c κs = entry-cut (c .before .args .e) (c .before .pre .right) .there
 
-width-of-requires : tie.Need-width-of-requires
-width-of-requires c κs = search needs
-
 -- the width is the entry's: it is cut from ten bytes, and there is room for it
 record Sized (c : tie.After-width-of) : Type 0 where
   pub so : 2 + c .width-of .result ≡ 2 + widthOf (c .before .before .before .args .e .structure)
@@ -42,14 +39,8 @@ slice-aggregate-lay : tie.Need-slice-aggregate-lay
 slice-aggregate-lay c =
     sym (length-take-le (2 + c .before .before .width-of .result) (c .before .before .before .entry-bytes .result) (sized (c .before .before) .within))
 
-lay-requires : tie.Need-lay-requires
-lay-requires c κs = search needs
-
 add-result : tie.Need-add-result
 add-result c = let s : Sized (c .before .before .before .before .before) = sized (c .before .before .before .before .before) in omega arith
-
-same-length : tie.Need-same-length
-same-length c = search needs
 
 returns : tie.Need-returns
 returns c =
@@ -64,11 +55,11 @@ put-entry-spec =
     tie.close
     (tie.spec
     entry-bytes-requires
-    width-of-requires
+    (λ c κs. search needs)
     add-width
     array-share-prefix-b
     slice-aggregate-lay
-    lay-requires
+    (λ c κs. search needs)
     add-result
-    same-length
+    (λ c. search needs)
     returns)

@@ -8,18 +8,6 @@ use Rattle.mbus_writing.proofs.Laws.Laying.{frame-laid, front-laid}
 use Rattle.mbus_writing.proofs.bytes.put_read.Statement.{statement}
 use Rattle.mbus_writing.proofs.bytes.put_read.Tie as tie
 
-slice-aggregate-lay : tie.Need-slice-aggregate-lay
-slice-aggregate-lay c = search needs
-
-lay-requires : tie.Need-lay-requires
-lay-requires c κs = search needs
-
-close-requires : tie.Need-close-requires
-close-requires c κs = search needs
-
-same-length : tie.Need-same-length
-same-length c = search needs
-
 returns : tie.Need-returns
 returns c =
     let a = c .before .before .before .before .before .before .before .before .before .before .args in
@@ -32,4 +20,4 @@ returns c =
 
 pub put-read-spec : {M : Type 1} → statement M
 put-read-spec =
-    tie.close (tie.spec slice-aggregate-lay lay-requires close-requires same-length returns)
+    tie.close (tie.spec (λ c. search needs) (λ c κs. search needs) (λ c κs. search needs) (λ c. search needs) returns)

@@ -23,29 +23,11 @@ wide c =
     let start = c .before .before .before .before in
     sign-wide (start .args .width) (start .args .count) (start .pre .0) (below c)
 
-is-below-zero-requires : tie.Need-is-below-zero-requires
-is-below-zero-requires c κs = search needs
-
-size-of-requires : tie.Need-size-of-requires
-size-of-requires c κs = search needs
-
-packed-six-requires : tie.Need-packed-six-requires
-packed-six-requires c κs = search needs
-
 sub-b : tie.Need-sub-b
 sub-b c = wide c
 
-array-read-b : tie.Need-array-read-b
-array-read-b c = search needs
-
-add-b : tie.Need-add-b
-add-b c = search needs
-
 sub-b-2 : tie.Need-sub-b-2
 sub-b-2 c = wide c
-
-array-write-b : tie.Need-array-write-b
-array-write-b c = search needs
 
 returns : tie.Need-returns
 returns c =
@@ -65,13 +47,13 @@ pub signed-six-spec : {M : Type 1} → statement M
 signed-six-spec =
     tie.close
     (tie.spec
-    is-below-zero-requires
-    size-of-requires
-    packed-six-requires
+    (λ c κs. search needs)
+    (λ c κs. search needs)
+    (λ c κs. search needs)
     sub-b
-    array-read-b
-    add-b
+    (λ c. search needs)
+    (λ c. search needs)
     sub-b-2
-    array-write-b
+    (λ c. search needs)
     returns
     returns-2)

@@ -17,9 +17,6 @@ use Rattle.mbus_writing.specs.Laying.{signedSix}
 use Rattle.mbus_writing.proofs.bytes.value_bytes.Statement.{statement}
 use Rattle.mbus_writing.proofs.bytes.value_bytes.Tie as tie
 
-enum-known-value : tie.Need-enum-known-value
-enum-known-value c = search needs
-
 signed-six-requires : tie.Need-signed-six-requires
 signed-six-requires c κs =
     let v = c .before .before .value .given in
@@ -28,26 +25,11 @@ signed-six-requires c κs =
     let k = every (leb w 6) (fitsSigned w (v .0 .0 .count) ∷ []) (rw (v .1) at (c .before .before .before .before .pre)) in
     rw (toZ-ofZ w64 (v .0 .0 .count) (record { sfits = omega arith })) (k .1 .0, leb-true w 6 (k .0))
 
-widened-requires : tie.Need-widened-requires
-widened-requires c κs = search needs
-
-enum-known-value-2 : tie.Need-enum-known-value-2
-enum-known-value-2 c = search needs
-
 moment-bytes-requires : tie.Need-moment-bytes-requires
 moment-bytes-requires c κs =
     let m = c .before .value2 .given .0 .0 in
     let k = every (dateExists m) (timeExists m ∷ weekdayExists m ∷ []) (rw (c .before .value2 .given .1) at (c .before .before .before .pre)) in
     (k .0, k .1 .0, k .1 .1 .0)
-
-widened-requires-2 : tie.Need-widened-requires-2
-widened-requires-2 c κs = search needs
-
-enum-known-value-3 : tie.Need-enum-known-value-3
-enum-known-value-3 c = search needs
-
-binary-eight-requires : tie.Need-binary-eight-requires
-binary-eight-requires c κs = search needs
 
 returns : tie.Need-returns
 returns c =
@@ -71,14 +53,14 @@ pub value-bytes-spec : {M : Type 1} → statement M
 value-bytes-spec =
     tie.close
     (tie.spec
-    enum-known-value
+    (λ c. search needs)
     signed-six-requires
-    widened-requires
-    enum-known-value-2
+    (λ c κs. search needs)
+    (λ c. search needs)
     moment-bytes-requires
-    widened-requires-2
-    enum-known-value-3
-    binary-eight-requires
+    (λ c κs. search needs)
+    (λ c. search needs)
+    (λ c κs. search needs)
     returns
     returns-2
     returns-3)

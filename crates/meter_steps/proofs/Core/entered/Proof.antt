@@ -3,12 +3,6 @@ use borrow.Author.Needs.{needs}
 use Rattle.meter_steps.proofs.Core.entered.Statement.{statement}
 use Rattle.meter_steps.proofs.Core.entered.Tie as tie
 
-with-mode-requires : tie.Need-with-mode-requires
-with-mode-requires c κs = search needs
-
-cleared-requires : tie.Need-cleared-requires
-cleared-requires c κs = search needs
-
 returns : tie.Need-returns
 returns c = rw (c .cleared .ensures, c .before .with-mode .ensures)
 
@@ -16,6 +10,6 @@ pub entered-spec : {M : Type 1} → statement M
 entered-spec =
     tie.close
     (tie.spec
-    with-mode-requires
-    cleared-requires
+    (λ c κs. search needs)
+    (λ c κs. search needs)
     returns)

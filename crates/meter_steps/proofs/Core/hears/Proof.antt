@@ -20,24 +20,12 @@ no-request t k views.Ack one = refl
 no-request t k (views.Data a) one = refl
 no-request t k (views.Asks q) one = absurd (miss (0 ∷ 1 ∷ 3 ∷ []) 2 tt one)
 
-returned-requires : tie.Need-returned-requires
-returned-requires c κs = search needs
-
-enum-known-view : tie.Need-enum-known-view
-enum-known-view c = search needs
-
-asked-requires : tie.Need-asked-requires
-asked-requires c κs = search needs
-
 returns : tie.Need-returns
 returns c =
     let t = c .before .before .before .before .before .args .t in
     let q = c .before .before .view .given .0 .0 in
     rw (c .before .before .view .given .1) (c .asked .ensures ∙ ap (λ (k : Core). takenAt t (asked t k q))
     (c .before .before .before .before .returned .ensures))
-
-replies-requires : tie.Need-replies-requires
-replies-requires c κs = search needs
 
 returns-2 : tie.Need-returns-2
 returns-2 c =
@@ -48,9 +36,9 @@ pub hears-spec : {M : Type 1} → statement M
 hears-spec =
     tie.close
     (tie.spec
-    returned-requires
-    enum-known-view
-    asked-requires
+    (λ c κs. search needs)
+    (λ c. search needs)
+    (λ c κs. search needs)
     returns
-    replies-requires
+    (λ c κs. search needs)
     returns-2)

@@ -3,11 +3,8 @@ use borrow.Author.Needs.{needs}
 use Rattle.meter_steps.proofs.Core.replies.Statement.{statement}
 use Rattle.meter_steps.proofs.Core.replies.Tie as tie
 
-acknowledgement-requires : tie.Need-acknowledgement-requires
-acknowledgement-requires c κs = search needs
-
 returns : tie.Need-returns
 returns c = rw (c .acknowledgement .ensures)
 
 pub replies-spec : {M : Type 1} → statement M
-replies-spec = tie.close (tie.spec acknowledgement-requires returns)
+replies-spec = tie.close (tie.spec (λ c κs. search needs) returns)

@@ -3,11 +3,8 @@ use borrow.Author.Needs.{needs}
 use Rattle.meter_steps.proofs.Meter.begun.Statement.{statement}
 use Rattle.meter_steps.proofs.Meter.begun.Tie as tie
 
-of-requires : tie.Need-of-requires
-of-requires c κs = search needs
-
 returns : tie.Need-returns
 returns c = rw (c .of .ensures)
 
 pub begun-spec : {M : Type 1} → statement M
-begun-spec = tie.close (tie.spec of-requires returns)
+begun-spec = tie.close (tie.spec (λ c κs. search needs) returns)

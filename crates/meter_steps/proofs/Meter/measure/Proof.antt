@@ -20,29 +20,8 @@ total c a told =
     shownSum-same (sumOf (inForce (returned (x .t) (x .self .core))) (x .volume) (x .energy)) a
     (ap (λ (p : Pair). shownSum (sumOf p (x .volume) (x .energy))) (sym force) ∙ sym (c .plus .ensures) ∙ told)
 
-earlier-requires : tie.Need-earlier-requires
-earlier-requires c κs = search needs
-
-replies-requires : tie.Need-replies-requires
-replies-requires c κs = search needs
-
 returns : tie.Need-returns
 returns c = rw (sym (c .before .before .earlier .ensures) ∙ c .before .if1 .taken) (c .replies .ensures)
-
-returned-requires : tie.Need-returned-requires
-returned-requires c κs = search needs
-
-in-force-requires : tie.Need-in-force-requires
-in-force-requires c κs = search needs
-
-plus-requires : tie.Need-plus-requires
-plus-requires c κs = search needs
-
-enum-known-sum : tie.Need-enum-known-sum
-enum-known-sum c = search needs
-
-replies-requires-2 : tie.Need-replies-requires-2
-replies-requires-2 c κs = search needs
 
 returns-2 : tie.Need-returns-2
 returns-2 c =
@@ -54,12 +33,6 @@ returns-2 c =
       total (c .before .before .before .before) (refusal n)
           (c .before .before .sum .given .1),
     ) (c .replies2 .ensures)
-
-enum-known-sum-2 : tie.Need-enum-known-sum-2
-enum-known-sum-2 c = search needs
-
-measured-requires : tie.Need-measured-requires
-measured-requires c κs = search needs
 
 returns-3 : tie.Need-returns-3
 returns-3 c =
@@ -76,15 +49,15 @@ pub measure-spec : {M : Type 1} → statement M
 measure-spec =
     tie.close
     (tie.spec
-    earlier-requires
-    replies-requires
+    (λ c κs. search needs)
+    (λ c κs. search needs)
     returns
-    returned-requires
-    in-force-requires
-    plus-requires
-    enum-known-sum
-    replies-requires-2
+    (λ c κs. search needs)
+    (λ c κs. search needs)
+    (λ c κs. search needs)
+    (λ c. search needs)
+    (λ c κs. search needs)
     returns-2
-    enum-known-sum-2
-    measured-requires
+    (λ c. search needs)
+    (λ c κs. search needs)
     returns-3)

@@ -4,15 +4,6 @@ use borrow.Author.Needs.{needs}
 use Rattle.meter_steps.proofs.Mode.at.Statement.{statement}
 use Rattle.meter_steps.proofs.Mode.at.Tie as tie
 
-enum-told : tie.Need-enum-told
-enum-told c = search needs
-
-enum-known-self : tie.Need-enum-known-self
-enum-known-self c = search needs
-
-due-requires : tie.Need-due-requires
-due-requires c κs = search needs
-
 returns : tie.Need-returns
 returns c = rw (c .enum-told .given .1)
 
@@ -23,4 +14,4 @@ returns-3 : tie.Need-returns-3
 returns-3 c = rw (c .before .before .before .self .given .1, sym (c .before .due .ensures) ∙ c .if1 .left)
 
 pub at-spec : {M : Type 1} → statement M
-at-spec = tie.close (tie.spec enum-told enum-known-self due-requires returns returns-2 returns-3)
+at-spec = tie.close (tie.spec (λ c. search needs) (λ c. search needs) (λ c κs. search needs) returns returns-2 returns-3)

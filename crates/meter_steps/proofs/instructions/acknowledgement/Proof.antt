@@ -3,11 +3,8 @@ use borrow.Author.Needs.{needs}
 use Rattle.meter_steps.proofs.instructions.acknowledgement.Statement.{statement}
 use Rattle.meter_steps.proofs.instructions.acknowledgement.Tie as tie
 
-plain-requires : tie.Need-plain-requires
-plain-requires c κs = search needs
-
 returns : tie.Need-returns
 returns c = rw (c .before .plain .ensures)
 
 pub acknowledgement-spec : {M : Type 1} → statement M
-acknowledgement-spec = tie.close (tie.spec plain-requires returns)
+acknowledgement-spec = tie.close (tie.spec (λ c κs. search needs) returns)

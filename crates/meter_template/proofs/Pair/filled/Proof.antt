@@ -18,27 +18,6 @@ abbrev μ-loop : tie.MeasureT-loop
 loop-holds : tie.Need-loop-holds Inv-loop μ-loop
 loop-holds c = redone-none
 
-mul-e : tie.Need-mul-e Inv-loop μ-loop
-mul-e c = search needs
-
-array-copy-out-e : tie.Need-array-copy-out-e Inv-loop μ-loop
-array-copy-out-e c = search needs
-
-filled-entry-requires : tie.Need-filled-entry-requires Inv-loop μ-loop
-filled-entry-requires c κs = search needs
-
-mul-done : tie.Need-mul-done Inv-loop μ-loop
-mul-done c = search needs
-
-array-set-from-done : tie.Need-array-set-from-done Inv-loop μ-loop
-array-set-from-done c = search needs
-
-add-i : tie.Need-add-i Inv-loop μ-loop
-add-i c = search needs
-
-loop-less : tie.Need-loop-less Inv-loop μ-loop
-loop-less c = search needs
-
 loop-again : tie.Need-loop-again Inv-loop μ-loop
 loop-again c =
     let seven : length (c .before .before .before .before .args .entries) ≡ 7 = search needs in
@@ -56,12 +35,12 @@ filled-spec =
     Inv-loop
     μ-loop
     loop-holds
-    mul-e
-    array-copy-out-e
-    filled-entry-requires
-    mul-done
-    array-set-from-done
-    add-i
-    loop-less
+    (λ c. search needs)
+    (λ c. search needs)
+    (λ c κs. search needs)
+    (λ c. search needs)
+    (λ c. search needs)
+    (λ c. search needs)
+    (λ c. search needs)
     loop-again
     returns)

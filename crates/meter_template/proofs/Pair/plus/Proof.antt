@@ -14,12 +14,6 @@ over : (c : tie.After-would-pass2) → overflows (c .before .before .args .self)
     ≡ c .before .would-pass .result || c .would-pass2 .result
 over c = sym (ap₂ _||_ (c .before .would-pass .ensures) (c .would-pass2 .ensures))
 
-would-pass-requires : tie.Need-would-pass-requires
-would-pass-requires c κs = search needs
-
-would-pass-requires-2 : tie.Need-would-pass-requires-2
-would-pass-requires-2 c κs = search needs
-
 returns : tie.Need-returns
 returns c = rw (over (c .before) ∙ c .if1 .taken)
 
@@ -47,4 +41,4 @@ returns-2 c = rw (over (c .before .before .before) ∙ c .before .before .if1 .l
 pub plus-spec : {M : Type 1} → statement M
 plus-spec =
     tie.close
-    (tie.spec would-pass-requires would-pass-requires-2 returns add-volume add-energy returns-2)
+    (tie.spec (λ c κs. search needs) (λ c κs. search needs) returns add-volume add-energy returns-2)

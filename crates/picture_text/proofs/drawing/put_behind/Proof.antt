@@ -5,21 +5,6 @@ use borrow.Author.Needs.{needs}
 use Rattle.picture_text.proofs.drawing.put_behind.Statement.{statement}
 use Rattle.picture_text.proofs.drawing.put_behind.Tie as tie
 
-put-pauses-open-requires : tie.Need-put-pauses-open-requires
-put-pauses-open-requires c κs = search needs
-
-put-pauses-requires : tie.Need-put-pauses-requires
-put-pauses-requires c κs = search needs
-
-slice-aggregate-put : tie.Need-slice-aggregate-put
-slice-aggregate-put c = search needs
-
-put-requires : tie.Need-put-requires
-put-requires c κs = search needs
-
-same-length : tie.Need-same-length
-same-length c = search needs
-
 returns : tie.Need-returns
 returns c =
     let back2 = c .before .before in
@@ -31,9 +16,9 @@ pub put-behind-spec : {M : Type 1} → statement M
 put-behind-spec =
     tie.close
     (tie.spec
-    put-pauses-open-requires
-    put-pauses-requires
-    slice-aggregate-put
-    put-requires
-    same-length
+    (λ c κs. search needs)
+    (λ c κs. search needs)
+    (λ c. search needs)
+    (λ c κs. search needs)
+    (λ c. search needs)
     returns)

@@ -5,21 +5,6 @@ use borrow.Author.Needs.{needs}
 use Rattle.picture_text.proofs.drawing.put_head.Statement.{statement}
 use Rattle.picture_text.proofs.drawing.put_head.Tie as tie
 
-put-opens-requires : tie.Need-put-opens-requires
-put-opens-requires c κs = search needs
-
-put-style-requires : tie.Need-put-style-requires
-put-style-requires c κs = search needs
-
-put-title-requires : tie.Need-put-title-requires
-put-title-requires c κs = search needs
-
-put-legend-requires : tie.Need-put-legend-requires
-put-legend-requires c κs = search needs
-
-same-length : tie.Need-same-length
-same-length c = search needs
-
 returns : tie.Need-returns
 returns c =
     let back2 = c .before .before in
@@ -32,9 +17,9 @@ pub put-head-spec : {M : Type 1} → statement M
 put-head-spec =
     tie.close
     (tie.spec
-    put-opens-requires
-    put-style-requires
-    put-title-requires
-    put-legend-requires
-    same-length
+    (λ c κs. search needs)
+    (λ c κs. search needs)
+    (λ c κs. search needs)
+    (λ c κs. search needs)
+    (λ c. search needs)
     returns)

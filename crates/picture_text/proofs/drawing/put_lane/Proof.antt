@@ -6,21 +6,6 @@ use borrow.Author.Needs.{needs}
 use Rattle.picture_text.proofs.drawing.put_lane.Statement.{statement}
 use Rattle.picture_text.proofs.drawing.put_lane.Tie as tie
 
-put-lane-open-requires : tie.Need-put-lane-open-requires
-put-lane-open-requires c κs = search needs
-
-put-rows-requires : tie.Need-put-rows-requires
-put-rows-requires c κs = search needs
-
-slice-aggregate-put : tie.Need-slice-aggregate-put
-slice-aggregate-put c = search needs
-
-put-requires : tie.Need-put-requires
-put-requires c κs = search needs
-
-same-length : tie.Need-same-length
-same-length c = search needs
-
 returns : tie.Need-returns
 unfolding laneDrawn
 returns c =
@@ -33,9 +18,9 @@ pub put-lane-spec : {M : Type 1} → statement M
 put-lane-spec =
     tie.close
     (tie.spec
-    put-lane-open-requires
-    put-rows-requires
-    slice-aggregate-put
-    put-requires
-    same-length
+    (λ c κs. search needs)
+    (λ c κs. search needs)
+    (λ c. search needs)
+    (λ c κs. search needs)
+    (λ c. search needs)
     returns)

@@ -24,23 +24,8 @@ abbrev μ-loop : tie.MeasureT-loop
 loop-holds : tie.Need-loop-holds Inv-loop μ-loop
 loop-holds c = (refl, omega arith, left-all (search needs) (search needs))
 
-has-rows-requires : tie.Need-has-rows-requires Inv-loop μ-loop
-has-rows-requires c κs = search needs
-
-add-position : tie.Need-add-position Inv-loop μ-loop
-add-position c = search needs
-
-sub-left : tie.Need-sub-left Inv-loop μ-loop
-sub-left c = search needs
-
 put-lane-requires : tie.Need-put-lane-requires Inv-loop μ-loop
 put-lane-requires c κs = (c .before .before .before .before .before .before .before .pre, omega (arith, c .before .before .before .before .loop .inv .1))
-
-add-y : tie.Need-add-y Inv-loop μ-loop
-add-y c = search needs
-
-loop-less : tie.Need-loop-less Inv-loop μ-loop
-loop-less c = search needs
 
 loop-again : tie.Need-loop-again Inv-loop μ-loop
 loop-again c =
@@ -60,9 +45,6 @@ loop-again c =
       omega (arith, inv .1, back6 .loop-test .taken),
       left-next (inv .2) next (back2 .put-lane .ensures),
     )
-
-loop-less-2 : tie.Need-loop-less-2 Inv-loop μ-loop
-loop-less-2 c = search needs
 
 loop-again-2 : tie.Need-loop-again-2 Inv-loop μ-loop
 loop-again-2 c =
@@ -93,14 +75,14 @@ put-lanes-spec =
     Inv-loop
     μ-loop
     loop-holds
-    has-rows-requires
-    add-position
-    sub-left
+    (λ c κs. search needs)
+    (λ c. search needs)
+    (λ c. search needs)
     put-lane-requires
-    add-y
-    loop-less
+    (λ c. search needs)
+    (λ c. search needs)
     loop-again
-    loop-less-2
+    (λ c. search needs)
     loop-again-2
     same-length
     returns)

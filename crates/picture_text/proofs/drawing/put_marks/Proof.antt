@@ -17,32 +17,8 @@ Inv-loop out₀ at bundle count page next₀ left₀ x₀ place₀ out next left
 abbrev μ-loop : tie.MeasureT-loop
 μ-loop out₀ at bundle count page next₀ left₀ x₀ place₀ out next left x place = left
 
-add-left : tie.Need-add-left Inv-loop μ-loop
-add-left c = search needs
-
 loop-holds : tie.Need-loop-holds Inv-loop μ-loop
 loop-holds c = (omega arith, omega arith, left-all (search needs) (search needs))
-
-cut-at-requires : tie.Need-cut-at-requires Inv-loop μ-loop
-cut-at-requires c κs = search needs
-
-add-put-mark : tie.Need-add-put-mark Inv-loop μ-loop
-add-put-mark c = search needs
-
-put-mark-requires : tie.Need-put-mark-requires Inv-loop μ-loop
-put-mark-requires c κs = search needs
-
-sub-left : tie.Need-sub-left Inv-loop μ-loop
-sub-left c = search needs
-
-add-x : tie.Need-add-x Inv-loop μ-loop
-add-x c = search needs
-
-add-place : tie.Need-add-place Inv-loop μ-loop
-add-place c = search needs
-
-loop-less : tie.Need-loop-less Inv-loop μ-loop
-loop-less c = search needs
 
 loop-again : tie.Need-loop-again Inv-loop μ-loop
 loop-again c =
@@ -73,15 +49,15 @@ put-marks-spec =
     (tie.spec
     Inv-loop
     μ-loop
-    add-left
+    (λ c. search needs)
     loop-holds
-    cut-at-requires
-    add-put-mark
-    put-mark-requires
-    sub-left
-    add-x
-    add-place
-    loop-less
+    (λ c κs. search needs)
+    (λ c. search needs)
+    (λ c κs. search needs)
+    (λ c. search needs)
+    (λ c. search needs)
+    (λ c. search needs)
+    (λ c. search needs)
     loop-again
     same-length
     returns)

@@ -5,24 +5,6 @@ use borrow.Author.Needs.{needs}
 use Rattle.picture_text.proofs.drawing.put_pause.Statement.{statement}
 use Rattle.picture_text.proofs.drawing.put_pause.Tie as tie
 
-less-requires : tie.Need-less-requires
-less-requires c κs = search needs
-
-less-requires-2 : tie.Need-less-requires-2
-less-requires-2 c κs = search needs
-
-slice-aggregate-fill : tie.Need-slice-aggregate-fill
-slice-aggregate-fill c = search needs
-
-slice-aggregate-fill-2 : tie.Need-slice-aggregate-fill-2
-slice-aggregate-fill-2 c = search needs
-
-fill-requires : tie.Need-fill-requires
-fill-requires c κs = search needs
-
-same-length : tie.Need-same-length
-same-length c = search needs
-
 returns : tie.Need-returns
 returns c =
     let x = c .before .before .before .before .before .before .before .less in
@@ -36,11 +18,11 @@ pub put-pause-spec : {M : Type 1} → statement M
 put-pause-spec =
     tie.close
     (tie.spec
-    less-requires
-    less-requires-2
-    slice-aggregate-fill
-    slice-aggregate-fill-2
-    fill-requires
-    same-length
+    (λ c κs. search needs)
+    (λ c κs. search needs)
+    (λ c. search needs)
+    (λ c. search needs)
+    (λ c κs. search needs)
+    (λ c. search needs)
     returns
     returns-2)

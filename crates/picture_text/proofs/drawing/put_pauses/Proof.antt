@@ -20,26 +20,11 @@ Inv-loop out₀ at bundle count pace₀ next₀ i₀ out pace next i =
 abbrev μ-loop : tie.MeasureT-loop
 μ-loop out₀ at bundle count pace₀ next₀ i₀ out pace next i = count - i
 
-unpaced-requires : tie.Need-unpaced-requires Inv-loop μ-loop
-unpaced-requires c κs = search needs
-
 loop-holds : tie.Need-loop-holds Inv-loop μ-loop
 loop-holds c = rw (c .unpaced .ensures) (zero-le, record { cut = zero-le; busy = zero-le; start = zero-le }, left-all (search needs) (search needs))
 
-unchecked-row-requires : tie.Need-unchecked-row-requires Inv-loop μ-loop
-unchecked-row-requires c κs = search needs
-
 paced-requires : tie.Need-paced-requires Inv-loop μ-loop
 paced-requires c κs = (c .before .before .before .before .before .before .pre, c .before .loop-test .taken, c .before .before .loop .inv .1)
-
-put-pause-requires : tie.Need-put-pause-requires Inv-loop μ-loop
-put-pause-requires c κs = search needs
-
-add-i : tie.Need-add-i Inv-loop μ-loop
-add-i c = search needs
-
-loop-less : tie.Need-loop-less Inv-loop μ-loop
-loop-less c = search needs
 
 loop-again : tie.Need-loop-again Inv-loop μ-loop
 loop-again c =
@@ -71,13 +56,13 @@ put-pauses-spec =
     (tie.spec
     Inv-loop
     μ-loop
-    unpaced-requires
+    (λ c κs. search needs)
     loop-holds
-    unchecked-row-requires
+    (λ c κs. search needs)
     paced-requires
-    put-pause-requires
-    add-i
-    loop-less
+    (λ c κs. search needs)
+    (λ c. search needs)
+    (λ c. search needs)
     loop-again
     same-length
     returns)

@@ -6,21 +6,6 @@ use borrow.Author.Needs.{needs}
 use Rattle.picture_text.proofs.drawing.put_picture.Statement.{statement}
 use Rattle.picture_text.proofs.drawing.put_picture.Tie as tie
 
-put-head-requires : tie.Need-put-head-requires
-put-head-requires c κs = search needs
-
-put-behind-requires : tie.Need-put-behind-requires
-put-behind-requires c κs = search needs
-
-put-marks-requires : tie.Need-put-marks-requires
-put-marks-requires c κs = search needs
-
-put-front-requires : tie.Need-put-front-requires
-put-front-requires c κs = search needs
-
-same-length : tie.Need-same-length
-same-length c = search needs
-
 returns : tie.Need-returns
 unfolding pictureWith
 returns c =
@@ -34,9 +19,9 @@ pub put-picture-spec : {M : Type 1} → statement M
 put-picture-spec =
     tie.close
     (tie.spec
-    put-head-requires
-    put-behind-requires
-    put-marks-requires
-    put-front-requires
-    same-length
+    (λ c κs. search needs)
+    (λ c κs. search needs)
+    (λ c κs. search needs)
+    (λ c κs. search needs)
+    (λ c. search needs)
     returns)

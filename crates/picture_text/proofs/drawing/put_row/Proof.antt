@@ -12,37 +12,10 @@ use borrow.Author.Needs.{needs}
 use Rattle.picture_text.proofs.drawing.put_row.Statement.{statement}
 use Rattle.picture_text.proofs.drawing.put_row.Tie as tie
 
-unchecked-row-requires : tie.Need-unchecked-row-requires
-unchecked-row-requires c κs = search needs
-
 line-time-requires : tie.Need-line-time-requires
 line-time-requires c κs =
     let s = c .before .before .before in
     unchecked-inside (s .args .bundle .now) (s .args .i) (s .args .count) (s .pre .0) (s .pre .1)
-
-cast-from : tie.Need-cast-from
-cast-from c = search needs
-
-cast-to : tie.Need-cast-to
-cast-to c = search needs
-
-add-to : tie.Need-add-to
-add-to c = search needs
-
-add-put-verdict : tie.Need-add-put-verdict
-add-put-verdict c = search needs
-
-put-verdict-requires : tie.Need-put-verdict-requires
-put-verdict-requires c κs = search needs
-
-put-place-requires : tie.Need-put-place-requires
-put-place-requires c κs = search needs
-
-sub-put-word : tie.Need-sub-put-word
-sub-put-word c = search needs
-
-part-put-word-start : tie.Need-part-put-word-start
-part-put-word-start c = search needs
 
 part-put-word-end : tie.Need-part-put-word-end
 part-put-word-end c =
@@ -51,15 +24,6 @@ part-put-word-end c =
     let h : r .result .offset + r .result .length ≤ length (s .args .bundle .now) =
     rw (r .ensures) (unchecked-inside (s .args .bundle .now) (s .args .i) (s .args .count) (s .pre .0) (s .pre .1)) in
     omega arith
-
-put-word-requires : tie.Need-put-word-requires
-put-word-requires c κs = search needs
-
-put-box-requires : tie.Need-put-box-requires
-put-box-requires c κs = search needs
-
-same-length : tie.Need-same-length
-same-length c = search needs
 
 returns : tie.Need-returns
 unfolding rowDrawn
@@ -82,18 +46,18 @@ pub put-row-spec : {M : Type 1} → statement M
 put-row-spec =
     tie.close
     (tie.spec
-    unchecked-row-requires
+    (λ c κs. search needs)
     line-time-requires
-    cast-from
-    cast-to
-    add-to
-    add-put-verdict
-    put-verdict-requires
-    put-place-requires
-    sub-put-word
-    part-put-word-start
+    (λ c. search needs)
+    (λ c. search needs)
+    (λ c. search needs)
+    (λ c. search needs)
+    (λ c κs. search needs)
+    (λ c κs. search needs)
+    (λ c. search needs)
+    (λ c. search needs)
     part-put-word-end
-    put-word-requires
-    put-box-requires
-    same-length
+    (λ c κs. search needs)
+    (λ c κs. search needs)
+    (λ c. search needs)
     returns)

@@ -23,20 +23,11 @@ Inv-loop out₀ at bundle count position rulings pace₀ next₀ i₀ out pace n
 abbrev μ-loop : tie.MeasureT-loop
 μ-loop out₀ at bundle count position rulings pace₀ next₀ i₀ out pace next i = count - i
 
-unpaced-requires : tie.Need-unpaced-requires Inv-loop μ-loop
-unpaced-requires c κs = search needs
-
 loop-holds : tie.Need-loop-holds Inv-loop μ-loop
 loop-holds c = rw (c .unpaced .ensures) (zero-le, record { cut = zero-le; busy = zero-le; start = zero-le }, left-all (search needs) (search needs))
 
-unchecked-row-requires : tie.Need-unchecked-row-requires Inv-loop μ-loop
-unchecked-row-requires c κs = search needs
-
 paced-requires : tie.Need-paced-requires Inv-loop μ-loop
 paced-requires c κs = (c .before .before .before .before .before .before .pre, c .before .loop-test .taken, c .before .before .loop .inv .1)
-
-add-i : tie.Need-add-i Inv-loop μ-loop
-add-i c = search needs
 
 mul-ruling : tie.Need-mul-ruling Inv-loop μ-loop
 mul-ruling c =
@@ -54,9 +45,6 @@ put-row-requires c κs =
     let back6 = back4 .before .before in
     let back11 = back6 .before .before .before .before .before in
     (back11 .pre, back6 .loop-test .taken, back4 .paced .ensures .1 .start)
-
-loop-less : tie.Need-loop-less Inv-loop μ-loop
-loop-less c = search needs
 
 loop-again : tie.Need-loop-again Inv-loop μ-loop
 loop-again c =
@@ -78,9 +66,6 @@ loop-again c =
     let inside = ruled-at (s .args .t6) i (omega (arith, size, few-rows (s .args .bundle .now) (s .args .count) (s .pre), test)) in
     let next = rows-own (at-loop .loop .pace) r (after .ensures .0) (s .args .position) (ruled (s .args .t6)) i inside own in
     (omega (arith, test), after .ensures .1, left-next (at-loop .loop .inv .2) next (back2 .put-row .ensures))
-
-loop-less-2 : tie.Need-loop-less-2 Inv-loop μ-loop
-loop-less-2 c = search needs
 
 loop-again-2 : tie.Need-loop-again-2 Inv-loop μ-loop
 loop-again-2 c =
@@ -110,17 +95,17 @@ put-rows-spec =
     (tie.spec
     Inv-loop
     μ-loop
-    unpaced-requires
+    (λ c κs. search needs)
     loop-holds
-    unchecked-row-requires
+    (λ c κs. search needs)
     paced-requires
-    add-i
+    (λ c. search needs)
     mul-ruling
     array-copy-out-ruling
     put-row-requires
-    loop-less
+    (λ c. search needs)
     loop-again
-    loop-less-2
+    (λ c. search needs)
     loop-again-2
     same-length
     returns)

@@ -19,9 +19,6 @@ Inv-loop bundle count place pace₀ i₀ pace i =
 abbrev μ-loop : tie.MeasureT-loop
 μ-loop bundle count place pace₀ i₀ pace i = count - i
 
-unpaced-requires : tie.Need-unpaced-requires Inv-loop μ-loop
-unpaced-requires c κs = search needs
-
 loop-holds : tie.Need-loop-holds Inv-loop μ-loop
 loop-holds c = rw (c .unpaced .ensures) (zero-le, record { cut = zero-le; busy = zero-le; start = zero-le }, refl)
 
@@ -40,12 +37,6 @@ returns c =
       cut-past (at-loop .loop .pace) r (back2 .paced .ensures .0) (s .args .place) (at-loop .loop .inv .2) (c .if1 .taken),
       omega (arith, few, at-loop .loop .inv .1 .cut),
     )
-
-add-i : tie.Need-add-i Inv-loop μ-loop
-add-i c = search needs
-
-loop-less : tie.Need-loop-less Inv-loop μ-loop
-loop-less c = search needs
 
 loop-again : tie.Need-loop-again Inv-loop μ-loop
 loop-again c =
@@ -71,11 +62,11 @@ cut-at-spec =
     (tie.spec
     Inv-loop
     μ-loop
-    unpaced-requires
+    (λ c κs. search needs)
     loop-holds
     paced-requires
     returns
-    add-i
-    loop-less
+    (λ c. search needs)
+    (λ c. search needs)
     loop-again
     returns-2)

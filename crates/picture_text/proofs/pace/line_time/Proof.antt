@@ -8,15 +8,6 @@ use borrow.Author.Needs.{needs}
 use Rattle.picture_text.proofs.pace.line_time.Statement.{statement}
 use Rattle.picture_text.proofs.pace.line_time.Tie as tie
 
-unchecked-row-requires : tie.Need-unchecked-row-requires
-unchecked-row-requires c κs = search needs
-
-cast-result : tie.Need-cast-result
-cast-result c = search needs
-
-mul-result : tie.Need-mul-result
-mul-result c = search needs
-
 returns : tie.Need-returns
 returns c =
     let b = c .before .before .before .args .bundle .now in
@@ -25,4 +16,4 @@ returns c =
     (rw (← (c .before .unchecked-row .ensures)) (ap (λ (n : ℕ). 11 * n) (sym (body-characters b r h))), omega arith)
 
 pub line-time-spec : {M : Type 1} → statement M
-line-time-spec = tie.close (tie.spec unchecked-row-requires cast-result mul-result returns)
+line-time-spec = tie.close (tie.spec (λ c κs. search needs) (λ c. search needs) (λ c. search needs) returns)

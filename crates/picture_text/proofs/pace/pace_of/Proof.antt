@@ -18,20 +18,11 @@ Inv-loop bundle count pace₀ i₀ pace i = (i ≤ count) × Steady i pace × (e
 abbrev μ-loop : tie.MeasureT-loop
 μ-loop bundle count pace₀ i₀ pace i = count - i
 
-unpaced-requires : tie.Need-unpaced-requires Inv-loop μ-loop
-unpaced-requires c κs = search needs
-
 loop-holds : tie.Need-loop-holds Inv-loop μ-loop
 loop-holds c = rw (c .unpaced .ensures) (zero-le, record { cut = zero-le; busy = zero-le; start = zero-le }, refl)
 
 paced-requires : tie.Need-paced-requires Inv-loop μ-loop
 paced-requires c κs = (c .before .before .before .before .pre, c .loop-test .taken, c .before .loop .inv .1)
-
-add-i : tie.Need-add-i Inv-loop μ-loop
-add-i c = search needs
-
-loop-less : tie.Need-loop-less Inv-loop μ-loop
-loop-less c = search needs
 
 loop-again : tie.Need-loop-again Inv-loop μ-loop
 loop-again c =
@@ -54,10 +45,10 @@ pace-of-spec =
     (tie.spec
     Inv-loop
     μ-loop
-    unpaced-requires
+    (λ c κs. search needs)
     loop-holds
     paced-requires
-    add-i
-    loop-less
+    (λ c. search needs)
+    (λ c. search needs)
     loop-again
     returns)

@@ -5,9 +5,6 @@ use borrow.Author.Needs.{needs}
 use Rattle.picture_text.proofs.pace.paced.Statement.{statement}
 use Rattle.picture_text.proofs.pace.paced.Tie as tie
 
-unchecked-row-requires : tie.Need-unchecked-row-requires
-unchecked-row-requires c κs = search needs
-
 line-time-requires : tie.Need-line-time-requires
 line-time-requires c κs =
     let s = c .before .before in
@@ -28,4 +25,4 @@ returns c =
 
 pub paced-spec : {M : Type 1} → statement M
 paced-spec =
-    tie.close (tie.spec unchecked-row-requires line-time-requires paced-by-requires returns)
+    tie.close (tie.spec (λ c κs. search needs) line-time-requires paced-by-requires returns)

@@ -6,15 +6,6 @@ use borrow.Author.Needs.{needs}
 use Rattle.picture_text.proofs.page.page_of.Statement.{statement}
 use Rattle.picture_text.proofs.page.page_of.Tie as tie
 
-used-positions-requires : tie.Need-used-positions-requires
-used-positions-requires c κs = search needs
-
-pace-of-requires : tie.Need-pace-of-requires
-pace-of-requires c κs = search needs
-
-less-requires : tie.Need-less-requires
-less-requires c κs = search needs
-
 page-for-requires : tie.Need-page-for-requires
 page-for-requires c κs = (c .before .before .used-positions .ensures .1, omega (arith, c .less .ensures, c .before .pace-of .ensures .1 .busy))
 
@@ -30,4 +21,4 @@ returns c =
 pub page-of-spec : {M : Type 1} → statement M
 page-of-spec =
     tie.close
-    (tie.spec used-positions-requires pace-of-requires less-requires page-for-requires returns)
+    (tie.spec (λ c κs. search needs) (λ c κs. search needs) (λ c κs. search needs) page-for-requires returns)

@@ -22,21 +22,6 @@ abbrev μ-loop : tie.MeasureT-loop
 loop-holds : tie.Need-loop-holds Inv-loop μ-loop
 loop-holds c = (refl, omega arith, zero-add _)
 
-has-rows-requires : tie.Need-has-rows-requires Inv-loop μ-loop
-has-rows-requires c κs = search needs
-
-add-position : tie.Need-add-position Inv-loop μ-loop
-add-position c = search needs
-
-sub-left : tie.Need-sub-left Inv-loop μ-loop
-sub-left c = search needs
-
-add-found : tie.Need-add-found Inv-loop μ-loop
-add-found c = search needs
-
-loop-less : tie.Need-loop-less Inv-loop μ-loop
-loop-less c = search needs
-
 loop-again : tie.Need-loop-again Inv-loop μ-loop
 loop-again c =
     let at-loop = c .before .before .before in
@@ -44,9 +29,6 @@ loop-again c =
     let inv = at-loop .loop .inv in
     let e = used-own (recordsOf b) (at-loop .loop .position) (c .before .before .loop-test .taken) (sym (c .if1 .taken) ∙ c .before .has-rows .ensures) in
     (omega arith, omega arith, omega (arith, inv .2, ap length e))
-
-loop-less-2 : tie.Need-loop-less-2 Inv-loop μ-loop
-loop-less-2 c = search needs
 
 loop-again-2 : tie.Need-loop-again-2 Inv-loop μ-loop
 loop-again-2 c =
@@ -71,12 +53,12 @@ used-positions-spec =
     Inv-loop
     μ-loop
     loop-holds
-    has-rows-requires
-    add-position
-    sub-left
-    add-found
-    loop-less
+    (λ c κs. search needs)
+    (λ c. search needs)
+    (λ c. search needs)
+    (λ c. search needs)
+    (λ c. search needs)
     loop-again
-    loop-less-2
+    (λ c. search needs)
     loop-again-2
     returns)

@@ -3,17 +3,8 @@ use borrow.Author.Needs.{needs}
 use Rattle.replay_counting.proofs.ear.heard_by.Statement.{statement}
 use Rattle.replay_counting.proofs.ear.heard_by.Tie as tie
 
-enum-told : tie.Need-enum-told
-enum-told c = search needs
-
-enum-known-ear : tie.Need-enum-known-ear
-enum-known-ear c = search needs
-
 returns : tie.Need-returns
 returns c = rw (c .before .before .ear .given .1, c .if1 .taken)
-
-fits-in-time-requires : tie.Need-fits-in-time-requires
-fits-in-time-requires c κs = search needs
 
 returns-2 : tie.Need-returns-2
 returns-2 c = rw (c .enum-told .given .1)
@@ -23,4 +14,4 @@ returns-3 c = rw (c .before .before .before .ear .given .1, c .before .if1 .left
 
 pub heard-by-spec : {M : Type 1} → statement M
 heard-by-spec =
-    tie.close (tie.spec enum-told enum-known-ear returns fits-in-time-requires returns-2 returns-3)
+    tie.close (tie.spec (λ c. search needs) (λ c. search needs) returns (λ c κs. search needs) returns-2 returns-3)

@@ -14,18 +14,12 @@ returns c =
     let a = c .before .before .before .args in
     rw (not-true (eqb (a .row .position) (a .position)) (c .if1 .taken))
 
-is-wake-requires : tie.Need-is-wake-requires
-is-wake-requires c κs = search needs
-
 returns-2 : tie.Need-returns-2
 unfolding passedBy looked
 returns-2 c =
     let back2 = c .before .before in
     let a = back2 .before .before .before .args in
     rw (not-false (eqb (a .row .position) (a .position)) (back2 .if1 .left), sym (c .before .is-wake .ensures) ∙ c .if2 .taken)
-
-opened-after-requires : tie.Need-opened-after-requires
-opened-after-requires c κs = search needs
 
 returns-3 : tie.Need-returns-3
 unfolding passedBy looked
@@ -38,9 +32,6 @@ returns-3 c =
       c .before .if3 .taken,
       c .opened-after .ensures,
     )
-
-heard-by-requires : tie.Need-heard-by-requires
-heard-by-requires c κs = search needs
 
 returns-4 : tie.Need-returns-4
 unfolding passedBy looked
@@ -59,9 +50,9 @@ passed-by-spec =
     tie.close
     (tie.spec
     returns
-    is-wake-requires
+    (λ c κs. search needs)
     returns-2
-    opened-after-requires
+    (λ c κs. search needs)
     returns-3
-    heard-by-requires
+    (λ c κs. search needs)
     returns-4)

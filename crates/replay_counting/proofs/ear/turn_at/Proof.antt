@@ -12,33 +12,12 @@ use borrow.Author.Needs.{needs}
 use Rattle.replay_counting.proofs.ear.turn_at.Statement.{statement}
 use Rattle.replay_counting.proofs.ear.turn_at.Tie as tie
 
-unchecked-row-requires : tie.Need-unchecked-row-requires
-unchecked-row-requires c κs = search needs
-
-cast-at : tie.Need-cast-at
-cast-at c = search needs
-
-cast-end : tie.Need-cast-end
-cast-end c = search needs
-
-add-end : tie.Need-add-end
-add-end c = search needs
-
-sub-passed-by : tie.Need-sub-passed-by
-sub-passed-by c = search needs
-
-part-passed-by-start : tie.Need-part-passed-by-start
-part-passed-by-start c = search needs
-
 part-passed-by-end : tie.Need-part-passed-by-end
 part-passed-by-end c =
     let back2 = c .before .before in
     let r = back2 .unchecked-row .result in
     let h : r .offset + r .length ≤ length (back2 .before .before .args .bundle .now) = rw (back2 .unchecked-row .ensures) (back2 .before .before .pre) in
     omega arith
-
-passed-by-requires : tie.Need-passed-by-requires
-passed-by-requires c κs = search needs
 
 returns : tie.Need-returns
 returns c =
@@ -53,12 +32,12 @@ pub turn-at-spec : {M : Type 1} → statement M
 turn-at-spec =
     tie.close
     (tie.spec
-    unchecked-row-requires
-    cast-at
-    cast-end
-    add-end
-    sub-passed-by
-    part-passed-by-start
+    (λ c κs. search needs)
+    (λ c. search needs)
+    (λ c. search needs)
+    (λ c. search needs)
+    (λ c. search needs)
+    (λ c. search needs)
     part-passed-by-end
-    passed-by-requires
+    (λ c κs. search needs)
     returns)

@@ -19,15 +19,6 @@ abbrev μ-loop : tie.MeasureT-loop
 loop-holds : tie.Need-loop-holds Inv-loop μ-loop
 loop-holds c = refl
 
-mul-e : tie.Need-mul-e Inv-loop μ-loop
-mul-e c = search needs
-
-array-copy-out-e : tie.Need-array-copy-out-e Inv-loop μ-loop
-array-copy-out-e c = search needs
-
-quantity-of-requires : tie.Need-quantity-of-requires Inv-loop μ-loop
-quantity-of-requires c κs = search needs
-
 returns : tie.Need-returns Inv-loop μ-loop
 returns c =
     let back4 = c .before .before .before .before in
@@ -37,12 +28,6 @@ returns c =
     let has = ap (λ (q : ℕ). eqb q (a .quantity)) (sym (c .before .quantity-of .ensures)) ∙ c .if1 .taken in
     sym (entry-here (a .quantity) (a .t1) i _ (omega arith) has) ∙ back4 .loop .inv
 
-add-i : tie.Need-add-i Inv-loop μ-loop
-add-i c = search needs
-
-loop-less : tie.Need-loop-less Inv-loop μ-loop
-loop-less c = search needs
-
 loop-again : tie.Need-loop-again Inv-loop μ-loop
 loop-again c =
     let back4 = c .before .before .before .before in
@@ -51,9 +36,6 @@ loop-again c =
     let seven : length (a .t1) ≡ 7 = search needs in
     let lacks = ap (λ (q : ℕ). eqb q (a .quantity)) (sym (c .before .quantity-of .ensures)) ∙ c .if1 .left in
     entry-next (a .quantity) (a .t1) i _ (omega arith) lacks ∙ back4 .loop .inv
-
-blank-entry-requires : tie.Need-blank-entry-requires Inv-loop μ-loop
-blank-entry-requires c κs = search needs
 
 returns-2 : tie.Need-returns-2 Inv-loop μ-loop
 returns-2 c =
@@ -69,12 +51,12 @@ entry-with-spec =
     Inv-loop
     μ-loop
     loop-holds
-    mul-e
-    array-copy-out-e
-    quantity-of-requires
+    (λ c. search needs)
+    (λ c. search needs)
+    (λ c κs. search needs)
     returns
-    add-i
-    loop-less
+    (λ c. search needs)
+    (λ c. search needs)
     loop-again
-    blank-entry-requires
+    (λ c κs. search needs)
     returns-2)

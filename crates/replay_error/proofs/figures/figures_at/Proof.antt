@@ -14,12 +14,6 @@ use Rattle.replay_error.specs.Shown.{shownTold}
 use Rattle.replay_error.proofs.figures.figures_at.Statement.{statement}
 use Rattle.replay_error.proofs.figures.figures_at.Tie as tie
 
-slice-aggregate-unchecked-characters : tie.Need-slice-aggregate-unchecked-characters
-slice-aggregate-unchecked-characters c = search needs
-
-unchecked-characters-requires : tie.Need-unchecked-characters-requires
-unchecked-characters-requires c κs = search needs
-
 array-share-prefix-line : tie.Need-array-share-prefix-line
 array-share-prefix-line c =
     let back = c .before in
@@ -32,12 +26,6 @@ slice-aggregate-read-line c =
     let a = c .before .before .before .before .before .args in
     sym (length-take-le (u .result) (u .last .1 .1 .0) (omega (arith, u .ensures .count, u .kept, characters-few (a .bundle .now) (a .i) 502)))
 
-read-line-requires : tie.Need-read-line-requires
-read-line-requires c κs = search needs
-
-told-by-requires : tie.Need-told-by-requires
-told-by-requires c κs = search needs
-
 returns : tie.Need-returns
 returns c =
     let u = c .before .before .before .before .before .unchecked-characters in
@@ -49,10 +37,10 @@ pub figures-at-spec : {M : Type 1} → statement M
 figures-at-spec =
     tie.close
     (tie.spec
-    slice-aggregate-unchecked-characters
-    unchecked-characters-requires
+    (λ c. search needs)
+    (λ c κs. search needs)
     array-share-prefix-line
     slice-aggregate-read-line
-    read-line-requires
-    told-by-requires
+    (λ c κs. search needs)
+    (λ c κs. search needs)
     returns)

@@ -8,29 +8,11 @@ use mir.ValLaws.{toZ-ofZ}
 use Rattle.replay_error.proofs.figures.volume_count.Statement.{statement}
 use Rattle.replay_error.proofs.figures.volume_count.Tie as tie
 
-enum-known-value : tie.Need-enum-known-value
-enum-known-value c = search needs
-
-size-of-requires : tie.Need-size-of-requires
-size-of-requires c κs = search needs
-
-enum-told : tie.Need-enum-told
-enum-told c = search needs
-
-enum-known-value-2 : tie.Need-enum-known-value-2
-enum-known-value-2 c = search needs
-
-size-of-requires-2 : tie.Need-size-of-requires-2
-size-of-requires-2 c κs = search needs
-
 returns : tie.Need-returns
 returns c =
     let v = c .before .before .before .value .given in
     let g = c .before .struct-told .given in
     rw (v .1) (c .size-of .ensures ∙ ap natAbs (toZ-ofZ w64 (v .0 .0 .count) (record { sfits = omega arith })))
-
-returns-2 : tie.Need-returns-2
-returns-2 c = search needs
 
 returns-3 : tie.Need-returns-3
 returns-3 c =
@@ -39,4 +21,4 @@ returns-3 c =
     rw (v .1) (c .size-of2 .ensures ∙ ap natAbs (toZ-ofZ w64 (v .0 .0 .count) (record { sfits = omega arith })))
 
 pub volume-count-spec : {M : Type 1} → statement M
-volume-count-spec = tie.close (tie.spec enum-known-value size-of-requires enum-told enum-known-value-2 size-of-requires-2 returns returns-2 returns-3)
+volume-count-spec = tie.close (tie.spec (λ c. search needs) (λ c κs. search needs) (λ c. search needs) (λ c. search needs) (λ c κs. search needs) returns (λ c. search needs) returns-3)

@@ -5,19 +5,10 @@ use borrow.Author.Needs.{needs}
 use Rattle.replay_error.proofs.figures.volume_of.Statement.{statement}
 use Rattle.replay_error.proofs.figures.volume_of.Tie as tie
 
-volume-count-requires : tie.Need-volume-count-requires
-volume-count-requires c κs = search needs
-
-ten-to-requires : tie.Need-ten-to-requires
-ten-to-requires c κs = search needs
-
 div-if1 : tie.Need-div-if1
 div-if1 c =
     let back3 = c .before .before .before in
     omega (arith, unit-above (back3 .args .e) (c .before .before .volume-count .ensures) (c .ten-to .ensures))
-
-add-result : tie.Need-add-result
-add-result c = search needs
 
 returns : tie.Need-returns
 returns c =
@@ -40,10 +31,10 @@ pub volume-of-spec : {M : Type 1} → statement M
 volume-of-spec =
     tie.close
     (tie.spec
-    volume-count-requires
-    ten-to-requires
+    (λ c κs. search needs)
+    (λ c κs. search needs)
     div-if1
-    add-result
+    (λ c. search needs)
     returns
     mul-result
     returns-2)

@@ -13,33 +13,12 @@ use borrow.Author.Needs.{needs}
 use Rattle.verdict_repeats.proofs.reading.mark_at.Statement.{statement}
 use Rattle.verdict_repeats.proofs.reading.mark_at.Tie as tie
 
-unchecked-row-requires : tie.Need-unchecked-row-requires
-unchecked-row-requires c κs = search needs
-
-cast-at : tie.Need-cast-at
-cast-at c = search needs
-
-cast-end : tie.Need-cast-end
-cast-end c = search needs
-
-add-end : tie.Need-add-end
-add-end c = search needs
-
-sub-mark-of : tie.Need-sub-mark-of
-sub-mark-of c = search needs
-
-part-mark-of-start : tie.Need-part-mark-of-start
-part-mark-of-start c = search needs
-
 part-mark-of-end : tie.Need-part-mark-of-end
 part-mark-of-end c =
     let back2 = c .before .before in
     let r = back2 .unchecked-row .result in
     let h : r .offset + r .length ≤ length (back2 .before .before .args .bundle .now) = rw (back2 .unchecked-row .ensures) (back2 .before .before .pre) in
     omega arith
-
-mark-of-requires : tie.Need-mark-of-requires
-mark-of-requires c κs = search needs
 
 returns : tie.Need-returns
 returns c =
@@ -54,12 +33,12 @@ pub mark-at-spec : {M : Type 1} → statement M
 mark-at-spec =
     tie.close
     (tie.spec
-    unchecked-row-requires
-    cast-at
-    cast-end
-    add-end
-    sub-mark-of
-    part-mark-of-start
+    (λ c κs. search needs)
+    (λ c. search needs)
+    (λ c. search needs)
+    (λ c. search needs)
+    (λ c. search needs)
+    (λ c. search needs)
     part-mark-of-end
-    mark-of-requires
+    (λ c κs. search needs)
     returns)

@@ -9,9 +9,6 @@ use borrow.Author.Needs.{needs}
 use Rattle.verdict_repeats.proofs.reading.mark_of.Statement.{statement}
 use Rattle.verdict_repeats.proofs.reading.mark_of.Tie as tie
 
-gives-reading-requires : tie.Need-gives-reading-requires
-gives-reading-requires c κs = search needs
-
 returns : tie.Need-returns
 unfolding rowMark
 returns c =
@@ -32,12 +29,6 @@ part-sum-of-start c =
     let a = c .before .before .before .args in
     omega (arith, gives-long (rowWith (a .row) (a .body .now)) (sym (c .before .gives-reading .ensures) ∙ not-false _ (c .if1 .left)))
 
-part-sum-of-end : tie.Need-part-sum-of-end
-part-sum-of-end c = search needs
-
-sum-of-requires : tie.Need-sum-of-requires
-sum-of-requires c κs = search needs
-
 add-result : tie.Need-add-result
 add-result c =
     omega (arith, c .sum-of .ensures .1)
@@ -51,12 +42,12 @@ pub mark-of-spec : {M : Type 1} → statement M
 mark-of-spec =
     tie.close
     (tie.spec
-    gives-reading-requires
+    (λ c κs. search needs)
     returns
     sub-end
     sub-sum-of
     part-sum-of-start
-    part-sum-of-end
-    sum-of-requires
+    (λ c. search needs)
+    (λ c κs. search needs)
     add-result
     returns-2)

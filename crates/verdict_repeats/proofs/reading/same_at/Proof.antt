@@ -16,36 +16,6 @@ use Rattle.verdict_repeats.proofs.reading.same_at.Tie as tie
 abbrev DataRow : List ℕ → Row → Type 0
 DataRow b r = (r .offset + r .length ≤ length b) × (42 ≤ r .length)
 
-unchecked-row-requires : tie.Need-unchecked-row-requires
-unchecked-row-requires c κs = search needs
-
-cast-first-at : tie.Need-cast-first-at
-cast-first-at c = search needs
-
-cast-first-end : tie.Need-cast-first-end
-cast-first-end c = search needs
-
-add-first-end : tie.Need-add-first-end
-add-first-end c = search needs
-
-unchecked-row-requires-2 : tie.Need-unchecked-row-requires-2
-unchecked-row-requires-2 c κs = search needs
-
-cast-second-at : tie.Need-cast-second-at
-cast-second-at c = search needs
-
-cast-second-end : tie.Need-cast-second-end
-cast-second-end c = search needs
-
-add-second-end : tie.Need-add-second-end
-add-second-end c = search needs
-
-sub-same-parts : tie.Need-sub-same-parts
-sub-same-parts c = search needs
-
-part-same-parts-start : tie.Need-part-same-parts-start
-part-same-parts-start c = search needs
-
 part-same-parts-end : tie.Need-part-same-parts-end
 part-same-parts-end c =
     let back5 = c .before .before .before .before .before in
@@ -53,12 +23,6 @@ part-same-parts-end c =
     let r = back5 .unchecked-row .result in
     let h : r .offset + r .length ≤ length (a .args .bundle .now) = rw (back5 .unchecked-row .ensures) (a .pre .0 .inside) in
     omega arith
-
-sub-same-parts-2 : tie.Need-sub-same-parts-2
-sub-same-parts-2 c = search needs
-
-part-same-parts-start-2 : tie.Need-part-same-parts-start-2
-part-same-parts-start-2 c = search needs
 
 part-same-parts-end-2 : tie.Need-part-same-parts-end-2
 part-same-parts-end-2 c =
@@ -93,19 +57,19 @@ pub same-at-spec : {M : Type 1} → statement M
 same-at-spec =
     tie.close
     (tie.spec
-    unchecked-row-requires
-    cast-first-at
-    cast-first-end
-    add-first-end
-    unchecked-row-requires-2
-    cast-second-at
-    cast-second-end
-    add-second-end
-    sub-same-parts
-    part-same-parts-start
+    (λ c κs. search needs)
+    (λ c. search needs)
+    (λ c. search needs)
+    (λ c. search needs)
+    (λ c κs. search needs)
+    (λ c. search needs)
+    (λ c. search needs)
+    (λ c. search needs)
+    (λ c. search needs)
+    (λ c. search needs)
     part-same-parts-end
-    sub-same-parts-2
-    part-same-parts-start-2
+    (λ c. search needs)
+    (λ c. search needs)
     part-same-parts-end-2
     same-parts-requires
     returns)

@@ -5,15 +5,6 @@ use borrow.Author.Needs.{needs}
 use Rattle.verdict_rows.proofs.judging.after_heard.Statement.{statement}
 use Rattle.verdict_rows.proofs.judging.after_heard.Tie as tie
 
-seen-requires : tie.Need-seen-requires
-seen-requires c κs = search needs
-
-enum-known-x : tie.Need-enum-known-x
-enum-known-x c = search needs
-
-enum-told : tie.Need-enum-told
-enum-told c = search needs
-
 returns : tie.Need-returns
 returns c =
     let back3 = c .before .before .before in
@@ -27,4 +18,4 @@ returns-2 c =
     stands-still (a .bench) (heardOn (a .bench) (a .view) (a .t)) (back2 .seen .ensures) (c .enum-told .given .1)
 
 pub after-heard-spec : {M : Type 1} → statement M
-after-heard-spec = tie.close (tie.spec seen-requires enum-known-x enum-told returns returns-2)
+after-heard-spec = tie.close (tie.spec (λ c κs. search needs) (λ c. search needs) (λ c. search needs) returns returns-2)

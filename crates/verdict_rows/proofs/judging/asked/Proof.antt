@@ -5,27 +5,6 @@ use borrow.Author.Needs.{needs}
 use Rattle.verdict_rows.proofs.judging.asked.Statement.{statement}
 use Rattle.verdict_rows.proofs.judging.asked.Tie as tie
 
-enum-told : tie.Need-enum-told
-enum-told c = search needs
-
-first-requires : tie.Need-first-requires
-first-requires c κs = search needs
-
-enum-known-bench : tie.Need-enum-known-bench
-enum-known-bench c = search needs
-
-resent-requires : tie.Need-resent-requires
-resent-requires c κs = search needs
-
-enum-known-y : tie.Need-enum-known-y
-enum-known-y c = search needs
-
-enum-told-2 : tie.Need-enum-told-2
-enum-told-2 c = search needs
-
-first-requires-2 : tie.Need-first-requires-2
-first-requires-2 c κs = search needs
-
 returns : tie.Need-returns
 returns c = rw (c .before .enum-told .given .1) (c .first .ensures)
 
@@ -48,13 +27,13 @@ pub asked-spec : {M : Type 1} → statement M
 asked-spec =
     tie.close
     (tie.spec
-    enum-told
-    first-requires
-    enum-known-bench
-    resent-requires
-    enum-known-y
-    enum-told-2
-    first-requires-2
+    (λ c. search needs)
+    (λ c κs. search needs)
+    (λ c. search needs)
+    (λ c κs. search needs)
+    (λ c. search needs)
+    (λ c. search needs)
+    (λ c κs. search needs)
     returns
     returns-2
     returns-3)

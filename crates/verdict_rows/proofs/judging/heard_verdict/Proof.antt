@@ -4,40 +4,10 @@ use borrow.Author.Needs.{needs}
 use Rattle.verdict_rows.proofs.judging.heard_verdict.Statement.{statement}
 use Rattle.verdict_rows.proofs.judging.heard_verdict.Tie as tie
 
-enum-told : tie.Need-enum-told
-enum-told c = search needs
-
-enum-known-bench : tie.Need-enum-known-bench
-enum-known-bench c = search needs
-
-earlier-requires : tie.Need-earlier-requires
-earlier-requires c κs = search needs
-
 returns : tie.Need-returns
 returns c =
     let back4 = c .before .before .before .before in
     rw (back4 .bench .given .1, sym (c .before .earlier .ensures) ∙ c .if1 .taken)
-
-enum-told-2 : tie.Need-enum-told-2
-enum-told-2 c = search needs
-
-late-requires : tie.Need-late-requires
-late-requires c κs = search needs
-
-decided-by-requires : tie.Need-decided-by-requires
-decided-by-requires c κs = search needs
-
-enum-told-3 : tie.Need-enum-told-3
-enum-told-3 c = search needs
-
-enum-told-4 : tie.Need-enum-told-4
-enum-told-4 c = search needs
-
-enum-told-5 : tie.Need-enum-told-5
-enum-told-5 c = search needs
-
-returns-2 : tie.Need-returns-2
-returns-2 c = search needs
 
 returns-3 : tie.Need-returns-3
 returns-3 c =
@@ -81,17 +51,17 @@ pub heard-verdict-spec : {M : Type 1} → statement M
 heard-verdict-spec =
     tie.close
     (tie.spec
-    enum-told
-    enum-known-bench
-    earlier-requires
+    (λ c. search needs)
+    (λ c. search needs)
+    (λ c κs. search needs)
     returns
-    enum-told-2
-    late-requires
-    decided-by-requires
-    enum-told-3
-    enum-told-4
-    enum-told-5
-    returns-2
+    (λ c. search needs)
+    (λ c κs. search needs)
+    (λ c κs. search needs)
+    (λ c. search needs)
+    (λ c. search needs)
+    (λ c. search needs)
+    (λ c. search needs)
     returns-3
     returns-4
     returns-5

@@ -6,33 +6,9 @@ use borrow.Author.Needs.{needs}
 use Rattle.verdict_rows.proofs.judging.judge.Statement.{statement}
 use Rattle.verdict_rows.proofs.judging.judge.Tie as tie
 
-is-wake-requires : tie.Need-is-wake-requires
-is-wake-requires c κs = search needs
-
 returns : tie.Need-returns
 unfolding verdictAfter benchAfter
 returns c = rw (sym (c .before .is-wake .ensures) ∙ c .if1 .taken)
-
-cast-t11 : tie.Need-cast-t11
-cast-t11 c = search needs
-
-outline-of-requires : tie.Need-outline-of-requires
-outline-of-requires c κs = search needs
-
-cast-t12 : tie.Need-cast-t12
-cast-t12 c = search needs
-
-mul-t16 : tie.Need-mul-t16
-mul-t16 c = search needs
-
-add-t17 : tie.Need-add-t17
-add-t17 c = search needs
-
-waited-requires : tie.Need-waited-requires
-waited-requires c κs = search needs
-
-sent-requires : tie.Need-sent-requires
-sent-requires c κs = search needs
 
 returns-2 : tie.Need-returns-2
 unfolding verdictAfter benchAfter
@@ -48,12 +24,6 @@ returns-2 c =
       c .before .waited .ensures,
       back5 .outline-of .ensures,
     )
-
-heard-verdict-requires : tie.Need-heard-verdict-requires
-heard-verdict-requires c κs = search needs
-
-after-heard-requires : tie.Need-after-heard-requires
-after-heard-requires c κs = search needs
 
 returns-3 : tie.Need-returns-3
 unfolding verdictAfter benchAfter
@@ -72,16 +42,16 @@ pub judge-spec : {M : Type 1} → statement M
 judge-spec =
     tie.close
     (tie.spec
-    is-wake-requires
+    (λ c κs. search needs)
     returns
-    cast-t11
-    outline-of-requires
-    cast-t12
-    mul-t16
-    add-t17
-    waited-requires
-    sent-requires
+    (λ c. search needs)
+    (λ c κs. search needs)
+    (λ c. search needs)
+    (λ c. search needs)
+    (λ c. search needs)
+    (λ c κs. search needs)
+    (λ c κs. search needs)
     returns-2
-    heard-verdict-requires
-    after-heard-requires
+    (λ c κs. search needs)
+    (λ c κs. search needs)
     returns-3)

@@ -3,30 +3,6 @@ use borrow.Author.Needs.{needs}
 use Rattle.verdict_rows.proofs.judging.sent.Statement.{statement}
 use Rattle.verdict_rows.proofs.judging.sent.Tie as tie
 
-enum-known-view : tie.Need-enum-known-view
-enum-known-view c = search needs
-
-unsent-requires : tie.Need-unsent-requires
-unsent-requires c κs = search needs
-
-enum-told : tie.Need-enum-told
-enum-told c = search needs
-
-unsent-requires-2 : tie.Need-unsent-requires-2
-unsent-requires-2 c κs = search needs
-
-enum-known-view-2 : tie.Need-enum-known-view-2
-enum-known-view-2 c = search needs
-
-asked-requires : tie.Need-asked-requires
-asked-requires c κs = search needs
-
-enum-told-2 : tie.Need-enum-told-2
-enum-told-2 c = search needs
-
-unsent-requires-3 : tie.Need-unsent-requires-3
-unsent-requires-3 c κs = search needs
-
 returns : tie.Need-returns
 returns c = rw (c .before .before .view .given .1) (c .unsent .ensures)
 
@@ -43,14 +19,14 @@ pub sent-spec : {M : Type 1} → statement M
 sent-spec =
     tie.close
     (tie.spec
-    enum-known-view
-    unsent-requires
-    enum-told
-    unsent-requires-2
-    enum-known-view-2
-    asked-requires
-    enum-told-2
-    unsent-requires-3
+    (λ c. search needs)
+    (λ c κs. search needs)
+    (λ c. search needs)
+    (λ c κs. search needs)
+    (λ c. search needs)
+    (λ c κs. search needs)
+    (λ c. search needs)
+    (λ c κs. search needs)
     returns
     returns-2
     returns-3

@@ -5,15 +5,6 @@ use borrow.Author.Needs.{needs}
 use Rattle.verdict_rows.proofs.judging.waited.Statement.{statement}
 use Rattle.verdict_rows.proofs.judging.waited.Tie as tie
 
-tick-requires : tie.Need-tick-requires
-tick-requires c κs = search needs
-
-enum-known-x : tie.Need-enum-known-x
-enum-known-x c = search needs
-
-enum-told : tie.Need-enum-told
-enum-told c = search needs
-
 returns : tie.Need-returns
 returns c =
     let back3 = c .before .before .before in
@@ -27,4 +18,4 @@ returns-2 c =
     stands-still (a .bench) (tickOn (a .bench) (a .t)) (back2 .tick .ensures) (c .enum-told .given .1)
 
 pub waited-spec : {M : Type 1} → statement M
-waited-spec = tie.close (tie.spec tick-requires enum-known-x enum-told returns returns-2)
+waited-spec = tie.close (tie.spec (λ c κs. search needs) (λ c. search needs) (λ c. search needs) returns returns-2)

@@ -16,17 +16,8 @@ tried c =
     let t = taken (now (back3 .before .before .before .args .columns)) (back3 .count-in .ensures) (c .before .count .given .1) in
     record { size = t .size; few = t .few; count = t .count; from = t .from }
 
-count-in-requires : tie.Need-count-in-requires
-count-in-requires c κs = search needs
-
-enum-known-count : tie.Need-enum-known-count
-enum-known-count c = search needs
-
 faults-of-requires : tie.Need-faults-of-requires
 faults-of-requires c κs = tried c
-
-refused-requires : tie.Need-refused-requires
-refused-requires c κs = search needs
 
 returns : tie.Need-returns
 returns c =
@@ -35,9 +26,6 @@ returns c =
     ∙ ap shownVerdicts
     (kept-34 (tried (back2 .before)) (now (back2 .before .before .before .before .before .before .before .args .bundle)) (back2 .faults-of .ensures)
     (c .before .if1 .taken))
-
-refused-requires-2 : tie.Need-refused-requires-2
-refused-requires-2 c κs = search needs
 
 returns-2 : tie.Need-returns-2
 returns-2 c =
@@ -52,12 +40,6 @@ walk-requires c κs =
     let back2 = c .before .before in
     walkable-kept (tried (back2 .before)) (now (back2 .before .before .before .before .before .before .before .args .bundle)) (back2 .faults-of .ensures)
     (c .before .if1 .left) (c .if2 .left)
-
-enum-known-number : tie.Need-enum-known-number
-enum-known-number c = search needs
-
-refused-requires-3 : tie.Need-refused-requires-3
-refused-requires-3 c κs = search needs
 
 returns-3 : tie.Need-returns-3
 returns-3 c =
@@ -78,15 +60,15 @@ pub verdicts-kept-spec : {M : Type 1} → statement M
 verdicts-kept-spec =
     tie.close
     (tie.spec
-    count-in-requires
-    enum-known-count
+    (λ c κs. search needs)
+    (λ c. search needs)
     faults-of-requires
-    refused-requires
+    (λ c κs. search needs)
     returns
-    refused-requires-2
+    (λ c κs. search needs)
     returns-2
     walk-requires
-    enum-known-number
-    refused-requires-3
+    (λ c. search needs)
+    (λ c κs. search needs)
     returns-3
     returns-4)

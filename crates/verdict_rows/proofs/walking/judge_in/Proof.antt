@@ -9,27 +9,6 @@ use borrow.Author.Needs.{needs}
 use Rattle.verdict_rows.proofs.walking.judge_in.Statement.{statement}
 use Rattle.verdict_rows.proofs.walking.judge_in.Tie as tie
 
-cast-at : tie.Need-cast-at
-cast-at c = search needs
-
-cast-end : tie.Need-cast-end
-cast-end c = search needs
-
-add-end : tie.Need-add-end
-add-end c = search needs
-
-sub-judge : tie.Need-sub-judge
-sub-judge c = search needs
-
-part-judge-start : tie.Need-part-judge-start
-part-judge-start c = search needs
-
-part-judge-end : tie.Need-part-judge-end
-part-judge-end c = search needs
-
-judge-requires : tie.Need-judge-requires
-judge-requires c κs = search needs
-
 returns : tie.Need-returns
 returns c =
     let a = c .before .before .before .before .before .args in
@@ -39,11 +18,11 @@ pub judge-in-spec : {M : Type 1} → statement M
 judge-in-spec =
     tie.close
     (tie.spec
-    cast-at
-    cast-end
-    add-end
-    sub-judge
-    part-judge-start
-    part-judge-end
-    judge-requires
+    (λ c. search needs)
+    (λ c. search needs)
+    (λ c. search needs)
+    (λ c. search needs)
+    (λ c. search needs)
+    (λ c. search needs)
+    (λ c κs. search needs)
     returns)

@@ -9,18 +9,6 @@ use borrow.Author.Needs.{needs}
 use Rattle.verdict_rows.proofs.walking.row_from.Statement.{statement}
 use Rattle.verdict_rows.proofs.walking.row_from.Tie as tie
 
-row-requires : tie.Need-row-requires
-row-requires c κs = search needs
-
-enum-known-fields : tie.Need-enum-known-fields
-enum-known-fields c = search needs
-
-enum-told : tie.Need-enum-told
-enum-told c = search needs
-
-unchecked-row-requires : tie.Need-unchecked-row-requires
-unchecked-row-requires c κs = search needs
-
 returns : tie.Need-returns
 returns c =
     let back3 = c .before .before .before in
@@ -39,9 +27,6 @@ returns-2 c =
     ∙ ap orBlank (sym (shownRow-same (rowKept (a .contents .now) (a .i)) (refusal (c .before .enum-told .given .0 .0)) (sym (back3 .row .ensures)
     ∙ c .before .enum-told .given .1))))
 
-unchecked-row-requires-2 : tie.Need-unchecked-row-requires-2
-unchecked-row-requires-2 c κs = search needs
-
 returns-3 : tie.Need-returns-3
 returns-3 c = rw (c .before .if1 .left) (c .unchecked-row2 .ensures)
 
@@ -49,11 +34,11 @@ pub row-from-spec : {M : Type 1} → statement M
 row-from-spec =
     tie.close
     (tie.spec
-    row-requires
-    enum-known-fields
-    enum-told
-    unchecked-row-requires
+    (λ c κs. search needs)
+    (λ c. search needs)
+    (λ c. search needs)
+    (λ c κs. search needs)
     returns
     returns-2
-    unchecked-row-requires-2
+    (λ c κs. search needs)
     returns-3)

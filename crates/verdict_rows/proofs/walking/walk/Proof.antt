@@ -16,15 +16,6 @@ abbrev μ-loop : tie.MeasureT-loop
 loop-holds : tie.Need-loop-holds Inv-loop μ-loop
 loop-holds c = walked-none (c .before .before .pre .few)
 
-row-from-requires : tie.Need-row-from-requires Inv-loop μ-loop
-row-from-requires c κs = search needs
-
-cast-position : tie.Need-cast-position Inv-loop μ-loop
-cast-position c = search needs
-
-mul-bench : tie.Need-mul-bench Inv-loop μ-loop
-mul-bench c = search needs
-
 array-copy-out-bench : tie.Need-array-copy-out-bench Inv-loop μ-loop
 array-copy-out-bench c =
     let back2 = c .before .before in
@@ -35,26 +26,14 @@ judge-in-requires c κs =
     let back3 = c .before .before .before in
     rw (c .before .before .row-from .ensures) (back3 .before .before .before .before .pre .inside (back3 .before .loop .i) (back3 .loop-test .taken))
 
-mul-rulings : tie.Need-mul-rulings Inv-loop μ-loop
-mul-rulings c = search needs
-
 array-set-from-rulings : tie.Need-array-set-from-rulings Inv-loop μ-loop
 array-set-from-rulings c = omega (arith, c .before .before .before .before .before .loop .inv .few)
-
-mul-benches : tie.Need-mul-benches Inv-loop μ-loop
-mul-benches c = search needs
 
 array-set-from-benches : tie.Need-array-set-from-benches Inv-loop μ-loop
 array-set-from-benches c =
     let back4 = c .before .before .before .before in
     rw (c .before .before .before .row-from .ensures)
     (omega (arith, back4 .before .before .before .before .pre .position (back4 .before .loop .i) (back4 .loop-test .taken)))
-
-add-i : tie.Need-add-i Inv-loop μ-loop
-add-i c = search needs
-
-loop-less : tie.Need-loop-less Inv-loop μ-loop
-loop-less c = search needs
 
 loop-again : tie.Need-loop-again Inv-loop μ-loop
 loop-again c =
@@ -76,16 +55,16 @@ walk-spec =
     Inv-loop
     μ-loop
     loop-holds
-    row-from-requires
-    cast-position
-    mul-bench
+    (λ c κs. search needs)
+    (λ c. search needs)
+    (λ c. search needs)
     array-copy-out-bench
     judge-in-requires
-    mul-rulings
+    (λ c. search needs)
     array-set-from-rulings
-    mul-benches
+    (λ c. search needs)
     array-set-from-benches
-    add-i
-    loop-less
+    (λ c. search needs)
+    (λ c. search needs)
     loop-again
     returns)
