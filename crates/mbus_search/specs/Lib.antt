@@ -1,3 +1,3 @@
 -- 01, "Search".
 pub mod Searching
-pub mod Allowed
+pub mod Ending

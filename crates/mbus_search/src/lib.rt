@@ -1,14 +1,18 @@
 // The search for a line in a capture.
+ghost use mathlib.Core.List.{map};
 ghost use mathlib.Core.Path.{_≡_};
 ghost use Rattle.mbus_search.specs.Searching.{accepts, findIn, foundShown};
+ghost use Rattle.mbus_rules.specs.Characters.{byteOf};
 ghost use Rattle.mbus_rules.specs.Lines.{readBody};
 ghost use Rattle.mbus_shape.specs.Shapes.{frameBy};
-ghost use Rattle.mbus_search.specs.Allowed.{allowedAt};
+ghost use Rattle.mbus_search.specs.Ending.{endsIn};
 use mbus_characters::counts_odd;
 use mbus_characters::line::low_at;
 use mbus_reading::body::outline_in;
 use mbus_reading::taking::MOST;
 use mbus_rules::View;
+use mbus_shape::END;
+use mbus_shape::first::left_by;
 
 // Where the first accepted line of a capture begins, and its length.
 pub enum Found {
@@ -16,33 +20,18 @@ pub enum Found {
     Refused(u16),
 }
 
-// The one length that a line which begins here can have by its first bytes and its end, or 0 where none can begin.
-fn allowed_at(rest: &[u16]) -> usize
-    ensures { λ r. ⌜ r ≡ allowedAt (now (rest .entry)) ⌝ }
+// A line of so many characters is there and ends in 16, as far as its form has an end.
+fn is_ended(rest: &[u16], length: usize) -> bool
+    ensures { λ r. ⌜ r ≡ endsIn length (map byteOf (now (rest .entry))) ⌝ }
 {
-    let first = low_at(rest, 0);
-    if first == 0xE5 {
-        return 1;
+    if rest.len() < length {
+        return false;
     }
-    if first == 0x10 {
-        let end = low_at(rest, 4);
-        return if end == 0x16 { 5 } else { 0 };
+    if length < 2 {
+        return true;
     }
-    if first != 0x68 {
-        return 0;
-    }
-    let second = low_at(rest, 1);
-    let third = low_at(rest, 2);
-    if second != third {
-        return 0;
-    }
-    let fourth = low_at(rest, 3);
-    if fourth != 0x68 {
-        return 0;
-    }
-    let length = second as usize + 6;
     let end = low_at(rest, length - 1);
-    if end == 0x16 { length } else { 0 }
+    end == END
 }
 
 // The rules 4 to 16 accept the bytes of a line, by the sum of all of them.
@@ -68,13 +57,14 @@ pub fn find_line(capture: &[u16]) -> Found
     let mut place: usize = 0;
     'places: while place < capture.len() {
         let rest = &capture[place..];
-        let length = allowed_at(rest);
+        let length = left_by(rest);
         // asked by itself, so that the back end leaves a place of noise at its first byte
         if 0 < length {
-            if length <= rest.len() {
+            let ended = is_ended(rest, length);
+            if ended {
                 let mut sum: u8 = 0;
                 let mut i: usize = 0;
-                while i < length {
+                while i != length {
                     let c = rest[i];
                     if (511 < c) | counts_odd(c) {
                         break;

@@ -2,3 +2,4 @@
 pub mod ShapeLaws
 pub mod LeftLaws
 pub mod WholeLaws
+pub mod FirstLaws

@@ -15,14 +15,16 @@ use mbus_rules::View;
 use mbus_telegrams::NO_METHOD;
 use mbus_telegrams::is_method;
 
+pub mod first;
+
 // The first bytes of an ack, of the short form and of the long form, and the last byte of both forms.
-const ACK: u8 = 0xE5;
+pub const ACK: u8 = 0xE5;
 
-const SHORT: u8 = 0x10;
+pub const SHORT: u8 = 0x10;
 
-const LONG: u8 = 0x68;
+pub const LONG: u8 = 0x68;
 
-const END: u8 = 0x16;
+pub const END: u8 = 0x16;
 
 // What 68, 68 and 16 of the long form add to the sum of all bytes.
 const FRAME: u8 = 0xE6;

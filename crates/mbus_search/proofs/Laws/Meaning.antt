@@ -14,8 +14,7 @@ use Rattle.mbus_rules.specs.Answers.{Answer, reads, refusal}
 use Rattle.mbus_rules.proofs.Laws.Tests.{by-test}
 use Rattle.mbus_rules.specs.Lines.{readLine}
 use Rattle.mbus_search.specs.Searching.{accepts, Begins, lengthFrom, lengthHere, Spot, further, orElse, findIn, foundShown}
-use Rattle.mbus_search.proofs.Laws.SearchLaws.{only-length, here-hit}
-use Rattle.mbus_search.specs.Allowed.{allowedAt}
+use Rattle.mbus_search.proofs.Laws.SearchLaws.{leftAt, only-length, here-hit}
 
 -- no two answers are shown alike
 pub found-same : (a b : Answer Spot) → foundShown a ≡ foundShown b → a ≡ b
@@ -81,7 +80,7 @@ begins-found (c ∷ s) zero n b =
     let some : 0 < n = by-test (eqb n 0) (λ t. absurd (false≢true (sym nothing-accepted ∙ ap (λ (k : ℕ). accepts (readLine (take k (c ∷ s))))
     (sym (eqb-true n 0 t)) ∙ b .1))) (λ t. let ne : n ≡ 0 → ⊥ = eqb-false n 0 t in omega arith) in
     let hit = here-hit (c ∷ s) (omega (arith, only)) (omega (arith, only, b .0)) (ap (λ (k : ℕ). accepts (readLine (take k (c ∷ s)))) only ∙ b .1) in
-    (record { place = 0; length = allowedAt (c ∷ s) }, ap (λ (a : Answer ℕ). orElse a (further (findIn s))) hit, zero-le)
+    (record { place = 0; length = leftAt (c ∷ s) }, ap (λ (a : Answer ℕ). orElse a (further (findIn s))) hit, zero-le)
 begins-found (c ∷ s) (suc place) n b = go (lengthHere (c ∷ s)) refl (begins-found s place n b)
   where
     go : (a : Answer ℕ) → lengthHere (c ∷ s) ≡ a → (p : Spot) × (findIn s ≡ reads p) × (p .place ≤ place)

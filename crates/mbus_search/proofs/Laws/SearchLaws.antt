@@ -1,12 +1,12 @@
 -- Laws of `specs/SearchLaws`.
 use Prim.Native.Nat.{ℕ, zero, suc, _+_, _-_, _≤_, _<_}
-use mathlib.Core.Bool.{Bool, true, false, cond, false≢true}
+use mathlib.Core.Bool.{Bool, true, false, cond, false≢true, or-true}
 use mathlib.Core.List.{List, map}
-use mathlib.Core.Path.{_≡_, refl, sym, ap, _∙_}
+use mathlib.Core.Path.{_≡_, refl, sym, ap, subst, _∙_}
 use native.Mathlib.Nat.{le-refl}
 use native.Mathlib.Decide.{ℕ-discrete}
 use native.Mathlib.Omega.{arith}
-use borrow.Author.Tests.{eqb-true, eqb-false, eq-eqb}
+use borrow.Author.Tests.{eqb-true, eqb-false, lt-ltb, le-leb}
 use lib.Dec.{eqb}
 use lib.ListN.{length, take, length-map}
 use lib.Seq.{getD-take, length-take-le}
@@ -20,61 +20,51 @@ use Rattle.mbus_rules.specs.Lists.{at}
 use Rattle.mbus_rules.proofs.Laws.ListLaws.{map-take}
 use Rattle.mbus_rules.specs.Characters.{byteOf}
 use Rattle.mbus_rules.specs.Answers.{Answer, reads, refusal}
-use Rattle.mbus_rules.proofs.Laws.Tests.{by-test}
-use Rattle.mbus_rules.specs.Lines.{isAck, isShort, readLine}
-use Rattle.mbus_rules.proofs.Laws.Frames.{Framed, Short, Long, form}
+use Rattle.mbus_rules.proofs.Laws.Tests.{by-test, not-different}
+use Rattle.mbus_rules.specs.Lines.{isAck, readLine}
+use Rattle.mbus_rules.proofs.Laws.Codes.{Sound}
+use Rattle.mbus_rules.proofs.Laws.Frames.{Framed, form}
 use Rattle.mbus_rules.proofs.Laws.LineCode.{line-code}
+use Rattle.mbus_shape.specs.First.{leftBy}
+use Rattle.mbus_shape.proofs.Laws.FirstLaws.{left-line}
 use Rattle.mbus_search.specs.Searching.{accepts, lengthFrom, lengthHere}
-use Rattle.mbus_search.specs.Allowed.{allowedAt}
+use Rattle.mbus_search.specs.Ending.{endsIn}
 
--- what is accepted keeps the frame's rule
-accepted-frame : (s : List ℕ) → accepts (readLine s) ≡ true → Framed (map byteOf s)
-accepted-frame s = go (readLine s) refl
+-- the one length that a line which begins here can have by its first bytes
+abbrev pub leftAt : List ℕ → ℕ
+leftAt s = leftBy (map byteOf s)
+
+-- what is accepted keeps the rules on characters and on bytes
+pub accepted-sound : (s : List ℕ) → accepts (readLine s) ≡ true → Sound Framed s
+accepted-sound s = go (readLine s) refl
   where
-    go : (a : Answer Telegram) → readLine s ≡ a → accepts a ≡ true → Framed (map byteOf s)
+    go : (a : Answer Telegram) → readLine s ≡ a → accepts a ≡ true → Sound Framed s
     go (refusal n) e t = absurd (false≢true t)
-    go (reads x) e t = line-code .sound s (x, e) .bytes
+    go (reads x) e t = line-code .sound s (x, e)
 
-module _ (s : List ℕ) (n : ℕ) (h : n ≤ length s) where
-  at-beginning : (i : ℕ) → i < n → at (map byteOf (take n s)) i ≡ at (map byteOf s) i
-  at-beginning i l = ap (λ (b : List ℕ). at b i) (map-take byteOf n s) ∙ getD-take n (map byteOf s) i 0 l
+-- the end of a line is the byte that its length tells
+framed-ends : (b : List ℕ) (n : ℕ) → n ≤ length b → 0 < n → Framed (take n b) → endsIn n b ≡ true
+framed-ends b n h some f = rw (le-leb n (length b) h) (by-test (isAck (take n b))
+    (λ a. let one : length (take n b) ≡ 1 = rw a at (form (take n b) f) in rw (lt-ltb n 2 (omega (arith, length-take-le n b h))))
+    (λ a. let last : at (take n b) (length (take n b) - 1) ≡ 0x16 = not-different _ _ (rw a at (f .end)) in
+    let place : length (take n b) - 1 ≡ n - 1 = omega (arith, length-take-le n b h) in
+    let end : at b (n - 1) ≡ 0x16 = sym (getD-take n b (n - 1) 0 (omega arith)) ∙ ap (at (take n b)) (sym place) ∙ last in
+    rw (end, or-true)))
 
-  length-beginning : length (map byteOf (take n s)) ≡ n
-  length-beginning = length-map (take n s) byteOf ∙ length-take-le n s h
+-- the bytes of an accepted line that begins here
+accepted-bytes : (s : List ℕ) (n : ℕ) → accepts (readLine (take n s)) ≡ true → Framed (take n (map byteOf s))
+accepted-bytes s n e = subst Framed (map-take byteOf n s) (accepted-sound (take n s) e .bytes)
 
-  -- the length of an accepted line that begins here is the one that its first bytes allow
-  pub only-length : accepts (readLine (take n s)) ≡ true → allowedAt s ≡ n
-  only-length e =
-      let f = accepted-frame (take n s) e in
-      let b = map byteOf (take n s) in
-      by-test (isAck b) (λ a. ack (eqb-true (at b 0) 0xE5 a) (rw a at (form b f)))
-      (λ a. by-test (isShort b) (λ t. short (eqb-true (at b 0) 0x10 t) (rw (a, t) at (form b f))) (λ t. long (rw (a, t) at (form b f))))
-    where
-      ack : at (map byteOf (take n s)) 0 ≡ 0xE5 → length (map byteOf (take n s)) ≡ 1 → allowedAt s ≡ n
-      ack first one =
-          let c : n ≡ 1 = sym length-beginning ∙ one in
-          let first' : at (map byteOf s) 0 ≡ 0xE5 = sym (at-beginning 0 (omega arith)) ∙ first in
-          rw first' (sym c)
+-- its length is the one that its first bytes leave
+pub only-length : (s : List ℕ) (n : ℕ) → n ≤ length s → accepts (readLine (take n s)) ≡ true → leftAt s ≡ n
+only-length s n h e = left-line (map byteOf s) n (omega (arith, length-map s byteOf)) (accepted-bytes s n e) .1
 
-      short : at (map byteOf (take n s)) 0 ≡ 0x10 → Short (map byteOf (take n s)) → allowedAt s ≡ n
-      short first f =
-          let c : n ≡ 5 = sym length-beginning ∙ f .count in
-          let first' : at (map byteOf s) 0 ≡ 0x10 = sym (at-beginning 0 (omega arith)) ∙ first in
-          let four : length (map byteOf (take n s)) - 1 ≡ 4 = omega (arith, f .count) in
-          let end : at (map byteOf s) 4 ≡ 0x16 = sym (at-beginning 4 (omega arith)) ∙ ap (at (map byteOf (take n s))) (sym four) ∙ f .closed .end in
-          rw (first', end) (sym c)
-
-      long : Long (map byteOf (take n s)) → allowedAt s ≡ n
-      long f =
-          let six : 6 ≤ n = omega (arith, length-beginning, f .count) in
-          let first : at (map byteOf s) 0 ≡ 0x68 = sym (at-beginning 0 (omega arith)) ∙ f .start in
-          let one : at (map byteOf (take n s)) 1 ≡ at (map byteOf s) 1 = at-beginning 1 (omega arith) in
-          let c : at (map byteOf s) 1 + 6 ≡ n = omega (arith, length-beginning, f .count) in
-          let twice : at (map byteOf s) 2 ≡ at (map byteOf s) 1 = sym (at-beginning 2 (omega arith)) ∙ sym (f .twice) ∙ one in
-          let again : at (map byteOf s) 3 ≡ 0x68 = sym (at-beginning 3 (omega arith)) ∙ f .again in
-          let last : length (map byteOf (take n s)) - 1 ≡ n - 1 = omega (arith, length-beginning) in
-          let end : at (map byteOf s) (n - 1) ≡ 0x16 = sym (at-beginning (n - 1) (omega arith)) ∙ ap (at (map byteOf (take n s))) (sym last) ∙ f .closed .end in
-          rw (first, twice, eq-eqb _ _ refl, again, c, end)
+-- and it ends in 16
+pub accepted-ends : (s : List ℕ) (n : ℕ) → n ≤ length s → accepts (readLine (take n s)) ≡ true → endsIn n (map byteOf s) ≡ true
+accepted-ends s n h e =
+    let inside : n ≤ length (map byteOf s) = omega (arith, length-map s byteOf) in
+    let f = accepted-bytes s n e in
+    framed-ends (map byteOf s) n inside (left-line (map byteOf s) n inside f .0) f
 
 -- ---- the lengths, one after the other
 
@@ -95,18 +85,18 @@ from-hit (suc k) n m s a b hit none = go (ℕ-discrete n m) (λ l. from-hit k (n
     go (no e) rest = rw (none n (le-refl n) (omega arith)) (rest (omega arith))
 
 module _ (s : List ℕ) where
-  not-other : (m : ℕ) → m ≤ length s → (allowedAt s ≡ m → ⊥) → accepts (readLine (take m s)) ≡ false
+  not-other : (m : ℕ) → m ≤ length s → (leftAt s ≡ m → ⊥) → accepts (readLine (take m s)) ≡ false
   not-other m h n = by-test (accepts (readLine (take m s))) (λ e. absurd (n (only-length s m h e))) (λ e. e)
 
-  -- the one length that is allowed is accepted: it is the length here
-  pub here-hit : 0 < allowedAt s → allowedAt s ≤ length s → accepts (readLine (take (allowedAt s) s)) ≡ true → lengthHere s ≡ reads (allowedAt s)
-  here-hit p h e = from-hit (length s) 1 (allowedAt s) s p (omega arith) e (λ l a b. not-other l (omega arith) (λ q. omega arith))
+  -- the one length that can be is accepted: it is the length here
+  pub here-hit : 0 < leftAt s → leftAt s ≤ length s → accepts (readLine (take (leftAt s) s)) ≡ true → lengthHere s ≡ reads (leftAt s)
+  here-hit p h e = from-hit (length s) 1 (leftAt s) s p (omega arith) e (λ l a b. not-other l (omega arith) (λ q. omega arith))
 
-  -- it is not accepted, or none is allowed: no line begins here
-  pub here-none : (allowedAt s ≤ length s → 0 < allowedAt s → accepts (readLine (take (allowedAt s) s)) ≡ false) → lengthHere s ≡ refusal 18
-  here-none none = from-none (length s) 1 s (λ m a b. by-test (eqb (allowedAt s) m)
-      (λ e. let q : allowedAt s ≡ m = eqb-true (allowedAt s) m e in rw (← q) (none (omega arith) (omega arith)))
-      (λ e. not-other m (omega arith) (eqb-false (allowedAt s) m e)))
+  -- it is not accepted, or there is none: no line begins here
+  pub here-none : (leftAt s ≤ length s → 0 < leftAt s → accepts (readLine (take (leftAt s) s)) ≡ false) → lengthHere s ≡ refusal 18
+  here-none none = from-none (length s) 1 s (λ m a b. by-test (eqb (leftAt s) m)
+      (λ e. let q : leftAt s ≡ m = eqb-true (leftAt s) m e in rw (← q) (none (omega arith) (omega arith)))
+      (λ e. not-other m (omega arith) (eqb-false (leftAt s) m e)))
 
 -- ---- what the outline says
 

@@ -1,33 +1,33 @@
 -- What the two walks of the search hold on to.
 use Prim.Native.Nat.{ℕ, suc, _+_, _-_, _%_, _≤_, _<_, zero-le}
-use mathlib.Core.Bool.{Bool, true, false, cond, _&&_, _||_, true≢false}
+use mathlib.Core.Bool.{Bool, true, false, cond, _||_, true≢false, and-eq-true-iff}
 use mathlib.Core.List.{List, [], _∷_, map, map-append}
 use mathlib.Core.Path.{_≡_, refl, sym, ap, ap₂, subst, _∙_}
 use native.Mathlib.Numerals.{add-one}
 use native.Mathlib.Omega.{arith}
-use lib.Dec.{eqb}
+use borrow.Author.Tests.{leb-true}
+use lib.Dec.{leb}
 use lib.ListN
-use lib.ListN.{take, drop, set, length-set, length-drop, drop-of-length-le}
+use lib.ListN.{take, drop, set, length-set, length-drop, length-map, drop-of-length-le}
 use lib.Seq.{getD-take, drop-cons, take-all, take-suc, take-suc-set, length-take-le}
-use Rattle.mbus_rules.specs.declared.Telegram.{Telegram}
 use Rattle.mbus_rules.specs.Lists.{at, total}
 use Rattle.mbus_rules.specs.Characters.{over, odd, byteOf}
 use Rattle.mbus_rules.specs.Answers.{Answer, reads, refusal}
 use Rattle.mbus_rules.proofs.Laws.Closing.{total-append}
-use Rattle.mbus_rules.proofs.Laws.ListLaws.{Gathered, gathered-none, gathered-next, gathered-all, at-bytes}
+use Rattle.mbus_rules.proofs.Laws.ListLaws.{Gathered, gathered-none, gathered-next, gathered-all}
 use Rattle.mbus_rules.proofs.Laws.Tests.{by-test, none-at, neither}
 use Rattle.mbus_rules.proofs.Laws.Codes.{Sound}
 use Rattle.mbus_rules.proofs.Laws.Frames.{Framed}
 use Rattle.mbus_rules.specs.Lines.{readBody, readLine}
-use Rattle.mbus_rules.proofs.Laws.LineCode.{line-code}
 use Rattle.mbus_shape.specs.Shapes.{frameBy}
+use Rattle.mbus_shape.proofs.Laws.FirstLaws.{left-most}
 use Rattle.mbus_shape.proofs.Laws.WholeLaws.{frame-whole}
 use Rattle.mbus_reading.proofs.Laws.TakingLaws.{sound-line}
 use Rattle.mbus_search.specs.declared.Found.{Found}
 use Rattle.mbus_search.specs.declared.Found.the-variants.{At, Refused}
 use Rattle.mbus_search.specs.Searching.{accepts, lengthHere, Spot, further, orElse, findIn, movedBy, foundShown}
-use Rattle.mbus_search.specs.Allowed.{allowedAt}
-use Rattle.mbus_search.proofs.Laws.SearchLaws.{here-hit, here-none}
+use Rattle.mbus_search.specs.Ending.{endsIn}
+use Rattle.mbus_search.proofs.Laws.SearchLaws.{leftAt, accepted-sound, accepted-ends, here-hit, here-none}
 
 moved-further : (k : ℕ) (a : Answer Spot) → movedBy k (further a) ≡ movedBy (k + 1) a
 moved-further k (refusal n) = refl
@@ -85,24 +85,17 @@ searched-hit {s} {place} w h n e =
 
 -- ---- the walk over the characters of the one line that can begin here
 
-accepted-sound : (s : List ℕ) → accepts (readLine s) ≡ true → Sound Framed s
-accepted-sound s = go (readLine s) refl
-  where
-    go : (a : Answer Telegram) → readLine s ≡ a → accepts a ≡ true → Sound Framed s
-    go (refusal n) e t = absurd (true≢false (sym t))
-    go (reads x) e t = line-code .sound s (x, e)
-
 -- a character that is over 511 or odd is in no accepted line
-pub unsound-none : (s : List ℕ) (i : ℕ) → i < allowedAt s → (over (at s i) || odd (at s i)) ≡ true → lengthHere s ≡ refusal 18
+pub unsound-none : (s : List ℕ) (i : ℕ) → i < leftAt s → (over (at s i) || odd (at s i)) ≡ true → lengthHere s ≡ refusal 18
 unsound-none s i h e = here-none s
-    (λ l p. by-test (accepts (readLine (take (allowedAt s) s))) (λ t. absurd (never l (accepted-sound (take (allowedAt s) s) t))) (λ t. t))
+    (λ l p. by-test (accepts (readLine (take (leftAt s) s))) (λ t. absurd (never l (accepted-sound (take (leftAt s) s) t))) (λ t. t))
   where
-    never : allowedAt s ≤ ListN.length s → Sound Framed (take (allowedAt s) s) → ⊥
+    never : leftAt s ≤ ListN.length s → Sound Framed (take (leftAt s) s) → ⊥
     never l f =
-        let inside : i < ListN.length (take (allowedAt s) s) = omega (arith, length-take-le (allowedAt s) s l) in
-        let same : at (take (allowedAt s) s) i ≡ at s i = getD-take (allowedAt s) s i 0 h in
-        let low : over (at s i) ≡ false = ap over (sym same) ∙ none-at over (take (allowedAt s) s) 0 i (f .in-range) inside in
-        let even : odd (at s i) ≡ false = ap odd (sym same) ∙ none-at odd (take (allowedAt s) s) 0 i (f .even) inside in
+        let inside : i < ListN.length (take (leftAt s) s) = omega (arith, length-take-le (leftAt s) s l) in
+        let same : at (take (leftAt s) s) i ≡ at s i = getD-take (leftAt s) s i 0 h in
+        let low : over (at s i) ≡ false = ap over (sym same) ∙ none-at over (take (leftAt s) s) 0 i (f .in-range) inside in
+        let even : odd (at s i) ≡ false = ap odd (sym same) ∙ none-at odd (take (leftAt s) s) 0 i (f .even) inside in
         true≢false (sym e ∙ ap₂ _||_ low even)
 
 -- what was gathered of its first characters: all of them sound, their bytes in the first places, and the sum
@@ -148,14 +141,14 @@ gathers-all {line} {i} {low} {sum} g e some =
     ∙ sym (sound-line line (omega arith) (sym (gathered-all (g .in-range) (omega arith))) (sym (gathered-all (g .even) (omega arith))))
 
 pub record Walked (rest : List ℕ) (length i : ℕ) (found : Found) (low : List ℕ) (sum : ℕ) : Type 0 where
-  pub allowed : length ≡ allowedAt rest
+  pub allowed : length ≡ leftAt rest
   pub inside : i ≤ length
   pub room : length ≤ ListN.length rest
   pub none : length ≤ i → lengthHere rest ≡ refusal 18
   pub nothing : found ≡ Refused 18
   pub gathers : Gathers (take length rest) i low sum
 
-pub walked-none : {rest : List ℕ} {length : ℕ} {found : Found} {low : List ℕ} → length ≡ allowedAt rest → length ≤ ListN.length rest → found ≡ Refused 18
+pub walked-none : {rest : List ℕ} {length : ℕ} {found : Found} {low : List ℕ} → length ≡ leftAt rest → length ≤ ListN.length rest → found ≡ Refused 18
     → ListN.length low ≡ 261 → Walked rest length 0 found low 0
 walked-none {rest} e h n places = record {
   allowed = e;
@@ -166,26 +159,13 @@ walked-none {rest} e h n places = record {
   gathers = gathers-none places;
 }
 
--- no line that can begin here has more characters than there are places
-allowed-most : (s : List ℕ) → allowedAt s ≤ 261
-allowed-most s =
-    most (eqb (at b 0) 0xE5) (eqb (at b 0) 0x10) (eqb (at b 4) 0x16)
-    (eqb (at b 0) 0x68 && eqb (at b 1) (at b 2) && eqb (at b 3) 0x68 && eqb (at b (at b 1 + 6 - 1)) 0x16) (at b 1 + 6)
-    (rw (at-bytes s 1) (omega arith))
-  where
-    b : List ℕ
-    b = map byteOf s
-
-    most : (ack short end long : Bool) (n : ℕ) → n ≤ 261 → cond ack 1 (cond short (cond end 5 0) (cond long n 0)) ≤ 261
-    most true short end long n h = omega arith
-    most false true true long n h = omega arith
-    most false true false long n h = omega arith
-    most false false end true n h = h
-    most false false end false n h = omega arith
-
 module _ {rest : List ℕ} {length i : ℕ} {found : Found} {low : List ℕ} {sum : ℕ} (w : Walked rest length i found low sum) where
   pub walked-most : length ≤ 261
-  walked-most = omega (arith, w .allowed, allowed-most rest)
+  walked-most = omega (arith, w .allowed, left-most rest)
+
+  -- not at its end
+  pub walked-on : (i ≡ length → ⊥) → i < length
+  walked-on n = omega (arith, w .inside)
 
   pub walked-places : (x : ℕ) → length ≤ ListN.length (set low i x)
   walked-places x = omega (arith, walked-most, w .gathers .places, length-set low i x)
@@ -214,7 +194,7 @@ module _ {rest : List ℕ} {length i : ℕ} {found : Found} {low : List ℕ} {su
 
     module _ {accepted : Bool} (end : i + 1 ≡ length)
         (q : accepted ≡ accepts (frameBy ((sum + byteOf c) % 256) readBody (take length (set low i (byteOf c))))) where
-      read-here : accepts (readLine (take (allowedAt rest) rest)) ≡ accepted
+      read-here : accepts (readLine (take (leftAt rest) rest)) ≡ accepted
       read-here =
           ap (λ (n : ℕ). accepts (readLine (take n rest))) (sym (w .allowed))
           ∙ ap accepts (sym (gathers-all next (end ∙ sym (length-take-le length rest (w .room))) (omega arith)))
@@ -236,6 +216,18 @@ module _ {rest : List ℕ} {length i : ℕ} {found : Found} {low : List ℕ} {su
   pub walked-unsound : {isOdd : Bool} → isOdd ≡ odd (at rest i) → (over (at rest i) || isOdd) ≡ true → lengthHere rest ≡ refusal 18
   walked-unsound o e = unsound-none rest i (omega (arith, w .allowed)) (ap (λ (t : Bool). over (at rest i) || t) (sym o) ∙ e)
 
--- no length, or one past the capture's end: no line begins here
-pub walked-no : (rest : List ℕ) {length : ℕ} → length ≡ allowedAt rest → (0 < length → length ≤ ListN.length rest → ⊥) → lengthHere rest ≡ refusal 18
-walked-no rest e n = here-none rest (λ l p. absurd (n (omega arith) (omega arith)))
+-- no length: no line begins here
+pub walked-no : (rest : List ℕ) {length : ℕ} → length ≡ leftAt rest → (0 < length → ⊥) → lengthHere rest ≡ refusal 18
+walked-no rest e n = here-none rest (λ l p. absurd (n (omega arith)))
+
+module _ (rest : List ℕ) {length : ℕ} (e : length ≡ leftAt rest) {ended : Bool} (d : ended ≡ endsIn length (map byteOf rest)) where
+  -- nor does one that is not whole, or does not end in 16
+  pub walked-open : ended ≡ false → lengthHere rest ≡ refusal 18
+  walked-open f = here-none rest (λ l p. by-test (accepts (readLine (take (leftAt rest) rest)))
+      (λ t. absurd (true≢false (sym (accepted-ends rest (leftAt rest) l t) ∙ ap (λ (n : ℕ). endsIn n (map byteOf rest)) (sym e) ∙ sym d ∙ f))) (λ t. t))
+
+  -- where it ends, all of it is there
+  pub ended-inside : ended ≡ true → length ≤ ListN.length rest
+  ended-inside t =
+      let all = ListN.length (map byteOf rest) in
+      omega (arith, length-map rest byteOf, leb-true length all (and-eq-true-iff (leb length all) _ .0 (sym d ∙ t) .0))

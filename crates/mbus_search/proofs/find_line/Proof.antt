@@ -13,15 +13,15 @@ use Rattle.mbus_rules.specs.Answers.{refusal}
 use Rattle.mbus_search.specs.declared.Found.the-variants.{Refused}
 use Rattle.mbus_search.specs.Searching.{lengthHere}
 use Rattle.mbus_search.proofs.Laws.Walks.{Searched, searched-none, searched-next, searched-all, searched-hit, Walked, walked-none, walked-next}
-use Rattle.mbus_search.proofs.Laws.Walks.{walked-room, walked-refused, walked-unsound, walked-hit, walked-no, walked-places}
+use Rattle.mbus_search.proofs.Laws.Walks.{walked-room, walked-refused, walked-unsound, walked-hit, walked-no, walked-open, walked-on, walked-places, ended-inside}
 use Rattle.mbus_search.proofs.find_line.Statement.{statement}
 use Rattle.mbus_search.proofs.find_line.Tie as tie
 
 abbrev Inv-loop : tie.InvT-loop
-Inv-loop capture found₀ bytes₀ place rest length sum₀ i₀ found bytes sum i = Walked rest length i found bytes sum
+Inv-loop capture found₀ bytes₀ place rest length ended sum₀ i₀ found bytes sum i = Walked rest length i found bytes sum
 
 abbrev μ-loop : tie.MeasureT-loop
-μ-loop capture found₀ bytes₀ place rest length sum₀ i₀ found bytes sum i = length - i
+μ-loop capture found₀ bytes₀ place rest length ended sum₀ i₀ found bytes sum i = length - i
 
 abbrev Inv-places : tie.InvT-places
 Inv-places capture found₀ bytes₀ place₀ found bytes place = Searched capture place found × (ListN.length bytes ≡ 261)
@@ -37,29 +37,26 @@ none-yet : (c : tie.Joined1 Inv-loop μ-loop Inv-places μ-places)
     (drop (c .before .before .before .before .places .place) (now (c .before .before .before .before .before .before .args .capture)))) ≡ refusal 18)
     × (ListN.length (c .if1 .bytes) ≡ 261)
 none-yet c =
-    ⊎-elim (λ w. (w .4 ∙ w .2 .inv .nothing, w .2 .inv .none (w .3 .left), ap ListN.length (w .5) ∙ w .2 .inv .gathers .places))
+    let here = c .before .before .before .before .places in
+    let capture = now (c .before .before .before .before .before .before .args .capture) in
+    let rest = take (ListN.length capture - here .place) (drop (here .place) capture) in
+    ⊎-elim (λ w. (w .5 ∙ w .3 .inv .nothing, w .3 .inv .none (omega (arith, w .4 .left)), ap ListN.length (w .6) ∙ w .3 .inv .gathers .places))
     (λ w. ⊎-elim
     (λ v. (
-      v .7 ∙ v .2 .inv .nothing,
-      walked-unsound (v .2 .inv) (v .3 .taken) (v .5 .ensures) (v .6 .taken),
-      ap ListN.length (v .8) ∙ v .2 .inv .gathers .places,
+      v .8 ∙ v .3 .inv .nothing,
+      walked-unsound (v .3 .inv) (walked-on (v .3 .inv) (v .4 .taken)) (v .6 .ensures) (v .7 .taken),
+      ap ListN.length (v .9) ∙ v .3 .inv .gathers .places,
     ))
     (λ v. ⊎-elim
     (λ x. (
-      x .2 ∙ c .before .before .before .before .places .inv .0 .nothing,
-      walked-no
-          (take (ListN.length (now (c .before .before .before .before .before .before .args .capture)) - c .before .before .before .before .places .place)
-          (drop (c .before .before .before .before .places .place) (now (c .before .before .before .before .before .before .args .capture))))
-          (c .before .allowed-at .ensures) (λ p l. omega (arith, x .1 .left)),
-      ap ListN.length (x .3) ∙ c .before .before .before .before .places .inv .1,
+      x .3 ∙ here .inv .0 .nothing,
+      walked-open rest (c .before .left-by .ensures) (x .1 .ensures) (x .2 .left),
+      ap ListN.length (x .4) ∙ here .inv .1,
     ))
     (λ x. (
-      x .1 ∙ c .before .before .before .before .places .inv .0 .nothing,
-      walked-no
-          (take (ListN.length (now (c .before .before .before .before .before .before .args .capture)) - c .before .before .before .before .places .place)
-          (drop (c .before .before .before .before .places .place) (now (c .before .before .before .before .before .before .args .capture))))
-          (c .before .allowed-at .ensures) (λ p l. omega (arith, x .0 .left)),
-      ap ListN.length (x .2) ∙ c .before .before .before .before .places .inv .1,
+      x .1 ∙ here .inv .0 .nothing,
+      walked-no rest (c .before .left-by .ensures) (λ p. omega (arith, x .0 .left)),
+      ap ListN.length (x .2) ∙ here .inv .1,
     )) v) w)
     (c .if1 .came)
 
@@ -67,14 +64,19 @@ places-holds : tie.Need-places-holds Inv-loop μ-loop Inv-places μ-places
 places-holds c = (searched-none, length-replicate {A = ℕ} 261 0)
 
 loop-holds : tie.Need-loop-holds Inv-loop μ-loop Inv-places μ-places
-loop-holds c = walked-none (c .before .before .allowed-at .ensures) (c .if2 .taken) (c .before .before .before .before .before .places .inv .0 .nothing)
-    (c .before .before .before .before .before .places .inv .1)
+loop-holds c =
+    let left = c .before .before .before in
+    let here = left .before .before .before .places in
+    let capture = now (left .before .before .before .before .before .args .capture) in
+    let rest = take (ListN.length capture - here .place) (drop (here .place) capture) in
+    walked-none (left .left-by .ensures) (ended-inside rest (left .left-by .ensures) (c .before .is-ended .ensures) (c .if2 .taken)) (here .inv .0 .nothing)
+    (here .inv .1)
 
 shared-slice-read-c : tie.Need-shared-slice-read-c Inv-loop μ-loop Inv-places μ-places
 shared-slice-read-c c = omega (arith, c .before .before .loop .inv .room)
 
 array-write-bytes : tie.Need-array-write-bytes Inv-loop μ-loop Inv-places μ-places
-array-write-bytes c = walked-room (c .before .before .before .before .loop .inv) (c .before .before .before .loop-test .taken)
+array-write-bytes c = walked-room (c .before .before .before .before .loop .inv) (walked-on (c .before .before .before .before .loop .inv) (c .before .before .before .loop-test .taken))
 
 add-i : tie.Need-add-i Inv-loop μ-loop Inv-places μ-places
 add-i c = omega (arith, c .before .before .before .before .before .loop .inv .room)
@@ -90,7 +92,7 @@ loop-again : tie.Need-loop-again Inv-loop μ-loop Inv-places μ-places
 loop-again c =
     rw (c .before .before .before .before .wrapping-add-u8 .ensures)
     (walked-refused (c .before .before .before .before .before .before .before .before .before .loop .inv)
-    (c .before .before .before .before .before .before .before .before .loop-test .taken) refl
+    (walked-on (c .before .before .before .before .before .before .before .before .before .loop .inv) (c .before .before .before .before .before .before .before .before .loop-test .taken)) refl
     (c .before .before .before .before .before .before .counts-odd .ensures) (c .before .before .before .before .before .if3 .left)
     (c .before .before .before .if4 .taken)
     (rw (c .before .before .before .before .wrapping-add-u8 .ensures) at (c .before .is-accepted .ensures)) (c .if5 .left))
@@ -98,7 +100,7 @@ loop-again c =
 loop-again-2 : tie.Need-loop-again-2 Inv-loop μ-loop Inv-places μ-places
 loop-again-2 c =
     rw (c .before .wrapping-add-u8 .ensures)
-    (walked-next (c .before .before .before .before .before .before .loop .inv) (c .before .before .before .before .before .loop-test .taken) refl
+    (walked-next (c .before .before .before .before .before .before .loop .inv) (walked-on (c .before .before .before .before .before .before .loop .inv) (c .before .before .before .before .before .loop-test .taken)) refl
     (c .before .before .before .counts-odd .ensures) (c .before .before .if3 .left) (c .if4 .left))
 
 places-again : tie.Need-places-again Inv-loop μ-loop Inv-places μ-places
@@ -113,10 +115,10 @@ returns c = searched-all (c .before .places .inv .0) (c .places-test .left)
 
 returns-2 : tie.Need-returns-2 Inv-loop μ-loop Inv-places μ-places
 returns-2 c =
-    searched-hit (c .before .before .before .before .before .before .before .before .before .before .before .before .before .before .before .places .inv .0)
-    (c .before .before .before .before .before .before .before .before .before .before .before .before .before .before .places-test .taken) _
+    searched-hit (c .before .before .before .before .before .before .before .before .before .before .before .before .before .before .before .before .places .inv .0)
+    (c .before .before .before .before .before .before .before .before .before .before .before .before .before .before .before .places-test .taken) _
     (walked-hit (c .before .before .before .before .before .before .before .before .before .loop .inv)
-    (c .before .before .before .before .before .before .before .before .loop-test .taken) refl
+    (walked-on (c .before .before .before .before .before .before .before .before .before .loop .inv) (c .before .before .before .before .before .before .before .before .loop-test .taken)) refl
     (c .before .before .before .before .before .before .counts-odd .ensures) (c .before .before .before .before .before .if3 .left)
     (c .before .before .before .if4 .taken)
     (rw (c .before .before .before .before .wrapping-add-u8 .ensures) at (c .before .is-accepted .ensures)) (c .if5 .taken))
@@ -134,6 +136,7 @@ find-line-spec =
     (λ c. search needs)
     (λ c. search needs)
     (λ c. search needs)
+    (λ c κs. search needs)
     (λ c κs. search needs)
     loop-holds
     (λ c. search needs)

@@ -1,25 +1,28 @@
 -- What the length of a line by its first characters means.
-use Prim.Native.Nat.{ℕ, _+_, _≤_, _<_}
-use mathlib.Core.Bool.{Bool, true, false, not, _&&_, _||_, true≢false, or-true, and-false, and-eq-true-iff}
-use mathlib.Core.List.{List, [], _∷_, _++_, map}
+use Prim.Native.Nat.{ℕ, _≤_, _<_}
+use mathlib.Core.Bool.{Bool, true, false, _&&_, _||_, true≢false, and-false, and-eq-true-iff}
+use mathlib.Core.List.{List, map}
 use mathlib.Core.Logic.{_≢_}
 use mathlib.Core.Path.{_≡_, refl, sym, ap, ap₂, _∙_}
 use native.Mathlib.Nat.{le-refl}
 use native.Mathlib.Omega.{arith}
 use borrow.Author.Tests.{eqb-true, eqb-false, eq-eqb, ne-eqb, ltb-true, ltb-false, le-ltb}
 use lib.Dec.{eqb, ltb}
-use lib.ListN.{length, take, length-map, length-append}
-use lib.Seq.{length-take-le, take-all, take-length, take-take, take-append-seam}
+use lib.ListN.{length, take, length-map}
+use lib.Seq.{length-take-le, take-all, take-length, take-take}
 use Rattle.mbus_rules.specs.Lists.{at, any}
 use Rattle.mbus_rules.specs.Characters.{over, odd, byteOf}
-use Rattle.mbus_rules.specs.Lines.{isAck, isShort, isLong, wrongStart, Accepted}
+use Rattle.mbus_rules.specs.Lines.{isLong, Accepted}
 use Rattle.mbus_rules.proofs.Laws.Codes.{Sound}
-use Rattle.mbus_rules.proofs.Laws.Frames.{Framed, Short, Long, form}
+use Rattle.mbus_rules.proofs.Laws.Frames.{Framed}
 use Rattle.mbus_rules.proofs.Laws.LineCode.{line-code}
+use Rattle.mbus_rules.proofs.Laws.ListLaws.{map-take}
 use Rattle.mbus_rules.proofs.Laws.Tests.{by-test, neither}
+use Rattle.mbus_shape.specs.First.{leftBy}
+use Rattle.mbus_shape.proofs.Laws.FirstLaws.{framed-some, long-six, left-framed, same-long, left-before, left-grows, left-same, left-past}
 use Rattle.mbus_whole.specs.declared.HowLong.{HowLong}
 use Rattle.mbus_whole.specs.declared.HowLong.the-variants.{Known, NotYet, NoLine}
-use Rattle.mbus_whole.specs.Wholes.{lineCount, wrongLengthsIn, leftBy, unsoundIn, lacksCount, lengthBy, lineLength, Agree}
+use Rattle.mbus_whole.specs.Wholes.{unsoundIn, lacksCount, lengthBy, lineLength, Agree}
 use Rattle.mbus_whole.proofs.Laws.Beginnings
 
 answer : (s : List ℕ) → 1 ≤ length s → lineLength s ≡ lengthBy s (leftBy (map byteOf s))
@@ -38,83 +41,84 @@ known-some s n e = told-some s (λ y. let z : _≡_ {A = ℕ} 0 1 = cc in omega 
 
 -- what a known length tells
 pub record KnownBy (s : List ℕ) (n : ℕ) : Type 0 where
-  pub passed : (wrongStart (map byteOf s) || wrongLengthsIn (map byteOf s)) ≡ false
-  pub count : lineCount (map byteOf s) ≡ n
+  pub left : leftBy (map byteOf s) ≡ n
+  pub some : 0 < n
   pub clean : unsoundIn n s ≡ false
   pub there : lacksCount (map byteOf s) ≡ false
 
 known-tells : (s : List ℕ) (n : ℕ) → lineLength s ≡ Known n → KnownBy s n
 known-tells s n e =
-    let b = map byteOf s in
     let k = Beginnings.known-by _ _ _ n (sym (answer s (known-some s n e)) ∙ e) in
-    let both = neither (eqb (leftBy b) 0) (unsoundIn (leftBy b) s) (k .0) in
-    let passed : (wrongStart b || wrongLengthsIn b) ≡ false = by-test (wrongStart b || wrongLengthsIn b)
-    (λ t. absurd (eqb-false (leftBy b) 0 (both .0) (Beginnings.left-none b t))) (λ t. t) in
-    record {
-      passed = passed;
-      count = sym (Beginnings.left-some b passed) ∙ k .2;
-      clean = ap (λ (m : ℕ). unsoundIn m s) (sym (k .2)) ∙ both .1;
-      there = k .1;
-    }
+    let both = neither (eqb (leftBy (map byteOf s)) 0) (unsoundIn (leftBy (map byteOf s)) s) (k .0) in
+    let ne = eqb-false (leftBy (map byteOf s)) 0 (both .0) in
+    record { left = k .2; some = omega (arith, k .2); clean = ap (λ (m : ℕ). unsoundIn m s) (sym (k .2)) ∙ both .1; there = k .1 }
 
 known-when : (s : List ℕ) (n : ℕ) → 1 ≤ length s → KnownBy s n → lineLength s ≡ Known n
-known-when s n h k =
-    let b = map byteOf s in
-    let left : leftBy b ≡ n = Beginnings.left-some b (k .passed) ∙ k .count in
-    let some : 0 < n = omega (arith, Beginnings.count-some b, k .count) in
-    answer s h ∙ rw (left, ne-eqb n 0 (omega arith), k .clean, k .there)
+known-when s n h k = let ne : eqb n 0 ≡ false = ne-eqb n 0 (λ z. omega (arith, k .some)) in answer s h ∙ rw (k .left, ne, k .clean, k .there)
 
 -- ---- more characters
 
 module _ (w : List ℕ) (k : ℕ) (inside : k ≤ length w) where
+  abbrev few : List ℕ
+  few = take k (map byteOf w)
+
+  abbrev all : List ℕ
+  all = map byteOf w
+
   few-some : 1 ≤ length (take k w) → 1 ≤ k
   few-some h = omega (arith, length-take-le k w inside)
+
+  there-all : k ≤ length all
+  there-all = omega (arith, length-map w byteOf)
 
   pub none-stays : lineLength (take k w) ≡ NoLine → lineLength w ≡ NoLine
   none-stays e =
       let there = told-some (take k w) (λ y. let z : _≡_ {A = ℕ} 0 1 = cc in omega arith) in
       let some = few-some there in
-      let few = map byteOf (take k w) in
-      let all = map byteOf w in
       let bad : (eqb (leftBy few) 0 || unsoundIn (leftBy few) (take k w)) ≡ true =
-      Beginnings.none-by _ (lacksCount few) (leftBy few) (sym (answer (take k w) there) ∙ e) in
-      answer w (omega arith) ∙ by-test (wrongStart all || wrongLengthsIn all) (λ t. rw (Beginnings.left-none all t))
-      (λ t. let passed : (wrongStart few || wrongLengthsIn few) ≡ false = by-test (wrongStart few || wrongLengthsIn few)
-      (λ u. absurd (true≢false (sym (Beginnings.refused-stays w k some inside u) ∙ t))) (λ u. u) in
-      let left = Beginnings.left-some few passed in
-      let unsound : unsoundIn (lineCount few) (take k w) ≡ true =
-      rw (left, ne-eqb (lineCount few) 0 (λ z. omega (arith, Beginnings.count-some few))) at bad in
-      rw (Beginnings.left-some all t) (by-test (unsoundIn (lineCount all) w) (λ u. rw (u, or-true))
-      (λ u. let both = neither (any over (take (lineCount all) w)) (any odd (take (lineCount all) w)) u in
-      absurd (true≢false (sym unsound ∙ Beginnings.sound-first w (lineCount few) (lineCount all) k (Beginnings.count-grows w k some inside) (both .0)
-      (both .1))))))
+      Beginnings.none-by _ (lacksCount few) (leftBy few) (rw (map-take byteOf k w) at (sym (answer (take k w) there) ∙ e)) in
+      answer w (omega arith) ∙ by-test (eqb (leftBy all) 0) (λ t. rw t)
+      (λ t. let ne = eqb-false (leftBy all) 0 t in
+      let left : 0 < leftBy all = omega arith in
+      let unsound : unsoundIn (leftBy few) (take k w) ≡ true =
+      rw (ne-eqb (leftBy few) 0 (λ z. omega (arith, left-before all k some there-all left))) at bad in
+      rw t (by-test (unsoundIn (leftBy all) w) (λ u. rw u)
+      (λ u. let both = neither (any over (take (leftBy all) w)) (any odd (take (leftBy all) w)) u in
+      absurd (true≢false (sym unsound ∙ Beginnings.sound-first w (leftBy few) (leftBy all) k (left-grows all k some there-all left) (both .0) (both .1))))))
+
+  -- the second byte is there where it is asked for
+  second-there : lacksCount few ≡ false → isLong few ≡ true → 2 ≤ k
+  second-there e l = omega (arith, length-take-le k all there-all, ltb-false (length few) 2 (rw l at e))
+
+  module _ (n : ℕ) (e : lineLength (take k w) ≡ Known n) where
+    tells : KnownBy (take k w) n
+    tells = known-tells (take k w) n e
+
+    some-few : 1 ≤ k
+    some-few = few-some (known-some (take k w) n e)
+
+    left-few : leftBy few ≡ n
+    left-few = ap leftBy (sym (map-take byteOf k w)) ∙ tells .left
+
+    there-few : isLong few ≡ true → 2 ≤ k
+    there-few = second-there (ap lacksCount (sym (map-take byteOf k w)) ∙ tells .there)
 
   pub known-stays : (m n : ℕ) → lineLength (take k w) ≡ Known m → lineLength w ≡ Known n → m ≡ n
   known-stays m n e f =
-      let a = known-tells (take k w) m e in
       let b = known-tells w n f in
-      sym (a .count) ∙ Beginnings.same-count w k (few-some (known-some (take k w) m e)) inside (neither _ _ (a .passed) .0) (a .there) ∙ b .count
+      sym (left-few m e) ∙ left-same all k (some-few m e) there-all (omega (arith, b .left, b .some)) (there-few m e) ∙ b .left
 
   pub known-past : (n : ℕ) → lineLength (take k w) ≡ Known n → n ≤ k → lineLength w ≡ Known n
   known-past n e h =
-      let a = known-tells (take k w) n e in
-      let few = map byteOf (take k w) in
-      let all = map byteOf w in
-      let some = few-some (known-some (take k w) n e) in
-      let wrong = neither (wrongStart few) (wrongLengthsIn few) (a .passed) in
-      let starts : wrongStart all ≡ false = sym (Beginnings.same-start w k some inside) ∙ wrong .0 in
-      let same = Beginnings.same-count w k some inside (wrong .0) (a .there) in
-      let long : isLong few ≡ true → 6 ≤ n = λ l. let f : at few 0 ≡ 0x68 = eqb-true _ _ l in let c : at few 1 + 6 ≡ n = rw f at (a .count) in omega arith in
-      let other : isLong few ≡ false → isLong all ≡ false = λ l. sym (Beginnings.same-long w k some inside) ∙ l in
+      let a = tells n e in
+      let some = some-few n e in
       known-when w n (omega arith) (record {
-        passed = ap₂ _||_ starts (by-test (isLong few)
-            (λ l. sym (Beginnings.settled w k some inside (omega (arith, long l))) ∙ wrong .1)
-            (λ l. rw (other l)));
-        count = sym same ∙ a .count;
+        left = left-past all k some there-all (omega (arith, left-few n e, a .some)) (omega (arith, left-few n e)) ∙ left-few n e;
+        some = a .some;
         clean = ap (λ (l : List ℕ). any over l || any odd l) (sym (take-take n k w h)) ∙ a .clean;
-        there = by-test (isLong few)
-            (λ l. rw (le-ltb (length all) 2 (omega (arith, length-map w byteOf, long l)), and-false))
-            (λ l. rw (other l));
+        there = by-test (isLong all)
+            (λ l. rw (le-ltb (length all) 2 (omega (arith, there-all, there-few n e (same-long all k some there-all ∙ l))), and-false))
+            (λ l. rw l);
       })
 
 -- two characters tell
@@ -134,38 +138,18 @@ knows-after-one s h n e =
 
 -- ---- accepted lines
 
-module _ (l : List ℕ) (f : Sound Framed l) where
-  bytes-length : length (map byteOf l) ≡ length l
-  bytes-length = length-map l byteOf
-
-  known-of : lineCount (map byteOf l) ≡ length l → (wrongStart (map byteOf l) || wrongLengthsIn (map byteOf l)) ≡ false → lacksCount (map byteOf l) ≡ false
-      → lineLength l ≡ Known (length l)
-  known-of c p t = known-when l (length l) (omega (arith, Beginnings.count-some (map byteOf l))) (record {
-    passed = p;
-    count = c;
-    clean = ap (λ (s : List ℕ). any over s || any odd s) (take-length l) ∙ ap₂ _||_ (f .in-range) (f .even);
-    there = t;
-  })
-
-  -- an accepted line is known by all of its characters
-  sound-known : lineLength l ≡ Known (length l)
-  sound-known =
-      let b = map byteOf l in
-      by-test (isAck b) (λ a. ack (eqb-true (at b 0) 0xE5 a) (rw a at (form b (f .bytes))))
-      (λ a. by-test (isShort b) (λ t. short (eqb-true (at b 0) 0x10 t) (rw (a, t) at (form b (f .bytes)))) (λ t. long (rw (a, t) at (form b (f .bytes)))))
-    where
-      ack : at (map byteOf l) 0 ≡ 0xE5 → length (map byteOf l) ≡ 1 → lineLength l ≡ Known (length l)
-      ack first one = known-of (rw first (sym one ∙ bytes-length)) (rw first) (rw first)
-
-      short : at (map byteOf l) 0 ≡ 0x10 → Short (map byteOf l) → lineLength l ≡ Known (length l)
-      short first s = known-of (rw first (sym (s .count) ∙ bytes-length)) (rw first) (rw first)
-
-      long : Long (map byteOf l) → lineLength l ≡ Known (length l)
-      long g =
-          let b = map byteOf l in
-          known-of (rw (g .start) (sym (g .count) ∙ bytes-length))
-          (rw (g .start, g .twice, eq-eqb (at b 2) (at b 2) refl, g .again, and-false, and-false))
-          (rw (g .start, le-ltb (length b) 2 (omega (arith, g .count))))
+-- an accepted line is known by all of its characters
+sound-known : (l : List ℕ) → Sound Framed l → lineLength l ≡ Known (length l)
+sound-known l f =
+    let b = map byteOf l in
+    let left = left-framed b (f .bytes) in
+    let some = framed-some b (f .bytes) in
+    known-when l (length l) (omega (arith, length-map l byteOf)) (record {
+      left = left ∙ length-map l byteOf;
+      some = omega (arith, length-map l byteOf);
+      clean = ap (λ (s : List ℕ). any over s || any odd s) (take-length l) ∙ ap₂ _||_ (f .in-range) (f .even);
+      there = by-test (isLong b) (λ t. rw (le-ltb (length b) 2 (omega (arith, long-six b some t)), and-false)) (λ t. rw t);
+    })
 
 pub accepted-known : (l : List ℕ) → Accepted l → lineLength l ≡ Known (length l)
 accepted-known l a = sound-known l (line-code .sound l a)

@@ -19,7 +19,8 @@ use Rattle.mbus_rules.specs.declared.Outcome.the-variants.{Accepted, Refused}
 use Rattle.mbus_characters.specs.Gathering.{sound}
 use Rattle.mbus_whole.specs.declared.HowLong.{HowLong}
 use Rattle.mbus_whole.specs.declared.HowLong.the-variants.{Known, NotYet, NoLine}
-use Rattle.mbus_whole.specs.Wholes.{leftBy, unsoundIn, lacksCount, lineLength}
+use Rattle.mbus_shape.specs.First.{leftBy}
+use Rattle.mbus_whole.specs.Wholes.{unsoundIn, lacksCount, lineLength}
 
 -- ---- the characters that are there
 
