@@ -13,7 +13,7 @@ fieldsOf place width zero s = []
 fieldsOf place width (suc n) s = number (take width (drop place s)) ∷ fieldsOf place width n (drop 12 s)
 
 -- and 0 at the places past the last
-abbrev pub fieldsIn : ℕ → ℕ → ℕ → List ℕ → List ℕ
+unfoldable pub fieldsIn : ℕ → ℕ → ℕ → List ℕ → List ℕ
 fieldsIn place width n b = fieldsOf place width n (drop 2 b) ++ replicate (mostRows - n) 0
 
 -- What reading one of them answers.

@@ -35,6 +35,7 @@ fields-first p w (suc n) (suc i) s h =
     ∙ ap (λ (l : List ℕ). number (take w (drop p l))) (drop-drop (12 * i) 12 s ∙ ap (λ (k : ℕ). drop k s) next)
 
 pub length-list : (p w n : ℕ) (b : List ℕ) → n ≤ mostRows → length (fieldsIn p w n b) ≡ mostRows
+unfolding fieldsIn
 length-list p w n b h =
     length-append (fieldsOf p w n (drop 2 b)) (replicate (mostRows - n) 0)
     ∙ omega (arith, length-fields p w n (drop 2 b), length-replicate {A = ℕ} (mostRows - n) 0)
@@ -42,6 +43,7 @@ length-list p w n b h =
 -- ---- one field
 
 pub field-there : (b : List ℕ) (n p w i r : ℕ) → i < n → w ≤ 4 → Numbered b (2 + 12 * i + p) (min w 8) r → FieldThere b n p w i r
+unfolding fieldsIn
 field-there b n p w i r h small e =
     let same : min w 8 ≡ w = omega arith in
     let place : 2 + (12 * i + p) ≡ 2 + 12 * i + p = omega arith in
@@ -57,6 +59,7 @@ field-there b n p w i r h small e =
     }
 
 pub field-none : (b : List ℕ) (n p w i : ℕ) → n ≤ i → FieldThere b n p w i 0
+unfolding fieldsIn
 field-none b n p w i h =
     let size : length (fieldsOf p w n (drop 2 b)) ≡ n = length-fields p w n (drop 2 b) in
     let place : length (fieldsOf p w n (drop 2 b)) + (i - n) ≡ i = omega arith in
@@ -88,6 +91,7 @@ list-same f p w e (suc n) s = ap₂ (λ (x : ℕ) (l : List ℕ). x ∷ l) (e s)
 
 list-is : (f : Row → ℕ) (p w : ℕ) → ((s : List ℕ) → f (rowOf s) ≡ number (take w (drop p s))) → (n : ℕ) (b : List ℕ)
     → listOf f (rowsOf n (drop 2 b)) ≡ fieldsIn p w n b
+unfolding fieldsIn
 list-is f p w e n b = ap₂ (λ (l : List ℕ) (k : ℕ). l ++ replicate (mostRows - k) 0) (list-same f p w e n (drop 2 b)) (length-rows n (drop 2 b))
 
 -- the record of them, list by list

@@ -25,6 +25,10 @@ use Rattle.bundle_columns.specs.Record.{columnsSize, numbersIn, columnsI
 use Rattle.bundle_columns.specs.Lookups.{isPosition, firstFrom, rowKept, nextKept}
 use Rattle.bundle_columns.specs.Shown.{countKept}
 
+-- the record has another size, or a count over 512
+abbrev wrongRecord : List ℕ → Bool
+wrongRecord b = not (eqb (length b) columnsSize) || ltb mostRows (number (take 8 b))
+
 -- ---- what is known where the count was read, and where it was not
 pub record Taken (b : List ℕ) (n : ℕ) : Type 0 where
   pub size : length b ≡ columnsSize
@@ -32,15 +36,24 @@ pub record Taken (b : List ℕ) (n : ℕ) : Type 0 where
   pub count : n ≡ columnsIn b .count
   pub from : columnsFrom b ≡ reads (columnsIn b)
 
+-- the lists themselves are not looked at for their count
+pub count-kept : (b : List ℕ) → countKept (columnsFrom b) ≡ refuse noRecord (wrongRecord b) (reads (number (take 8 b)))
+unfolding columnsFrom
+count-kept b = go (wrongRecord b)
+  where
+    go : (t : Bool) → countKept (refuse noRecord t (reads (columnsIn b))) ≡ refuse noRecord t (reads (number (take 8 b)))
+    go true = refl
+    go false = refl
+
+from-right : (b : List ℕ) → wrongRecord b ≡ false → columnsFrom b ≡ reads (columnsIn b)
+unfolding columnsFrom
+from-right b e = rw e
+
 module _ (b : List ℕ) {s : Checked} (f : s ≡ shownChecked (countKept (columnsFrom b))) where
   pub taken : {n : ℕ} → s ≡ checked.Rows n → Taken b n
-  unfolding columnsFrom
-  taken {n} e =
-      go (not (eqb (length b) columnsSize) || ltb mostRows (number (take 8 b))) refl (shownChecked-same (countKept (columnsFrom b)) (reads n) (sym f ∙ e))
+  taken {n} e = go (wrongRecord b) refl (sym (count-kept b) ∙ shownChecked-same (countKept (columnsFrom b)) (reads n) (sym f ∙ e))
     where
-      go : (t : Bool) → (not (eqb (length b) columnsSize) || ltb mostRows (number (take 8 b))) ≡ t
-          → countKept (refuse noRecord t (reads (columnsIn b))) ≡ reads n
-          → Taken b n
+      go : (t : Bool) → wrongRecord b ≡ t → refuse noRecord t (reads (number (take 8 b))) ≡ reads n → Taken b n
       go true h g = absurd (not-refused g)
       go false h g =
           let p = neither (not (eqb (length b) columnsSize)) (ltb mostRows (number (take 8 b))) h in
@@ -49,7 +62,7 @@ module _ (b : List ℕ) {s : Checked} (f : s ≡ shownChecked (countKept (column
             size = not-different (length b) columnsSize (p .0);
             few = omega (arith, ltb-false mostRows (number (take 8 b)) (p .1));
             count = same;
-            from = rw h;
+            from = from-right b h;
           }
 
   pub not-taken : {k : ℕ} → s ≡ checked.Refused k → columnsFrom b ≡ refusal k
