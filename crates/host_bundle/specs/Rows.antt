@@ -2,10 +2,12 @@
 use Prim.Native.Nat.{ℕ}
 use mathlib.Core.List.{List, [], _∷_, _++_}
 use lib.ListN.{length}
-use Rattle.mbus_rules.specs.Answers.{Answer, follow}
+use Rattle.mbus_rules.specs.Answers.{Answer, reads, refusal, follow}
 use Rattle.bytes_numbers.specs.Numbers.{bytesOf}
 use Rattle.bytes_lent.specs.Lent.{done, needs, Leaves}
 use Rattle.bundle_rows.specs.declared.Row.{Row}
+use Rattle.bundle_check.specs.declared.rows.RowFound.{RowFound}
+use Rattle.bundle_check.specs.declared.rows.RowFound.the-variants.{Fields, Refused}
 use Rattle.bundle_check.specs.Handing.{rowAt}
 use Rattle.bundle_columns.specs.Lookups.{rowKept}
 use Rattle.bundle_columns.specs.Record.{columnsFrom}
@@ -13,6 +15,11 @@ use Rattle.bundle_columns.specs.Record.{columnsFrom}
 -- time 4 bytes; offset 4; body length 2; position; direction
 abbrev pub rowRecord : Row → List ℕ
 rowRecord r = bytesOf 4 (r .time) ++ (bytesOf 4 (r .offset) ++ (bytesOf 2 (r .length) ++ (r .position ∷ (r .direction ∷ []))))
+
+-- what was found
+abbrev pub rowFound : RowFound → Answer Row
+rowFound (Fields r) = reads r
+rowFound (Refused n) = refusal n
 
 -- 21 where there is no room for the record, before all others
 abbrev pub rowInto : List ℕ → ℕ → List ℕ → Answer Row

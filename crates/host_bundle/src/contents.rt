@@ -1,20 +1,17 @@
 // The contents of a run bundle in columns (2026-10 of document 02), for the bench host.
-ghost use Rattle.bytes_lent.specs.Lent.{done, needs, Leaves};
-ghost use Rattle.bundle_columns.specs.Lookups.{rowKept, nextKept};
+ghost use Rattle.bytes_lent.specs.Lent.{done, Leaves};
+ghost use Rattle.bundle_columns.specs.Lookups.{nextKept};
 ghost use Rattle.bundle_columns.specs.Record.{columnsBytes};
 ghost use Rattle.bundle_columns.specs.Shown.{columnsInto};
 ghost use Rattle.host_bundle.specs.Lent.{Gives};
 ghost use Rattle.host_bundle.specs.Rows.{keptInto, GivesRow};
-use crate::record::ROW_BYTES;
-use crate::record::record_of;
+use crate::record::put_row;
 use bundle_check::Checked;
-use bundle_check::rows::RowFound;
 use bundle_columns::NextFound;
 use bundle_columns::count_in;
 use bundle_columns::making::columns_of;
 use bundle_columns::next;
 use bundle_columns::row;
-use bytes_lent::store;
 
 // 0 and the record of the five lists, or 256 plus 21 or 30 to 37.
 #[no_mangle]
@@ -27,31 +24,16 @@ pub extern "C" fn skarrowith_contents_of(bundle: &[u8], contents: &mut [u8]) -> 
     }
 }
 
-// The record of row i in the first places, where the lists have been tried.
-fn row_into(contents: &[u8], i: usize, out: &mut [u8]) -> u32
-    ensures { λ r. ⌜ GivesRow (needs 12 (now (out .entry)) (rowKept (now (contents .entry)) i)) (now (out .entry)) r (now (out .exit)) ⌝ }
-{
-    let short = out.len() < ROW_BYTES;
-    if short {
-        return 256 + 21;
-    }
-    match row(contents, i) {
-        RowFound::Fields(fields) => {
-            let bytes = record_of(fields);
-            store(&bytes, out);
-            0
-        },
-        RowFound::Refused(number) => 256 + number as u32,
-    }
-}
-
 // 0 and the record of row i, or 256 plus 101, 21 or 39.
 #[no_mangle]
 pub extern "C" fn skarrowith_contents_row(contents: &[u8], i: usize, out: &mut [u8]) -> u32
     ensures { λ r. ⌜ GivesRow (keptInto (now (contents .entry)) i (now (out .entry))) (now (out .entry)) r (now (out .exit)) ⌝ }
 {
     match count_in(contents) {
-        Checked::Rows(_) => row_into(contents, i, out),
+        Checked::Rows(_) => {
+            let found = row(contents, i);
+            put_row(found, out)
+        },
         Checked::Refused(number) => 256 + number as u32,
     }
 }

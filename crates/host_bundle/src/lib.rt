@@ -4,15 +4,12 @@ ghost use Rattle.bundle_adding.specs.Adding.{newRecord};
 ghost use Rattle.host_bundle.specs.Lent.{Gives};
 ghost use Rattle.host_bundle.specs.Rows.{rowInto, GivesRow};
 ghost use Rattle.host_bundle.specs.Bundled.{AddsIn, ListsIn};
-use crate::record::ROW_BYTES;
-use crate::record::record_of;
+use crate::record::put_row;
 use bundle_adding::Added;
 use bundle_adding::add;
 use bundle_check::Checked;
 use bundle_check::check;
-use bundle_check::rows::RowFound;
 use bundle_check::rows::row;
-use bytes_lent::store;
 use listing_text::Listed;
 use listing_text::list;
 
@@ -39,18 +36,8 @@ pub extern "C" fn skarrowith_bundle_check(bundle: &[u8], rows: &mut usize) -> u3
 pub extern "C" fn skarrowith_bundle_row(bundle: &[u8], i: usize, out: &mut [u8]) -> u32
     ensures { λ r. ⌜ GivesRow (rowInto (now (bundle .entry)) i (now (out .entry))) (now (out .entry)) r (now (out .exit)) ⌝ }
 {
-    let short = out.len() < ROW_BYTES;
-    if short {
-        return 256 + 21;
-    }
-    match row(bundle, i) {
-        RowFound::Fields(fields) => {
-            let bytes = record_of(fields);
-            store(&bytes, out);
-            0
-        },
-        RowFound::Refused(number) => 256 + number as u32,
-    }
+    let found = row(bundle, i);
+    put_row(found, out)
 }
 
 // 0, the row added and how many bytes the bundle then fills, or 256 plus 30 to 38.

@@ -1,7 +1,10 @@
 // A row as a record for C.
 ghost use mathlib.Core.Path.{_≡_};
-ghost use Rattle.host_bundle.specs.Rows.{rowRecord};
+ghost use Rattle.bytes_lent.specs.Lent.{needs};
+ghost use Rattle.host_bundle.specs.Rows.{rowRecord, rowFound, GivesRow};
+use bundle_check::rows::RowFound;
 use bundle_rows::Row;
+use bytes_lent::store;
 use bytes_numbers::bytes_of;
 
 // The bytes of a row's record.
@@ -28,4 +31,22 @@ pub(crate) fn record_of(row: Row) -> [u8; ROW_BYTES]
         row.position,
         row.direction,
     ]
+}
+
+// 0 and the record of a row that was found, or 256 plus 21 or the number that refuses it.
+pub(crate) fn put_row(found: RowFound, out: &mut [u8]) -> u32
+    ensures { λ r. ⌜ GivesRow (needs 12 (now (out .entry)) (rowFound found)) (now (out .entry)) r (now (out .exit)) ⌝ }
+{
+    let short = out.len() < ROW_BYTES;
+    if short {
+        return 256 + 21;
+    }
+    match found {
+        RowFound::Fields(fields) => {
+            let bytes = record_of(fields);
+            store(&bytes, out);
+            0
+        },
+        RowFound::Refused(number) => 256 + number as u32,
+    }
 }

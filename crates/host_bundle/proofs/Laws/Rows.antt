@@ -18,8 +18,7 @@ use Rattle.bundle_rows.specs.declared.Row.{Row}
 use Rattle.bundle_check.specs.declared.rows.RowFound.{RowFound}
 use Rattle.bundle_check.specs.declared.rows.RowFound.the-variants.{Fields, Refused}
 use Rattle.bundle_check.specs.RowsShown.{shownRow}
-use Rattle.bundle_check.proofs.Laws.RowsShown.{shownRow-same}
-use Rattle.host_bundle.specs.Rows.{rowRecord, GivesRow}
+use Rattle.host_bundle.specs.Rows.{rowRecord, rowFound, GivesRow}
 
 -- Laws: the record's size; too little room, and the two cases of the row.
 pub length-record : (r : Row) → length (rowRecord r) ≡ 12
@@ -44,16 +43,21 @@ fields-read r t o l = record {
   direction = refl;
 }
 
--- of any rule that gives a row
-module _ (a : Answer Row) (out : List ℕ) where
-  pub row-short : ltb (length out) 12 ≡ true → GivesRow (needs 12 out a) out (256 + 21) out
+-- what was found is what the rule gives
+pub found-row : (a : Answer Row) → rowFound (shownRow a) ≡ a
+found-row (reads r) = refl
+found-row (refusal n) = refl
+
+module _ (found : RowFound) (out : List ℕ) where
+  pub row-short : ltb (length out) 12 ≡ true → GivesRow (needs 12 out (rowFound found)) out (256 + 21) out
   row-short e = rw e (leaves-all rowRecord out done refl)
 
-  module _ {s : RowFound} (e : ltb (length out) 12 ≡ false) (f : s ≡ shownRow a) where
-    pub row-number : {n : ℕ} → s ≡ Refused n → GivesRow (needs 12 out a) out (256 + n) out
-    row-number {n} g = rw e (leaves-all rowRecord out done (shownRow-same a (refusal n) (sym f ∙ g)))
+  module _ (e : ltb (length out) 12 ≡ false) where
+    pub row-number : {n : ℕ} → found ≡ Refused n → GivesRow (needs 12 out (rowFound found)) out (256 + n) out
+    row-number g = rw e (leaves-all rowRecord out done (ap rowFound g))
 
-    pub row-value : {r : Row} {x after : List ℕ} → s ≡ Fields r → x ≡ rowRecord r → after ≡ copied out 0 x → GivesRow (needs 12 out a) out 0 after
+    pub row-value : {r : Row} {x after : List ℕ} → found ≡ Fields r → x ≡ rowRecord r → after ≡ copied out 0 x
+        → GivesRow (needs 12 out (rowFound found)) out 0 after
     row-value {r} {x} g h k =
         let room : length x ≤ length out = omega (arith, ap length h, length-record r, ltb-false (length out) 12 e) in
-        rw e (leaves-copied rowRecord out done (shownRow-same a (reads r) (sym f ∙ g)) h room k refl)
+        rw e (leaves-copied rowRecord out done (ap rowFound g) h room k refl)
