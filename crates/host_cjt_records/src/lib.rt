@@ -5,13 +5,15 @@ ghost use Prim.Native.Nat.{_+_, _≤_};
 ghost use lib.ListN.{length};
 ghost use Rattle.bytes_lent.specs.Pieces.{pieces};
 ghost use Rattle.bytes_numbers.specs.Numbers.{bytesOf};
+ghost use Rattle.bytes_numbers.specs.Records.{wordsOf};
 ghost use Rattle.cjt_rules.specs.CjtViews.{cjtShown};
-ghost use Rattle.host_cjt_records.specs.CjtRecords.{broadcastByte, addressNumber, headBytes, quantityBytes, clockBytes, tailBytes, cjtBytes};
+ghost use Rattle.host_cjt_records.specs.CjtRecords.{broadcastByte, addressNumber, headBytes, quantityBytes, quantitiesOf, clockBytes, tailBytes, cjtBytes};
 ghost use Rattle.host_cjt_records.specs.CjtRecords.{numberIn, quantityIn, clockIn, addressIn, tellsInRecord, cjtIn, cjtFrom};
 use bytes_lent::is_same;
 use bytes_lent::lay;
 use bytes_numbers::bytes_of;
 use bytes_numbers::number_at;
+use bytes_numbers::put_record;
 use cjt_rules::CjtAddress;
 use cjt_rules::CjtAnswer;
 use cjt_rules::CjtClock;
@@ -74,26 +76,6 @@ fn head_bytes(
     ]
 }
 
-fn quantity_bytes(q: CjtQuantity) -> [u8; 8]
-    ensures { λ r. ⌜ r ≡ quantityBytes q ⌝ }
-{
-    let n = bytes_of(q.count as u64);
-    [n[0], n[1], n[2], n[3], q.code, 0, 0, 0]
-}
-
-fn quantities_bytes(values: [CjtQuantity; 5]) -> [u8; 40]
-    ensures { λ r. ⌜ r ≡ pieces quantityBytes values ⌝ }
-{
-    let mut bytes = [0u8; 40];
-    let mut i = 0;
-    while i < 5 {
-        let b = quantity_bytes(values[i]);
-        lay(&mut bytes, 8 * i, &b);
-        i += 1;
-    }
-    bytes
-}
-
 fn clock_bytes(c: CjtClock) -> [u8; 8]
     ensures { λ r. ⌜ r ≡ clockBytes c ⌝ }
 {
@@ -101,62 +83,30 @@ fn clock_bytes(c: CjtClock) -> [u8; 8]
     [y[0], y[1], c.month, c.day, c.hour, c.minute, c.second, 0]
 }
 
-// Temperatures and hours.
-fn fours_bytes(inlet: u32, outlet: u32, hours: u32) -> [u8; 12]
-    ensures { λ r. ⌜ r ≡ bytesOf 4 inlet ++ (bytesOf 4 outlet ++ bytesOf 4 hours) ⌝ }
+// Two numbers of four bytes each as one of eight.
+fn two_fours(low: u32, high: u32) -> u64
+    ensures { λ r. ⌜ bytesOf 8 r ≡ bytesOf 4 low ++ bytesOf 4 high ⌝ }
 {
-    let i = bytes_of(inlet as u64);
-    let o = bytes_of(outlet as u64);
-    let h = bytes_of(hours as u64);
-    [
-        i[0],
-        i[1],
-        i[2],
-        i[3],
-        o[0],
-        o[1],
-        o[2],
-        o[3],
-        h[0],
-        h[1],
-        h[2],
-        h[3],
-    ]
+    low as u64 + 4294967296 * high as u64
 }
 
-// Temperatures, hours and clock.
-fn tail_bytes(a: CjtAnswer) -> [u8; 24]
-    ensures { λ r. ⌜ r ≡ tailBytes a ⌝ }
+// What stands between the head and the clock: the values, the temperatures and the hours.
+fn answer_words(a: CjtAnswer) -> [u64; 7]
+    ensures { λ r. ⌜ wordsOf r ++ clockBytes (a .clock) ≡ pieces quantityBytes (quantitiesOf a) ++ tailBytes a ⌝ }
 {
-    let clock = a.clock;
-    let n = fours_bytes(a.inlet, a.outlet, a.hours);
-    let c = clock_bytes(clock);
-    [
-        n[0],
-        n[1],
-        n[2],
-        n[3],
-        n[4],
-        n[5],
-        n[6],
-        n[7],
-        n[8],
-        n[9],
-        n[10],
-        n[11],
-        0,
-        0,
-        0,
-        0,
-        c[0],
-        c[1],
-        c[2],
-        c[3],
-        c[4],
-        c[5],
-        c[6],
-        c[7],
-    ]
+    let cold = a.cold;
+    let heat = a.heat;
+    let power = a.power;
+    let flow = a.flow;
+    let volume = a.volume;
+    let c = two_fours(cold.count, cold.code as u32);
+    let h = two_fours(heat.count, heat.code as u32);
+    let p = two_fours(power.count, power.code as u32);
+    let f = two_fours(flow.count, flow.code as u32);
+    let v = two_fours(volume.count, volume.code as u32);
+    let temperatures = two_fours(a.inlet, a.outlet);
+    let hours = two_fours(a.hours, 0);
+    [c, h, p, f, v, temperatures, hours]
 }
 
 fn request_bytes(q: CjtRequest) -> [u8; 80]
@@ -174,11 +124,7 @@ fn request_bytes(q: CjtRequest) -> [u8; 80]
 fn answer_bytes(a: CjtAnswer) -> [u8; 80]
     ensures { λ r. ⌜ r ≡ cjtBytes (CjtTelegram.Answer a) ⌝ }
 {
-    let cold = a.cold;
-    let heat = a.heat;
-    let power = a.power;
-    let flow = a.flow;
-    let volume = a.volume;
+    let clock = a.clock;
     let head = head_bytes(
         2,
         a.meter_type,
@@ -188,12 +134,10 @@ fn answer_bytes(a: CjtAnswer) -> [u8; 80]
         a.second_state,
         a.address,
     );
-    let values = quantities_bytes([cold, heat, power, flow, volume]);
-    let tail = tail_bytes(a);
+    let words = answer_words(a);
+    let tail = clock_bytes(clock);
     let mut bytes = [0u8; 80];
-    lay(&mut bytes, 0, &head);
-    lay(&mut bytes, 16, &values);
-    lay(&mut bytes, 56, &tail);
+    put_record(&mut bytes, &head, &words, &tail);
     bytes
 }
 

@@ -10,13 +10,11 @@ use lib.ListN.{length, replicate}
 use Rattle.mbus_rules.specs.Answers.{reads, refusal}
 use Rattle.mbus_rules.proofs.Laws.TestLaws.{none}
 use Rattle.bytes_lent.specs.Copying.{copied}
-use Rattle.bytes_lent.specs.Pieces.{pieces}
 use Rattle.bytes_numbers.specs.Numbers.{bytesOf}
 use Rattle.bytes_numbers.proofs.Laws.Numbers.{number-bytes}
 use Rattle.cjt_rules.specs.declared.CjtAddress.{CjtAddress}
 use Rattle.cjt_rules.specs.declared.CjtAddress.the-variants.{Meter, Broadcast}
 use Rattle.cjt_rules.specs.declared.CjtRequest.{CjtRequest}
-use Rattle.cjt_rules.specs.declared.CjtQuantity.{CjtQuantity}
 use Rattle.cjt_rules.specs.declared.CjtAnswer.{CjtAnswer}
 use Rattle.cjt_rules.specs.declared.CjtTelegram.{CjtTelegram}
 use Rattle.cjt_rules.specs.declared.CjtTelegram.the-variants as telegrams
@@ -25,16 +23,11 @@ use Rattle.cjt_rules.specs.CjtClocks.{wrongClock}
 use Rattle.cjt_rules.specs.CjtUnits.{wrongUnits}
 use Rattle.cjt_rules.specs.CjtWriting.{overFourteen, overEight, overSix, unwrittenParty, unwrittenCounts, unwritten}
 use Rattle.cjt_rules.proofs.Laws.ListedLaws.{clock-shows}
-use Rattle.cjt_writing.proofs.Laws.Framing.{three-laid}
 use Rattle.host_records.specs.Recorded.{noRecord}
 use Rattle.host_records.proofs.Laws.Recorded.{record-read, record-written, wrong-size}
-use Rattle.host_cjt_records.specs.CjtRecords.{broadcastByte, addressNumber, headBytes, quantityBytes, quantitiesOf, tailBytes, cjtBytes, cjtIn, cjtFrom}
+use Rattle.host_cjt_records.specs.CjtRecords.{broadcastByte, addressNumber, headBytes, cjtBytes, cjtIn, cjtFrom}
 
 -- ---- sizes
-
-pub quantity-length : (q : CjtQuantity) → length (quantityBytes q) ≡ 8
-unfolding bytesOf
-quantity-length q = refl
 
 pub cjt-length : (t : CjtTelegram) → length (cjtBytes t) ≡ 80
 unfolding cjtBytes bytesOf
@@ -48,16 +41,6 @@ pub request-laid : (q : CjtRequest) {h last : List ℕ}
     → last ≡ copied (replicate 80 0) 0 h → last ≡ cjtBytes (telegrams.Request q)
 unfolding cjtBytes bytesOf
 request-laid q e l = l ∙ ap (copied (replicate 80 0) 0) e
-
-pub answer-laid : (a : CjtAnswer) {h v r first second last : List ℕ}
-    → h ≡ headBytes 2 (a .«meter_type») (a .serial) 0 (a .«first_state») (a .«second_state») (a .address)
-    → v ≡ pieces quantityBytes (quantitiesOf a) → r ≡ tailBytes a
-    → first ≡ copied (replicate 80 0) 0 h → second ≡ copied first 16 v → last ≡ copied second 56 r → last ≡ cjtBytes (telegrams.Answer a)
-unfolding cjtBytes bytesOf
-answer-laid a {h} {v} {r} eh ev er e1 e2 e3 =
-    e3 ∙ ap (λ (b : List ℕ). copied b 56 r) (e2 ∙ ap (λ (b : List ℕ). copied b 16 v) e1)
-    ∙ three-laid (replicate 80 0) h v r 16 56 (ap length eh) (ap (λ (l : List ℕ). 16 + length l) ev) (ap (λ (l : List ℕ). 56 + length l) er)
-    ∙ rw (eh, ev, er)
 
 -- ---- what fits the types
 

@@ -1,17 +1,25 @@
--- `host_cjt_records::answer_bytes` meets its contract. Assumes nothing.
-use Rattle.host_cjt_records.proofs.Laws.CjtRecordLaws.{answer-laid}
+-- `host_cjt_records::answer_bytes` meets its contract: one record of its parts. Assumes nothing.
+use mathlib.Core.List.{List, _++_, append-assoc}
+use mathlib.Core.Path.{refl, sym, ap, _∙_}
+use Prim.Native.Nat.{ℕ}
+use lib.ListN.{replicate}
 use borrow.Author.Needs.{needs}
+use Rattle.bytes_lent.specs.Pieces.{pieces}
+use Rattle.bytes_numbers.proofs.Laws.RecordLaws.{record-made}
+use Rattle.host_cjt_records.specs.CjtRecords.{headBytes, quantityBytes, quantitiesOf, clockBytes, tailBytes, cjtBytes}
 use Rattle.host_cjt_records.proofs.answer_bytes.Statement.{statement}
 use Rattle.host_cjt_records.proofs.answer_bytes.Tie as tie
 
 returns : tie.Need-returns
-returns c = answer-laid (c .before .before .before .before .before .before .before .before .before .before .before .before .before .before .before
-    .before .before .before .before .before .args .a)
-    (c .before .before .before .before .before .before .before .before .before .before .before .before .before .before .head-bytes .ensures)
-    (c .before .before .before .before .before .before .before .before .before .before .before .before .before .quantities-bytes .ensures)
-    (c .before .before .before .before .before .before .before .before .before .before .before .before .tail-bytes .ensures)
-    (c .before .before .before .before .before .before .before .before .before .lay .ensures) (c .before .before .before .before .before .lay2 .ensures)
-    (c .before .lay3 .ensures)
+unfolding cjtBytes
+returns c =
+    let tail = c .before .before .before .before .before .before in
+    let words = tail .before .answer-words in
+    let a = tail .before .before .before .before .args .a in
+    let head : List ℕ = headBytes 2 (a .«meter_type») (a .serial) 0 (a .«first_state») (a .«second_state») (a .address) in
+    record-made (replicate 80 0) head (words .result) (clockBytes (a .clock)) (search needs) (tail .before .before .head-bytes .ensures) refl
+    (tail .clock-bytes .ensures) (c .before .put-record .ensures) ∙ ap (λ (s : List ℕ). head ++ s) (words .ensures)
+    ∙ sym (append-assoc head (pieces quantityBytes (quantitiesOf a)) (tailBytes a))
 
 pub answer-bytes-spec : {M : Type 1} → statement M
 answer-bytes-spec =
@@ -22,10 +30,6 @@ answer-bytes-spec =
     (λ c κs. search needs)
     (λ c. search needs)
     (λ c. search needs)
-    (λ c κs. search needs)
-    (λ c. search needs)
-    (λ c. search needs)
-    (λ c κs. search needs)
     (λ c. search needs)
     (λ c. search needs)
     (λ c κs. search needs)
