@@ -22,6 +22,7 @@ use crate::elements::put_place;
 use crate::elements::put_style;
 use crate::elements::put_title;
 use crate::elements::put_verdict;
+use crate::filling::put_text;
 use crate::pace::Pace;
 use crate::pace::Stand;
 use crate::pace::less;
@@ -34,7 +35,6 @@ use bundle_rows::MOST_ROWS;
 use bundle_rows::unchecked_row;
 use listing_text::put_word;
 use text_filling::fill;
-use text_filling::put;
 use verdict_rows::Ruling;
 use verdict_rows::Verdict;
 
@@ -91,7 +91,7 @@ fn put_behind(out: &mut [u8], at: usize, bundle: &[u8], count: usize, page: Page
 {
     let opened = put_pauses_open(out, at, page);
     let drawn = put_pauses(out, opened, bundle, count);
-    put(out, drawn, b"</svg>\n")
+    put_text(out, drawn, b"</svg>\n")
 }
 
 // A mark at each end of a field; each goes on from the rows of the one before it.
@@ -189,7 +189,7 @@ fn put_lane(
 {
     let opened = put_lane_open(out, at, page, y, position);
     let drawn = put_rows(out, opened, bundle, count, position, starts, rulings);
-    put(out, drawn, b"</svg>\n")
+    put_text(out, drawn, b"</svg>\n")
 }
 
 // A lane for each position that has rows.
@@ -243,7 +243,7 @@ fn put_front(
 {
     let marked = put_marks(out, at, bundle, count, page);
     let drawn = put_lanes(out, marked, bundle, count, page, used, starts, rulings);
-    put(out, drawn, b"</svg>\n")
+    put_text(out, drawn, b"</svg>\n")
 }
 
 // The whole picture.

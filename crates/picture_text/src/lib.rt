@@ -15,6 +15,7 @@ use verdict_rows::verdicts_in;
 
 mod drawing;
 mod elements;
+mod filling;
 mod pace;
 mod page;
 

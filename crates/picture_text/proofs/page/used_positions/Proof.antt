@@ -32,8 +32,8 @@ loop-again c =
       omega (arith, inv .0, test),
       omega (arith, inv .1, test),
       λ ks u.
-      let e = used-own ks p test (sym (c .if1 .taken) ∙ u .so p (omega (arith, inv .0, test))) in
-      omega (arith, inv .2 ks u, ap length e),
+          let e = used-own ks p test (sym (c .if1 .taken) ∙ u .so p (omega (arith, inv .0, test))) in
+          omega (arith, inv .2 ks u, ap length e),
     )
 
 loop-again-2 : tie.Need-loop-again-2 Inv-loop μ-loop
@@ -45,8 +45,8 @@ loop-again-2 c =
       omega (arith, inv .0, test),
       omega (arith, inv .1, test),
       λ ks u.
-      let e = used-other ks p test (sym (c .if1 .left) ∙ u .so p (omega (arith, inv .0, test))) in
-      omega (arith, inv .2 ks u, ap length e),
+          let e = used-other ks p test (sym (c .if1 .left) ∙ u .so p (omega (arith, inv .0, test))) in
+          omega (arith, inv .2 ks u, ap length e),
     )
 
 returns : tie.Need-returns Inv-loop μ-loop
@@ -54,8 +54,8 @@ returns c =
     let at-loop = c .before in
     let inv = at-loop .loop .inv in (
       λ ks u.
-      let e = used-none ks (at-loop .loop .position) (c .loop-test .left) in
-      omega (arith, inv .2 ks u, ap length e),
+          let e = used-none ks (at-loop .loop .position) (c .loop-test .left) in
+          omega (arith, inv .2 ks u, ap length e),
       omega (arith, inv .1),
     )
 
