@@ -16,7 +16,8 @@ use Rattle.picture_text.proofs.drawing.put_marks.Tie as tie
 abbrev Inv-loop : tie.InvT-loop
 Inv-loop out₀ at bundle count page next₀ left₀ x₀ place₀ at-row₀ out next left x place at-row =
     (at-row .row ≤ count) × Steady (at-row .row) (at-row .pace)
-    × ((z : ℕ) → place ≤ z → cutAt z (at-row .pace) (drop (at-row .row) (recordsOf bundle)) ≡ cutAt z unpaced (recordsOf bundle)) × (x + 240 * left ≤ 60 + 240 * 8589934598) × (place + 48000 * left ≤ 48000 * 8589934598)
+    × ((z : ℕ) → place ≤ z → cutAt z (at-row .pace) (drop (at-row .row) (recordsOf bundle)) ≡ cutAt z unpaced (recordsOf bundle))
+    × (x + 240 * left ≤ 60 + 240 * 8589934598) × (place + 48000 * left ≤ 48000 * 8589934598)
     × Left (marksDrawn page (recordsOf bundle) (page .fields + 1) 60 0) out₀ at (marksDrawn page (recordsOf bundle) left x place) next out
 
 abbrev μ-loop : tie.MeasureT-loop

@@ -9,7 +9,7 @@ returns c =
     let back2 = c .before .before in
     let back6 = back2 .before .before .before .before in
     let back10 = back6 .before .before .before .before in
-    three (search needs) (back10 .put-text .ensures) (back6 .put-number .ensures) (back2 .put-text2 .ensures)
+    three (search needs) (back10 .put-text .ensures) (back6 .put-decimal .ensures) (back2 .put-text2 .ensures)
 
 pub put-between-spec : {M : Type 1} → statement M
 put-between-spec =

@@ -32,7 +32,8 @@ returns c =
     let s = at-loop .before .before .before in
     let inv = at-loop .loop .inv in
     let r = rest-rows (s .args .bundle .now) (at-loop .loop .row) (s .args .count) (s .pre .0) (c .before .before .before .loop-test .taken) in
-    let past = cut-past (at-loop .loop .pace) r (c .before .before .paced .ensures .0) (s .args .place) (inv .2 (s .args .place) (omega arith)) (c .if1 .taken) in
+    let there = inv .2 (s .args .place) (omega arith) in
+    let past = cut-past (at-loop .loop .pace) r (c .before .before .paced .ensures .0) (s .args .place) there (c .if1 .taken) in
     (inv .0, inv .1, record { cut = past; on = inv .2 })
 
 loop-again : tie.Need-loop-again Inv-loop μ-loop
