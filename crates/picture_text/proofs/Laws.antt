@@ -1,4 +1,5 @@
 -- What follows from the definitions, invariants of loops among it.
+pub mod Filling
 pub mod Rows
 pub mod TimingLaws
 pub mod PageLaws

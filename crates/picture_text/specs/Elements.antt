@@ -5,6 +5,7 @@ use mathlib.Core.List.{List, [], _∷_, _++_}
 use lib.Dec.{eqb, ltb}
 use Rattle.host_words.specs.Words.{text}
 use Rattle.bytes_lent.specs.Pieces.{pieces}
+use Rattle.text_filling.specs.Decimals.{decimal}
 use Rattle.text_filling.specs.Holes.{filledWith}
 use Rattle.mbus_rules.specs.Host.{chars}
 use Rattle.bundle_check.specs.Records.{Recorded}
@@ -106,33 +107,40 @@ laneText p y position =
     ∷ []))
     ((y + 16) ∷ position ∷ p .right ∷ (y + 16) ∷ position ∷ y ∷ p .wide ∷ y ∷ p .wide ∷ p .span ∷ [])
 
+-- A number between two texts, and two between three.
+abbrev pub between : List ℕ → ℕ → List ℕ → List ℕ
+between before n after = before ++ (decimal n ++ after)
+
+abbrev pub pairBetween : List ℕ → ℕ → List ℕ → ℕ → List ℕ → List ℕ
+pairBetween before m middle n after = before ++ (decimal m ++ (middle ++ (decimal n ++ after)))
+
 -- The colour of a row and the first words of its hover text; behind a send that ends at a place, the window for its reply.
 abbrev pub verdictText : Verdict → ℕ → List ℕ
 verdictText Wake end = text "<g class='wake'><title>wake-up: "
 verdictText First end =
-    filledWith (text "<rect class='window' x='%' y='1' width='450' height='22'/>\n<g class='first'><title>first send: ") (end ∷ [])
+    between (text "<rect class='window' x='") end (text "' y='1' width='450' height='22'/>\n<g class='first'><title>first send: ")
 verdictText Resend end =
-    filledWith (text "<rect class='window' x='%' y='1' width='450' height='22'/>\n<g class='resend'><title>resend: ") (end ∷ [])
-verdictText (Refused n) end = filledWith (text "<g class='refused'><title>refused by %: ") (n ∷ [])
+    between (text "<rect class='window' x='") end (text "' y='1' width='450' height='22'/>\n<g class='resend'><title>resend: ")
+verdictText (Refused n) end = between (text "<g class='refused'><title>refused by ") n (text ": ")
 verdictText Counts end = text "<g class='counts'><title>counts: "
 verdictText LeftOver end = text "<g class='left-over'><title>left over: "
 verdictText Late end = text "<g class='late'><title>late: "
 verdictText Second end = text "<g class='second'><title>second: "
-verdictText (Damaged n) end = filledWith (text "<g class='damaged'><title>damaged, %: ") (n ∷ [])
+verdictText (Damaged n) end = between (text "<g class='damaged'><title>damaged, ") n (text ": ")
 verdictText WrongKind end = text "<g class='wrong-kind'><title>wrong kind: "
 verdictText Unasked end = text "<g class='unasked'><title>not asked for: "
 
 -- Where and when it was sent or heard.
 abbrev pub placeText : ℕ → ℕ → ℕ → List ℕ
 placeText direction position time =
-    cond (eqb direction 0) (filledWith (text "position %, sent at %, ") (position ∷ time ∷ []))
-    (filledWith (text "position %, heard at %, ") (position ∷ time ∷ []))
+    cond (eqb direction 0) (pairBetween (text "position ") position (text ", sent at ") time (text ", "))
+    (pairBetween (text "position ") position (text ", heard at ") time (text ", "))
 
 -- Its box, from a place on and as wide as its line took: what was sent in the upper half of the lane, what was heard in the lower.
 abbrev pub boxText : ℕ → ℕ → ℕ → List ℕ
 boxText direction x width =
-    cond (eqb direction 0) (filledWith (text "</title><rect x='%' y='3' width='%' height='8'/></g>\n") (x ∷ width ∷ []))
-    (filledWith (text "</title><rect x='%' y='13' width='%' height='8'/></g>\n") (x ∷ width ∷ []))
+    cond (eqb direction 0) (pairBetween (text "</title><rect x='") x (text "' y='3' width='") width (text "' height='8'/></g>\n"))
+    (pairBetween (text "</title><rect x='") x (text "' y='13' width='") width (text "' height='8'/></g>\n"))
 
 -- A row with its verdict: colour and words, where and when, what the listing says of its line, and its box.
 unfoldable pub rowDrawn : Recorded → Verdict → ℕ → List ℕ

@@ -1,14 +1,16 @@
 -- How large a picture is: the scale, and a lane for each position that has rows.
-use Prim.Native.Nat.{ℕ, zero, suc, _+_, _*_, _/_, _%_, _≤_, max}
+use Prim.Native.Nat.{ℕ, zero, suc, _+_, _*_, _/_, _%_, _≤_, _<_, max}
 use mathlib.Core.Bool.{Bool, false, cond, _||_}
 use mathlib.Core.List.{List, [], _∷_}
+use mathlib.Core.Path.{_≡_}
 use lib.Dec.{eqb, ltb}
-use lib.ListN.{length}
+use lib.ListN.{length, getD}
 use Rattle.bundle_check.specs.Records.{Recorded}
 use Rattle.bundle_check.specs.Walks.{endOf}
 use Rattle.replay_counting.specs.Counting.{keptIf}
 use Rattle.picture_text.specs.declared.page.Page.{Page}
-use Rattle.picture_text.specs.Timing.{paced, unpaced, drawnEnd}
+use Rattle.picture_text.specs.declared.page.Plan.{Plan}
+use Rattle.picture_text.specs.Timing.{paced, unpaced, drawnEnd, Placed}
 
 -- a position has rows
 unfoldable pub hasRows : ℕ → List Recorded → Bool
@@ -23,6 +25,11 @@ usedFrom ks (suc n) position = keptIf (hasRows position ks) position (usedFrom k
 -- position 1–48
 abbrev pub usedPositions : List Recorded → List ℕ
 usedPositions ks = usedFrom ks 48 1
+
+-- whether each position has rows, in its place
+pub record Used (ks : List Recorded) (used : List Bool) : Type 0 where
+  pub places : length used ≡ 49
+  pub so : (p : ℕ) → p < 49 → getD used p false ≡ hasRows p ks
 
 -- The bit times of a px: the least of these with which what happened is under 30,000 px wide, and 200 at most.
 abbrev pub scaleFor : ℕ → ℕ
@@ -59,3 +66,10 @@ pub record Bounded (p : Page) : Type 0 where
   pub step : p .step ≤ 48000
   pub fields : p .fields ≤ 8589934597
   pub lanes : p .lanes ≤ 48
+
+-- What the rows ask for: the sizes, the positions that have rows, and where each row is drawn.
+pub record Planned (ks : List Recorded) (r : Plan) : Type 0 where
+  pub page : r .page ≡ pageOf ks
+  pub bounded : Bounded (r .page)
+  pub used : Used ks (r .used)
+  pub starts : Placed ks (r .starts)

@@ -1,14 +1,17 @@
 -- Where a time is drawn. A run of hours has seconds in which something happens, so a pause in which nothing was sent, heard or waited for is cut short.
-use Prim.Native.Nat.{ℕ, _+_, _-_, _*_, _/_, _≤_, max}
+use Prim.Native.Nat.{ℕ, _+_, _-_, _*_, _/_, _≤_, _<_, max}
 use mathlib.Core.Bool.{cond}
 use mathlib.Core.List.{List, [], _∷_}
+use mathlib.Core.Path.{_≡_}
 use lib.Dec.{ltb}
-use lib.ListN.{length}
+use lib.ListN.{length, getD, take, drop}
 use Rattle.mbus_rules.specs.Host.{chars}
 use Rattle.bench_clock.specs.Times.{replyTime}
+use Rattle.bundle_rows.specs.Rows.{mostRows}
 use Rattle.bundle_check.specs.Records.{Recorded}
 use Rattle.bundle_check.specs.Walks.{endOf}
 use Rattle.picture_text.specs.declared.pace.Pace.{Pace}
+use Rattle.picture_text.specs.declared.pace.Stand.{Stand}
 
 -- The bit times of a row's line, 11 for each character.
 abbrev pub lineTime : Recorded → ℕ
@@ -46,3 +49,18 @@ pub record Steady (rows : ℕ) (s : Pace) : Type 0 where
   pub cut : s .cut ≤ 4294967296 * rows
   pub busy : s .busy ≤ 8589934592
   pub start : s .start ≤ 4294967296
+
+-- The pace after the first so many rows.
+abbrev pub paceAt : List Recorded → ℕ → Pace
+paceAt ks i = endOf paced unpaced (take i ks)
+
+-- Where each row is drawn, in its place.
+pub record Placed (ks : List Recorded) (starts : List ℕ) : Type 0 where
+  pub places : length starts ≡ mostRows
+  pub start : (i : ℕ) → i < length ks → getD starts i 0 ≡ paceAt ks (i + 1) .start
+  pub near : (i : ℕ) → i < length ks → getD starts i 0 ≤ 4294967296
+
+-- What is left out before a place, and that what is left out before any later one can be told from there on.
+pub record Reached (ks : List Recorded) (place : ℕ) (from to : Stand) : Type 0 where
+  pub cut : to .pace .cut ≡ cutAt place (from .pace) (drop (from .row) ks)
+  pub on : (x : ℕ) → place ≤ x → cutAt x (to .pace) (drop (to .row) ks) ≡ cutAt x (from .pace) (drop (from .row) ks)

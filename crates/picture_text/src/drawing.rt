@@ -8,8 +8,8 @@ ghost use Rattle.host_words.specs.Words.{text};
 ghost use Rattle.bundle_check.specs.Bundles.{checkOf};
 ghost use Rattle.bundle_check.specs.Records.{recordsOf};
 ghost use Rattle.replay_counting.specs.Ears.{rowIn};
-ghost use Rattle.picture_text.specs.Timing.{unpaced};
-ghost use Rattle.picture_text.specs.Pages.{usedPositions, Bounded};
+ghost use Rattle.picture_text.specs.Timing.{unpaced, Placed};
+ghost use Rattle.picture_text.specs.Pages.{usedPositions, Bounded, Used};
 ghost use Rattle.picture_text.specs.Elements.{pauseText, pausesOpenText, laneText, rowDrawn};
 ghost use Rattle.picture_text.specs.Pictures.{headText, pausesDrawn, marksDrawn, ruled, rowsDrawn, laneDrawn, lanesDrawn, pictureWith};
 use crate::elements::put_box;
@@ -22,19 +22,19 @@ use crate::elements::put_place;
 use crate::elements::put_style;
 use crate::elements::put_title;
 use crate::elements::put_verdict;
+use crate::filling::put_text;
 use crate::pace::Pace;
-use crate::pace::cut_at;
+use crate::pace::Stand;
 use crate::pace::less;
 use crate::pace::line_time;
 use crate::pace::paced;
+use crate::pace::reach;
 use crate::pace::unpaced;
 use crate::page::Page;
-use crate::page::has_rows;
 use bundle_rows::MOST_ROWS;
 use bundle_rows::unchecked_row;
 use listing_text::put_word;
 use text_filling::fill;
-use text_filling::put;
 use verdict_rows::Ruling;
 use verdict_rows::Verdict;
 
@@ -91,10 +91,10 @@ fn put_behind(out: &mut [u8], at: usize, bundle: &[u8], count: usize, page: Page
 {
     let opened = put_pauses_open(out, at, page);
     let drawn = put_pauses(out, opened, bundle, count);
-    put(out, drawn, b"</svg>\n")
+    put_text(out, drawn, b"</svg>\n")
 }
 
-// A mark at each end of a field.
+// A mark at each end of a field; each goes on from the rows of the one before it.
 fn put_marks(out: &mut [u8], at: usize, bundle: &[u8], count: usize, page: Page) -> usize
     requires { ⌜ (checkOf (now bundle) ≡ reads count) × Bounded page ⌝ }
     ensures { λ r. ⌜ PutAt (marksDrawn page (recordsOf (now (bundle .entry))) (page .fields + 1) 60 0) (now (out .entry)) at r (now (out .exit)) ⌝ }
@@ -103,9 +103,15 @@ fn put_marks(out: &mut [u8], at: usize, bundle: &[u8], count: usize, page: Page)
     let mut left = page.fields + 1;
     let mut x: u64 = 60;
     let mut place: u64 = 0;
+    let mut at_row = Stand {
+        row: 0,
+        pace: unpaced(),
+    };
     while 0 < left {
-        let cut = cut_at(bundle, count, place);
-        next = put_mark(out, next, page.bottom, x, place + cut);
+        let here = reach(bundle, count, at_row, place);
+        let pace = here.pace;
+        next = put_mark(out, next, page.bottom, x, place + pace.cut);
+        at_row = here;
         left -= 1;
         x += 240;
         place += page.step;
@@ -143,24 +149,23 @@ fn put_rows(
     bundle: &[u8],
     count: usize,
     position: u8,
+    starts: &[u64],
     rulings: [Ruling; MOST_ROWS],
 ) -> usize
-    requires { ⌜ checkOf (now bundle) ≡ reads count ⌝ }
+    requires { ⌜ (checkOf (now bundle) ≡ reads count) × Placed (recordsOf (now bundle)) (now starts) ⌝ }
     ensures { λ r. ⌜ PutAt (rowsDrawn position (ruled rulings) unpaced 0 (recordsOf (now (bundle .entry)))) (now (out .entry)) at r (now (out .exit)) ⌝ }
 {
-    let mut pace = unpaced();
     let mut next = at;
     let mut i: usize = 0;
     while i < count {
         let here = i;
         let row = unchecked_row(bundle, here);
-        pace = paced(pace, bundle, count, here);
         i += 1;
         let own = row.position == position;
         if own {
             let ruling = rulings[here];
             let verdict = ruling.verdict;
-            next = put_row(out, next, bundle, count, here, verdict, pace.start);
+            next = put_row(out, next, bundle, count, here, verdict, starts[here]);
             continue;
         }
     }
@@ -174,16 +179,17 @@ fn put_lane(
     bundle: &[u8],
     count: usize,
     page: Page,
+    starts: &[u64],
     rulings: [Ruling; MOST_ROWS],
     y: u64,
     position: u8,
 ) -> usize
-    requires { ⌜ (checkOf (now bundle) ≡ reads count) × (y ≤ 4096) ⌝ }
+    requires { ⌜ (checkOf (now bundle) ≡ reads count) × Placed (recordsOf (now bundle)) (now starts) × (y ≤ 4096) ⌝ }
     ensures { λ r. ⌜ PutAt (laneDrawn page (ruled rulings) (recordsOf (now (bundle .entry))) y position) (now (out .entry)) at r (now (out .exit)) ⌝ }
 {
     let opened = put_lane_open(out, at, page, y, position);
-    let drawn = put_rows(out, opened, bundle, count, position, rulings);
-    put(out, drawn, b"</svg>\n")
+    let drawn = put_rows(out, opened, bundle, count, position, starts, rulings);
+    put_text(out, drawn, b"</svg>\n")
 }
 
 // A lane for each position that has rows.
@@ -193,9 +199,11 @@ fn put_lanes(
     bundle: &[u8],
     count: usize,
     page: Page,
+    used: [bool; 49],
+    starts: &[u64],
     rulings: [Ruling; MOST_ROWS],
 ) -> usize
-    requires { ⌜ checkOf (now bundle) ≡ reads count ⌝ }
+    requires { ⌜ (checkOf (now bundle) ≡ reads count) × Used (recordsOf (now bundle)) used × Placed (recordsOf (now bundle)) (now starts) ⌝ }
     ensures { λ r. ⌜ PutAt (lanesDrawn page (ruled rulings) (recordsOf (now (bundle .entry))) 96 (usedPositions (recordsOf (now (bundle .entry)))))
         (now (out .entry)) at r (now (out .exit)) ⌝ }
 {
@@ -205,16 +213,37 @@ fn put_lanes(
     let mut left: u8 = 48;
     while 0 < left {
         let here = position;
-        let own = has_rows(bundle, count, here);
+        let own = used[here as usize];
         position += 1;
         left -= 1;
         if own {
-            next = put_lane(out, next, bundle, count, page, rulings, y, here);
+            next = put_lane(out, next, bundle, count, page, starts, rulings, y, here);
             y += 24;
             continue;
         }
     }
     next
+}
+
+// The marks, the lanes, and the end.
+fn put_front(
+    out: &mut [u8],
+    at: usize,
+    bundle: &[u8],
+    count: usize,
+    page: Page,
+    used: [bool; 49],
+    starts: &[u64],
+    rulings: [Ruling; MOST_ROWS],
+) -> usize
+    requires { ⌜ (checkOf (now bundle) ≡ reads count) × Bounded page × Used (recordsOf (now bundle)) used × Placed (recordsOf (now bundle)) (now starts) ⌝ }
+    ensures { λ r. ⌜ PutAt (marksDrawn page (recordsOf (now (bundle .entry))) (page .fields + 1) 60 0
+        ++ (lanesDrawn page (ruled rulings) (recordsOf (now (bundle .entry))) 96 (usedPositions (recordsOf (now (bundle .entry)))) ++ text "</svg>\n"))
+        (now (out .entry)) at r (now (out .exit)) ⌝ }
+{
+    let marked = put_marks(out, at, bundle, count, page);
+    let drawn = put_lanes(out, marked, bundle, count, page, used, starts, rulings);
+    put_text(out, drawn, b"</svg>\n")
 }
 
 // The whole picture.
@@ -223,30 +252,14 @@ pub(crate) fn put_picture(
     bundle: &[u8],
     count: usize,
     page: Page,
+    used: [bool; 49],
+    starts: &[u64],
     rulings: [Ruling; MOST_ROWS],
 ) -> usize
-    requires { ⌜ (checkOf (now bundle) ≡ reads count) × Bounded page ⌝ }
+    requires { ⌜ (checkOf (now bundle) ≡ reads count) × Bounded page × Used (recordsOf (now bundle)) used × Placed (recordsOf (now bundle)) (now starts) ⌝ }
     ensures { λ r. ⌜ PutAt (pictureWith page (ruled rulings) (recordsOf (now (bundle .entry)))) (now (out .entry)) 0 r (now (out .exit)) ⌝ }
 {
     let headed = put_head(out, 0, page);
     let behind = put_behind(out, headed, bundle, count, page);
-    let marked = put_marks(out, behind, bundle, count, page);
-    put_front(out, marked, bundle, count, page, rulings)
-}
-
-// The lanes, and the end.
-fn put_front(
-    out: &mut [u8],
-    at: usize,
-    bundle: &[u8],
-    count: usize,
-    page: Page,
-    rulings: [Ruling; MOST_ROWS],
-) -> usize
-    requires { ⌜ checkOf (now bundle) ≡ reads count ⌝ }
-    ensures { λ r. ⌜ PutAt (lanesDrawn page (ruled rulings) (recordsOf (now (bundle .entry))) 96 (usedPositions (recordsOf (now (bundle .entry))))
-        ++ text "</svg>\n") (now (out .entry)) at r (now (out .exit)) ⌝ }
-{
-    let drawn = put_lanes(out, at, bundle, count, page, rulings);
-    put(out, drawn, b"</svg>\n")
+    put_front(out, behind, bundle, count, page, used, starts, rulings)
 }

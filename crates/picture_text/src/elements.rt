@@ -5,10 +5,12 @@ ghost use Rattle.text_filling.specs.Putting.{PutAt};
 ghost use Rattle.bundle_check.specs.Records.{Recorded};
 ghost use Rattle.picture_text.specs.Elements.{styleText, legendText, opensText, titleText, markText};
 ghost use Rattle.picture_text.specs.Elements.{pausesOpenText, laneText, verdictText, placeText, boxText};
+use crate::filling::put_between;
+use crate::filling::put_pair;
+use crate::filling::put_text;
 use crate::pace::less;
 use crate::page::Page;
 use text_filling::fill;
-use text_filling::put;
 use verdict_rows::Verdict;
 
 // The whole is so wide and so high.
@@ -28,7 +30,7 @@ pub(crate) fn put_opens(out: &mut [u8], at: usize, page: Page) -> usize
 pub(crate) fn put_style(out: &mut [u8], at: usize) -> usize
     ensures { λ r. ⌜ PutAt styleText (now (out .entry)) at r (now (out .exit)) ⌝ }
 {
-    put(
+    put_text(
         out,
         at,
         b"<style>\n\
@@ -57,7 +59,7 @@ pub(crate) fn put_style(out: &mut [u8], at: usize) -> usize
 pub(crate) fn put_legend(out: &mut [u8], at: usize) -> usize
     ensures { λ r. ⌜ PutAt legendText (now (out .entry)) at r (now (out .exit)) ⌝ }
 {
-    put(
+    put_text(
         out,
         at,
         b"<text x='60' y='46'>sent</text>\n\
@@ -158,40 +160,42 @@ pub(crate) fn put_lane_open(out: &mut [u8], at: usize, page: Page, y: u64, posit
 pub(crate) fn put_verdict(out: &mut [u8], at: usize, verdict: Verdict, end: u64) -> usize
     ensures { λ r. ⌜ PutAt (verdictText verdict end) (now (out .entry)) at r (now (out .exit)) ⌝ }
 {
-    let ends = [end];
     match verdict {
-        Verdict::Wake => put(out, at, b"<g class='wake'><title>wake-up: "),
-        Verdict::First => fill(
+        Verdict::Wake => put_text(out, at, b"<g class='wake'><title>wake-up: "),
+        Verdict::First => put_between(
             out,
             at,
-            b"<rect class='window' x='%' y='1' width='450' height='22'/>\n<g class='first'><title>first send: ",
-            &ends,
+            b"<rect class='window' x='",
+            end,
+            b"' y='1' width='450' height='22'/>\n<g class='first'><title>first send: ",
         ),
-        Verdict::Resend => fill(
+        Verdict::Resend => put_between(
             out,
             at,
-            b"<rect class='window' x='%' y='1' width='450' height='22'/>\n<g class='resend'><title>resend: ",
-            &ends,
+            b"<rect class='window' x='",
+            end,
+            b"' y='1' width='450' height='22'/>\n<g class='resend'><title>resend: ",
         ),
-        Verdict::Refused(n) => {
-            let numbers = [n as u64];
-            fill(
-                out,
-                at,
-                b"<g class='refused'><title>refused by %: ",
-                &numbers,
-            )
-        },
-        Verdict::Counts => put(out, at, b"<g class='counts'><title>counts: "),
-        Verdict::LeftOver => put(out, at, b"<g class='left-over'><title>left over: "),
-        Verdict::Late => put(out, at, b"<g class='late'><title>late: "),
-        Verdict::Second => put(out, at, b"<g class='second'><title>second: "),
-        Verdict::Damaged(n) => {
-            let numbers = [n as u64];
-            fill(out, at, b"<g class='damaged'><title>damaged, %: ", &numbers)
-        },
-        Verdict::WrongKind => put(out, at, b"<g class='wrong-kind'><title>wrong kind: "),
-        Verdict::Unasked => put(out, at, b"<g class='unasked'><title>not asked for: "),
+        Verdict::Refused(n) => put_between(
+            out,
+            at,
+            b"<g class='refused'><title>refused by ",
+            n as u64,
+            b": ",
+        ),
+        Verdict::Counts => put_text(out, at, b"<g class='counts'><title>counts: "),
+        Verdict::LeftOver => put_text(out, at, b"<g class='left-over'><title>left over: "),
+        Verdict::Late => put_text(out, at, b"<g class='late'><title>late: "),
+        Verdict::Second => put_text(out, at, b"<g class='second'><title>second: "),
+        Verdict::Damaged(n) => put_between(
+            out,
+            at,
+            b"<g class='damaged'><title>damaged, ",
+            n as u64,
+            b": ",
+        ),
+        Verdict::WrongKind => put_text(out, at, b"<g class='wrong-kind'><title>wrong kind: "),
+        Verdict::Unasked => put_text(out, at, b"<g class='unasked'><title>not asked for: "),
     }
 }
 
@@ -199,32 +203,38 @@ pub(crate) fn put_verdict(out: &mut [u8], at: usize, verdict: Verdict, end: u64)
 pub(crate) fn put_place(out: &mut [u8], at: usize, direction: u8, position: u8, time: u32) -> usize
     ensures { λ r. ⌜ PutAt (placeText direction position time) (now (out .entry)) at r (now (out .exit)) ⌝ }
 {
-    let numbers = [position as u64, time as u64];
+    let named = position as u64;
+    let began = time as u64;
     let sent = direction == 0;
     if sent {
-        return fill(out, at, b"position %, sent at %, ", &numbers);
+        return put_pair(out, at, b"position ", named, b", sent at ", began, b", ");
     }
-    fill(out, at, b"position %, heard at %, ", &numbers)
+    put_pair(out, at, b"position ", named, b", heard at ", began, b", ")
 }
 
 // Its box.
 pub(crate) fn put_box(out: &mut [u8], at: usize, direction: u8, x: u64, width: u64) -> usize
     ensures { λ r. ⌜ PutAt (boxText direction x width) (now (out .entry)) at r (now (out .exit)) ⌝ }
 {
-    let numbers = [x, width];
     let sent = direction == 0;
     if sent {
-        return fill(
+        return put_pair(
             out,
             at,
-            b"</title><rect x='%' y='3' width='%' height='8'/></g>\n",
-            &numbers,
+            b"</title><rect x='",
+            x,
+            b"' y='3' width='",
+            width,
+            b"' height='8'/></g>\n",
         );
     }
-    fill(
+    put_pair(
         out,
         at,
-        b"</title><rect x='%' y='13' width='%' height='8'/></g>\n",
-        &numbers,
+        b"</title><rect x='",
+        x,
+        b"' y='13' width='",
+        width,
+        b"' height='8'/></g>\n",
     )
 }

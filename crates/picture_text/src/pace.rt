@@ -8,8 +8,9 @@ ghost use Rattle.bundle_check.specs.Bundles.{checkOf};
 ghost use Rattle.bundle_check.specs.Records.{recordsOf};
 ghost use Rattle.bundle_check.specs.Walks.{endOf};
 ghost use Rattle.replay_counting.specs.Ears.{rowIn};
-ghost use Rattle.picture_text.specs.Timing.{lineTime, pacedBy, paced, unpaced, cutAt, Steady};
+ghost use Rattle.picture_text.specs.Timing.{lineTime, pacedBy, paced, unpaced, Steady, Placed, Reached};
 use bench_clock::Clock;
+use bundle_rows::MOST_ROWS;
 use bundle_rows::unchecked_row;
 use replay_counting::CHARACTER;
 
@@ -79,31 +80,49 @@ pub(crate) fn paced(pace: Pace, bundle: &[u8], count: usize, i: usize) -> Pace
     paced_by(pace, row.time, width)
 }
 
-// After all rows of an accepted bundle.
-pub(crate) fn pace_of(bundle: &[u8], count: usize) -> Pace
-    requires { ⌜ checkOf (now bundle) ≡ reads count ⌝ }
-    ensures { λ r. ⌜ (r ≡ endOf paced unpaced (recordsOf (now (bundle .entry)))) × Steady count r ⌝ }
-{
-    let mut pace = unpaced();
-    for i in 0..count {
-        pace = paced(pace, bundle, count, i);
-    }
-    pace
+// Where each row is drawn, and the pace after all rows.
+pub(crate) struct Paces {
+    pub(crate) starts: [u64; MOST_ROWS],
+    pub(crate) last: Pace,
 }
 
-// What is left out before a place of the picture.
-pub(crate) fn cut_at(bundle: &[u8], count: usize, place: u64) -> u64
+// The one walk that paces the rows of an accepted bundle.
+pub(crate) fn paces_of(bundle: &[u8], count: usize) -> Paces
     requires { ⌜ checkOf (now bundle) ≡ reads count ⌝ }
-    ensures { λ r. ⌜ (r ≡ cutAt place unpaced (recordsOf (now (bundle .entry)))) × (r ≤ 4294967296 * 512) ⌝ }
+    ensures { λ r. ⌜ (r .last ≡ endOf paced unpaced (recordsOf (now (bundle .entry)))) × Steady count (r .last)
+        × Placed (recordsOf (now (bundle .entry))) (r .starts) ⌝ }
 {
+    let mut starts = [0u64; MOST_ROWS];
     let mut pace = unpaced();
     for i in 0..count {
         let next = paced(pace, bundle, count, i);
-        let past = place < next.start;
-        if past {
-            return pace.cut;
-        }
+        starts[i] = next.start;
         pace = next;
     }
-    pace.cut
+    Paces { starts, last: pace }
+}
+
+// The row that a place of the picture stands before, and the pace up to there.
+pub(crate) struct Stand {
+    pub(crate) row: usize,
+    pub(crate) pace: Pace,
+}
+
+// On from a row to the one that a place stands before.
+pub(crate) fn reach(bundle: &[u8], count: usize, from: Stand, place: u64) -> Stand
+    requires { ⌜ (checkOf (now bundle) ≡ reads count) × (from .row ≤ count) × Steady (from .row) (from .pace) ⌝ }
+    ensures { λ r. ⌜ (r .row ≤ count) × Steady (r .row) (r .pace) × Reached (recordsOf (now (bundle .entry))) place from r ⌝ }
+{
+    let mut row = from.row;
+    let mut pace = from.pace;
+    while row < count {
+        let next = paced(pace, bundle, count, row);
+        let past = place < next.start;
+        if past {
+            return Stand { row, pace };
+        }
+        pace = next;
+        row += 1;
+    }
+    Stand { row, pace }
 }

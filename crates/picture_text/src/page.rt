@@ -1,14 +1,16 @@
 // The sizes of a picture.
 ghost use mathlib.Core.Path.{_≡_};
+ghost use mathlib.Core.List.{List};
 ghost use Prim.Native.Nat.{_≤_};
 ghost use lib.ListN.{length};
 ghost use Rattle.mbus_rules.specs.Answers.{reads};
 ghost use Rattle.bundle_check.specs.Bundles.{checkOf};
-ghost use Rattle.bundle_check.specs.Records.{recordsOf};
-ghost use Rattle.picture_text.specs.Pages.{hasRows, usedPositions, scaleFor, fieldsFor, pageFor, pageOf, Bounded};
+ghost use Rattle.bundle_check.specs.Records.{Recorded, recordsOf};
+ghost use Rattle.picture_text.specs.Pages.{usedPositions, scaleFor, fieldsFor, pageFor, Bounded, Used, Planned};
 use crate::pace::less;
 use crate::pace::most;
-use crate::pace::pace_of;
+use crate::pace::paces_of;
+use bundle_rows::MOST_ROWS;
 use bundle_rows::unchecked_row;
 
 // How many rows and lanes there are; the bit times of a px; how many fields of 240 px, and their bit times; how wide the lanes are, where the numbers
@@ -27,31 +29,29 @@ pub(crate) struct Page {
     pub(crate) span: u64,
 }
 
-// A position has rows.
-pub(crate) fn has_rows(bundle: &[u8], count: usize, position: u8) -> bool
+// Whether each position has rows, in its place.
+pub(crate) fn used_in(bundle: &[u8], count: usize) -> [bool; 49]
     requires { ⌜ checkOf (now bundle) ≡ reads count ⌝ }
-    ensures { λ r. ⌜ r ≡ hasRows position (recordsOf (now (bundle .entry))) ⌝ }
+    ensures { λ r. ⌜ Used (recordsOf (now (bundle .entry))) r ⌝ }
 {
+    let mut used = [false; 49];
     for i in 0..count {
         let row = unchecked_row(bundle, i);
-        let own = row.position == position;
-        if own {
-            return true;
-        }
+        let position = row.position as usize;
+        used[position] = true;
     }
-    false
+    used
 }
 
 // How many positions have rows.
-fn used_positions(bundle: &[u8], count: usize) -> u64
-    requires { ⌜ checkOf (now bundle) ≡ reads count ⌝ }
-    ensures { λ r. ⌜ (r ≡ length (usedPositions (recordsOf (now (bundle .entry))))) × (r ≤ 48) ⌝ }
+fn used_positions(used: [bool; 49]) -> u64
+    ensures { λ r. ⌜ ((ks : List Recorded) → Used ks used → r ≡ length (usedPositions ks)) × (r ≤ 48) ⌝ }
 {
     let mut found: u64 = 0;
-    let mut position: u8 = 1;
-    let mut left: u8 = 48;
+    let mut position: usize = 1;
+    let mut left: usize = 48;
     while 0 < left {
-        let own = has_rows(bundle, count, position);
+        let own = used[position];
         position += 1;
         left -= 1;
         if own {
@@ -111,13 +111,23 @@ fn page_for(rows: u64, lanes: u64, end: u64) -> Page
     }
 }
 
-// The sizes of the picture of an accepted bundle.
-pub(crate) fn page_of(bundle: &[u8], count: usize) -> Page
+// What the rows of an accepted bundle ask for: the sizes, the positions that have rows, and where each row is drawn.
+pub(crate) struct Plan {
+    pub(crate) page: Page,
+    pub(crate) used: [bool; 49],
+    pub(crate) starts: [u64; MOST_ROWS],
+}
+
+pub(crate) fn plan_of(bundle: &[u8], count: usize) -> Plan
     requires { ⌜ checkOf (now bundle) ≡ reads count ⌝ }
-    ensures { λ r. ⌜ (r ≡ pageOf (recordsOf (now (bundle .entry)))) × Bounded r ⌝ }
+    ensures { λ r. ⌜ Planned (recordsOf (now (bundle .entry))) r ⌝ }
 {
-    let lanes = used_positions(bundle, count);
-    let pace = pace_of(bundle, count);
-    let end = less(pace.busy, pace.cut);
-    page_for(count as u64, lanes, end)
+    let used = used_in(bundle, count);
+    let lanes = used_positions(used);
+    let paces = paces_of(bundle, count);
+    let last = paces.last;
+    let end = less(last.busy, last.cut);
+    let page = page_for(count as u64, lanes, end);
+    let starts = paces.starts;
+    Plan { page, used, starts }
 }

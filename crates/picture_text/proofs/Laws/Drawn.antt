@@ -9,7 +9,12 @@ use borrow.Author.Tests.{ltb-true, ltb-false, lt-ltb, le-ltb}
 use lib.Dec.{eqb, ltb}
 use lib.ListN.{length, getD, drop, replicate}
 use lib.Seq.{sets, sets-eq}
-use Rattle.mbus_rules.specs.Answers.{Answer, reads, refusal}
+use Rattle.mbus_rules.specs.Answers.{Answer, reads, refusal, within}
+use Rattle.mbus_rules.specs.declared.Outcome.{Outcome}
+use Rattle.mbus_rules.specs.declared.Outcome.the-variants.{Accepted}
+use Rattle.mbus_rules.specs.declared.Outcome.the-variants as outcomes
+use Rattle.replay_counting.proofs.Laws.Walking.{length-records}
+use Rattle.verdict_rows.proofs.Laws.Telling.{length-verdicts}
 use Rattle.bytes_lent.specs.Copying.{laid}
 use Rattle.bundle_rows.specs.Rows.{mostRows}
 use Rattle.bundle_check.specs.Bundles.{checkOf}
@@ -58,17 +63,45 @@ padded [] n i = blank n i
 padded (v ∷ vs) n zero = refl
 padded (v ∷ vs) n (suc i) = padded vs n i
 
-module _ (b : List ℕ) {n : ℕ} (e : checkOf b ≡ reads n) where
-  judged : {v : Verdicts} → v ≡ shownVerdicts (verdictsIn b) → v .rulings ≡ inPlaces (verdictsOf (recordsOf b))
+-- ---- what the verdicts tell of the check
+module _ (b : List ℕ) {v : Verdicts} (h : v ≡ shownVerdicts (verdictsIn b)) where
+  told : (a : Answer ℕ) → checkOf b ≡ a → v ≡ shownVerdicts (within (λ n. verdictsOf (recordsOf b)) a)
   unfolding verdictsIn
-  judged h = ap (λ (v : Verdicts). v .rulings) h ∙ rw e
+  told a e = h ∙ rw e
 
-  pub picture-drawn : {v : Verdicts} {p : Page} → v ≡ shownVerdicts (verdictsIn b) → p ≡ pageOf (recordsOf b)
-      → pictureWith p (ruled (v .rulings)) (recordsOf b) ≡ pictureOf b
+  pub judged-all : v .outcome ≡ Accepted → (checkOf b ≡ reads (v .count)) × (v .rulings ≡ inPlaces (verdictsOf (recordsOf b)))
+  judged-all o = go (checkOf b) refl
+    where
+      go : (a : Answer ℕ) → checkOf b ≡ a → (checkOf b ≡ reads (v .count)) × (v .rulings ≡ inPlaces (verdictsOf (recordsOf b)))
+      go (reads n) e =
+          let size : v .count ≡ n =
+          ap (λ (w : Verdicts). w .count) (told (reads n) e) ∙ length-verdicts [] (recordsOf b) ∙ length-records b n e in
+          (rw size e, ap (λ (w : Verdicts). w .rulings) (told (reads n) e))
+      go (refusal n) e =
+          let other : _≡_ {A = Outcome} Accepted (outcomes.Refused n) = sym o ∙ ap (λ (w : Verdicts). w .outcome) (told (refusal n) e) in
+          let z : _≡_ {A = ℕ} 0 1 = cc in
+          absurd (omega arith)
+
+  pub judged-not : {k : ℕ} → v .outcome ≡ outcomes.Refused k → checkOf b ≡ refusal k
+  judged-not {k} o = go (checkOf b) refl
+    where
+      go : (a : Answer ℕ) → checkOf b ≡ a → checkOf b ≡ refusal k
+      go (reads n) e =
+          let other : _≡_ {A = Outcome} (outcomes.Refused k) Accepted = sym o ∙ ap (λ (w : Verdicts). w .outcome) (told (reads n) e) in
+          let z : _≡_ {A = ℕ} 0 1 = cc in
+          absurd (omega arith)
+      go (refusal n) e =
+          let same : outcomes.Refused n ≡ outcomes.Refused k = sym (ap (λ (w : Verdicts). w .outcome) (told (refusal n) e)) ∙ o in
+          let one : n ≡ k = cc in
+          rw one at e
+
+module _ (b : List ℕ) {n : ℕ} (e : checkOf b ≡ reads n) where
+  pub picture-drawn : {rulings : List Ruling} {p : Page} → rulings ≡ inPlaces (verdictsOf (recordsOf b)) → p ≡ pageOf (recordsOf b)
+      → pictureWith p (ruled rulings) (recordsOf b) ≡ pictureOf b
   unfolding pictureOf
   picture-drawn h g =
       let vs = verdictsOf (recordsOf b) in
-      rw (g, judged h) (picture-same (ruled (inPlaces vs)) vs (padded vs (mostRows - length vs)) (pageOf (recordsOf b)) (recordsOf b))
+      rw (g, h) (picture-same (ruled (inPlaces vs)) vs (padded vs (mostRows - length vs)) (pageOf (recordsOf b)) (recordsOf b))
 
   -- ---- the answer
   module _ (out : List ℕ) {size : ℕ} (count : size ≡ tallied (0 + length (pictureOf b))) where

@@ -13,6 +13,7 @@ use Rattle.bundle_rows.specs.declared.Row.{Row}
 use Rattle.bundle_rows.specs.Rows.{bodyIn}
 use Rattle.bundle_check.specs.Bundles.{checkOf}
 use Rattle.bundle_check.specs.Records.{Recorded, recordsOf}
+use Rattle.bundle_check.proofs.Laws.BodyLaws.{unchecked-right}
 use Rattle.bundle_check.proofs.Laws.HoldingLaws.{blankRecord}
 use Rattle.replay_counting.specs.Ears.{rowIn}
 use Rattle.replay_counting.proofs.Laws.Walking.{record-there, length-records}
@@ -25,6 +26,9 @@ rest-rows b i n e h =
 
 pub no-rows : (b : List ℕ) (i n : ℕ) → checkOf b ≡ reads n → n ≤ i → drop i (recordsOf b) ≡ []
 no-rows b i n e h = drop-of-length-le (recordsOf b) {i = i} (omega (arith, length-records b n e))
+
+pub near-position : (b : List ℕ) (i n : ℕ) → checkOf b ≡ reads n → i < n → rowIn b i .position < 49
+near-position b i n e h = omega (arith, unchecked-right b i n e h .position-most)
 
 -- a body that lies in the bundle has the characters that its row says
 pub body-length : (b : List ℕ) (r : Row) → r .offset + r .length ≤ length b → length (bodyIn b r) ≡ r .length

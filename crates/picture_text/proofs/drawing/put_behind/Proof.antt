@@ -10,7 +10,7 @@ returns c =
     let back2 = c .before .before in
     let back7 = back2 .before .before .before .before .before in
     let back11 = back7 .before .before .before .before in
-    three (search needs) (back11 .put-pauses-open .ensures) (back7 .put-pauses .ensures) (back2 .put .ensures)
+    three (search needs) (back11 .put-pauses-open .ensures) (back7 .put-pauses .ensures) (back2 .put-text .ensures)
 
 pub put-behind-spec : {M : Type 1} → statement M
 put-behind-spec =

@@ -12,7 +12,7 @@ returns c =
     let back2 = c .before .before in
     let back7 = back2 .before .before .before .before .before in
     let back11 = back7 .before .before .before .before in
-    three (search needs) (back11 .put-lane-open .ensures) (back7 .put-rows .ensures) (back2 .put .ensures)
+    three (search needs) (back11 .put-lane-open .ensures) (back7 .put-rows .ensures) (back2 .put-text .ensures)
 
 pub put-lane-spec : {M : Type 1} → statement M
 put-lane-spec =

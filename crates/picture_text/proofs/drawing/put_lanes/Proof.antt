@@ -13,48 +13,51 @@ use Rattle.picture_text.proofs.drawing.put_lanes.Statement.{statement}
 use Rattle.picture_text.proofs.drawing.put_lanes.Tie as tie
 
 abbrev Inv-loop : tie.InvT-loop
-Inv-loop out₀ at bundle count page rulings next₀ y₀ position₀ left₀ out next y position left =
+Inv-loop out₀ at bundle count page starts rulings used next₀ y₀ position₀ left₀ out next y position left =
     (position + left ≡ 49) × (y + 24 * left ≤ 96 + 24 * 48)
     × Left (lanesDrawn page (ruled rulings) (recordsOf bundle) 96 (usedPositions (recordsOf bundle))) out₀ at
     (lanesDrawn page (ruled rulings) (recordsOf bundle) y (usedFrom (recordsOf bundle) left position)) next out
 
 abbrev μ-loop : tie.MeasureT-loop
-μ-loop out₀ at bundle count page rulings next₀ y₀ position₀ left₀ out next y position left = left
+μ-loop out₀ at bundle count page starts rulings used next₀ y₀ position₀ left₀ out next y position left = left
 
 loop-holds : tie.Need-loop-holds Inv-loop μ-loop
 loop-holds c = (refl, omega arith, left-all (search needs) (search needs))
 
+array-read-own : tie.Need-array-read-own Inv-loop μ-loop
+array-read-own c = omega (arith, c .before .loop .inv .0, c .loop-test .taken)
+
 put-lane-requires : tie.Need-put-lane-requires Inv-loop μ-loop
-put-lane-requires c κs = (c .before .before .before .before .before .before .before .pre, omega (arith, c .before .before .before .before .loop .inv .1))
+put-lane-requires c κs =
+    let at-loop = c .before .before .before in
+    let pre = at-loop .before .before .before .before .pre in
+    (pre .0, pre .2, omega (arith, at-loop .loop .inv .1))
 
 loop-again : tie.Need-loop-again Inv-loop μ-loop
 loop-again c =
     let back2 = c .before .before in
     let back4 = back2 .before .before in
     let back5 = back4 .before in
-    let back6 = back5 .before in
-    let back7 = back6 .before in
-    let at-loop = back7 in
-    let a = at-loop .before .before .before .args in
-    let ks = recordsOf (a .bundle .now) in
+    let at-loop = back5 .before in
+    let s = at-loop .before .before .before .before in
+    let ks = recordsOf (s .args .bundle .now) in
     let l = at-loop .loop in
     let inv = l .inv in
-    let used = used-own ks (l .position) (back6 .loop-test .taken) (sym (back4 .if1 .taken) ∙ back5 .has-rows .ensures) in
-    let next = lanes-next (a .page) (ruled (a .rulings)) ks (l .y) used in (
-      omega (arith, inv .0, back6 .loop-test .taken),
-      omega (arith, inv .1, back6 .loop-test .taken),
-      left-next (inv .2) next (back2 .put-lane .ensures),
-    )
+    let test = back5 .loop-test .taken in
+    let used = used-own ks (l .position) test (sym (back4 .if1 .taken) ∙ s .pre .1 .so (l .position) (omega (arith, inv .0, test))) in
+    let next = lanes-next (s .args .page) (ruled (s .args .rulings)) ks (l .y) used in
+    (omega (arith, inv .0, test), omega (arith, inv .1, test), left-next (inv .2) next (back2 .put-lane .ensures))
 
 loop-again-2 : tie.Need-loop-again-2 Inv-loop μ-loop
 loop-again-2 c =
-    let at-loop = c .before .before .before in
-    let a = at-loop .before .before .before .args in
-    let ks = recordsOf (a .bundle .now) in
+    let at-loop = c .before .before in
+    let s = at-loop .before .before .before .before in
+    let ks = recordsOf (s .args .bundle .now) in
     let l = at-loop .loop in
     let inv = l .inv in
-    let used = used-other ks (l .position) (c .before .before .loop-test .taken) (sym (c .if1 .left) ∙ c .before .has-rows .ensures) in
-    (omega (arith, inv .0, c .before .before .loop-test .taken), omega (arith, inv .1, c .before .before .loop-test .taken), rw used at (inv .2))
+    let test = c .before .loop-test .taken in
+    let used = used-other ks (l .position) test (sym (c .if1 .left) ∙ s .pre .1 .so (l .position) (omega (arith, inv .0, test))) in
+    (omega (arith, inv .0, test), omega (arith, inv .1, test), rw used at (inv .2))
 
 same-length : tie.Need-same-length Inv-loop μ-loop
 same-length c = c .before .loop .inv .2 .same
@@ -62,7 +65,7 @@ same-length c = c .before .loop .inv .2 .same
 returns : tie.Need-returns Inv-loop μ-loop
 returns c =
     let at-loop = c .before in
-    let a = at-loop .before .before .before .args in
+    let a = at-loop .before .before .before .before .args in
     let ks = recordsOf (a .bundle .now) in
     let l = at-loop .loop in
     let none = lanes-none (a .page) (ruled (a .rulings)) ks (l .y) (used-none ks (l .position) (c .loop-test .left)) in
@@ -75,7 +78,8 @@ put-lanes-spec =
     Inv-loop
     μ-loop
     loop-holds
-    (λ c κs. search needs)
+    (λ c. search needs)
+    array-read-own
     (λ c. search needs)
     (λ c. search needs)
     put-lane-requires

@@ -1,6 +1,6 @@
--- `picture_text::drawing::put_picture` meets its contract: four texts. Assumes nothing.
+-- `picture_text::drawing::put_picture` meets its contract: three texts. Assumes nothing.
 use Rattle.picture_text.specs.Pictures.{pictureWith}
-use Rattle.text_filling.proofs.Laws.WritingLaws.{four}
+use Rattle.text_filling.proofs.Laws.WritingLaws.{three}
 use native.Mathlib.Omega.{arith}
 use borrow.Author.Needs.{needs}
 use Rattle.picture_text.proofs.drawing.put_picture.Statement.{statement}
@@ -12,14 +12,12 @@ returns c =
     let back2 = c .before .before in
     let back6 = back2 .before .before .before .before in
     let back10 = back6 .before .before .before .before in
-    let back14 = back10 .before .before .before .before in
-    four (search needs) (back14 .put-head .ensures) (back10 .put-behind .ensures) (back6 .put-marks .ensures) (back2 .put-front .ensures)
+    three (search needs) (back10 .put-head .ensures) (back6 .put-behind .ensures) (back2 .put-front .ensures)
 
 pub put-picture-spec : {M : Type 1} → statement M
 put-picture-spec =
     tie.close
     (tie.spec
-    (λ c κs. search needs)
     (λ c κs. search needs)
     (λ c κs. search needs)
     (λ c κs. search needs)

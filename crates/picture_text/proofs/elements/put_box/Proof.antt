@@ -4,10 +4,10 @@ use Rattle.picture_text.proofs.elements.put_box.Statement.{statement}
 use Rattle.picture_text.proofs.elements.put_box.Tie as tie
 
 returns : tie.Need-returns
-returns c = let back6 = c .before .before .before .before .before .before in rw (back6 .if1 .taken) (c .before .before .fill .ensures)
+returns c = let at-if = c .before .before .before .before .before .before .before in rw (at-if .if1 .taken) (c .before .before .put-pair .ensures)
 
 returns-2 : tie.Need-returns-2
-returns-2 c = let back6 = c .before .before .before .before .before .before in rw (back6 .if1 .left) (c .before .before .fill2 .ensures)
+returns-2 c = let at-if = c .before .before .before .before .before .before .before in rw (at-if .if1 .left) (c .before .before .put-pair2 .ensures)
 
 pub put-box-spec : {M : Type 1} → statement M
 put-box-spec =
@@ -15,9 +15,11 @@ put-box-spec =
     (tie.spec
     (λ c. search needs)
     (λ c. search needs)
+    (λ c. search needs)
     (λ c κs. search needs)
     (λ c. search needs)
     returns
+    (λ c. search needs)
     (λ c. search needs)
     (λ c. search needs)
     (λ c κs. search needs)

@@ -6,7 +6,7 @@ use Rattle.picture_text.proofs.elements.put_legend.Tie as tie
 
 returns : tie.Need-returns
 unfolding legendText
-returns c = c .before .before .put .ensures
+returns c = c .before .before .put-text .ensures
 
 pub put-legend-spec : {M : Type 1} → statement M
 put-legend-spec = tie.close (tie.spec (λ c. search needs) (λ c κs. search needs) (λ c. search needs) returns)

@@ -6,7 +6,7 @@ use Rattle.picture_text.proofs.elements.put_style.Tie as tie
 
 returns : tie.Need-returns
 unfolding styleText
-returns c = c .before .before .put .ensures
+returns c = c .before .before .put-text .ensures
 
 pub put-style-spec : {M : Type 1} → statement M
 put-style-spec = tie.close (tie.spec (λ c. search needs) (λ c κs. search needs) (λ c. search needs) returns)
