@@ -109,7 +109,11 @@ fn limit_of(width: usize) -> u64
     if width < 6 {
         return 10000000000;
     }
-    if width < 8 { 100000000000000 } else { 10000000000000000 }
+    if width < 8 {
+        100000000000000
+    } else {
+        10000000000000000
+    }
 }
 
 // The number has more digits than the structure has places, of which a sign takes one.

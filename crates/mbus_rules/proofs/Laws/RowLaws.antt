@@ -14,7 +14,8 @@ use lib.Seq.{drop-cons}
 use Rattle.mbus_rules.specs.declared.UnitRow.{UnitRow}
 use Rattle.mbus_rules.specs.declared.StructureRow.{StructureRow}
 use Rattle.mbus_rules.specs.Lists.{any}
-use Rattle.mbus_rules.specs.Quantities.{table, noRow, firstWith, hasUnit, rowOf, quantityOf, isTime, energy, volume, inlet, outlet, flow, time, unknown}
+use Rattle.mbus_rules.specs.Quantities.{table, noRow, firstWith, hasUnit, rowOf, quantityOf, isTime}
+use Rattle.mbus_rules.specs.Quantities.{energy, volume, power, flow, inlet, outlet, time, unknown}
 use Rattle.mbus_rules.specs.Quantities.{structures, noStructure, hasStructure, structureOf, widthOf, isPacked, isBinary}
 use Rattle.mbus_rules.specs.Entries.{mayFall, lacking}
 use Rattle.mbus_rules.proofs.Laws.Tests.{by-test, below}
@@ -104,15 +105,16 @@ may-fall-three u =
 pub missing-five : (there : ℕ → Bool)
     → lacking there ≡ (not (there energy) || not (there volume) || not (there inlet) || not (there outlet) || not (there time))
 unfolding any
-missing-five there = go (there energy) (there volume) (there inlet) (there outlet) (there time)
+missing-five there = go (there energy) (there volume) (there power) (there flow) (there inlet) (there outlet) (there time)
   where
-    go : (e v i o t : Bool) → (not e || (not e || (not v || (not i || (not o || (not t || false)))))) ≡ (not e || not v || not i || not o || not t)
-    go false v i o t = refl
-    go true false i o t = refl
-    go true true false o t = refl
-    go true true true false t = refl
-    go true true true true false = refl
-    go true true true true true = refl
+    go : (e v p f i o t : Bool)
+        → lacking (λ q. getD (e ∷ v ∷ p ∷ f ∷ i ∷ o ∷ t ∷ []) q false) ≡ (not e || not v || not i || not o || not t)
+    go false v p f i o t = refl
+    go true false p f i o t = refl
+    go true true p f false o t = refl
+    go true true p f true false t = refl
+    go true true p f true true false = refl
+    go true true p f true true true = refl
 
 -- two that tell the same of each quantity lack the same
 pub lacking-same : (f g : ℕ → Bool) → ((q : ℕ) → q < 8 → f q ≡ g q) → lacking f ≡ lacking g
