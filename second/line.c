@@ -5,18 +5,16 @@
 
 #include <string.h>
 
-/* What a unit byte measures, whether data must have it, and whether it may be below zero (2026-07). */
-static const struct {
-    unsigned first, last;
-    int required, may_be_negative;
-} quantities[] = {
-    {0x00, 0x0F, 1, 0}, /* energy, in Wh and from 08 on in J (2026-06) */
-    {0x10, 0x17, 1, 0}, /* volume */
-    {0x28, 0x2F, 0, 0}, /* power */
-    {0x38, 0x3F, 0, 1}, /* flow */
-    {0x58, 0x5B, 1, 1}, /* inlet */
-    {0x5C, 0x5F, 1, 1}, /* outlet */
-    {0x6D, 0x6D, 1, 0}, /* time */
+/* The table of quantities: whoever asks what a unit byte is asks here. Powers go up with the unit bytes of a row. */
+static const struct second_unit_row rows[] = {
+    {0x00, 0x07, SECOND_ENERGY, 1, -3, 1, 0}, /* Wh */
+    {0x08, 0x0F, SECOND_ENERGY, 2, 0, 1, 0},  /* J (2026-06) */
+    {0x10, 0x17, SECOND_VOLUME, 3, -6, 1, 0}, /* m3 */
+    {0x28, 0x2F, SECOND_POWER, 4, -3, 0, 0},  /* W */
+    {0x38, 0x3F, SECOND_FLOW, 5, -6, 0, 1},   /* m3/h */
+    {0x58, 0x5B, SECOND_INLET, 6, -3, 1, 1},  /* degrees */
+    {0x5C, 0x5F, SECOND_OUTLET, 6, -3, 1, 1}, /* degrees */
+    {0x6D, 0x6D, SECOND_MOMENT, 0, 0, 1, 0},
 };
 
 /* The bytes of a value, and what they are; structure 06 is a point in time where the unit is 6D. */
@@ -31,7 +29,7 @@ static const struct {
 };
 
 enum {
-    QUANTITIES = sizeof quantities / sizeof quantities[0],
+    ROWS = sizeof rows / sizeof rows[0],
     STRUCTURES = sizeof structures / sizeof structures[0],
     HEADER_AT = 3,
     ENTRIES_AT = 15,
@@ -51,12 +49,18 @@ static size_t place_of(unsigned structure)
     return s;
 }
 
-static int quantity_of(unsigned unit)
+const struct second_unit_row *second_unit_row_of(unsigned unit)
 {
-    for (int q = 0; q < QUANTITIES; q++)
-        if (quantities[q].first <= unit && unit <= quantities[q].last)
-            return q;
-    return -1;
+    for (size_t i = 0; i < ROWS; i++)
+        if (rows[i].first <= unit && unit <= rows[i].last)
+            return &rows[i];
+    return NULL;
+}
+
+int second_measures(unsigned unit, enum second_quantity quantity)
+{
+    const struct second_unit_row *row = second_unit_row_of(unit);
+    return row != NULL && row->quantity == quantity;
 }
 
 static int is_odd(unsigned character)
@@ -139,14 +143,14 @@ static int entry_from(const unsigned char *b, size_t left, struct second_entry *
     if (left < 2)
         return 11;
     size_t s = place_of(b[0]);
-    int quantity = quantity_of(b[1]);
-    if (s == STRUCTURES || quantity < 0 || (b[1] == TIME_UNIT && b[0] != TIME_STRUCTURE) || left - 2 < structures[s].width)
+    const struct second_unit_row *row = second_unit_row_of(b[1]);
+    if (s == STRUCTURES || row == NULL || (b[1] == TIME_UNIT && b[0] != TIME_STRUCTURE) || left - 2 < structures[s].width)
         return 11;
     e->structure = b[0];
     e->unit = b[1];
     e->sort = b[1] == TIME_UNIT ? SECOND_TIME : structures[s].sort;
     *taken = 2 + structures[s].width;
-    int may_be_negative = quantities[quantity].may_be_negative;
+    int may_be_negative = row->may_be_negative;
     if (e->sort == SECOND_TIME)
         return moment_from(b + 2, e->moment) ? 0 : 13;
     if (e->sort == SECOND_DECIMAL)
@@ -157,20 +161,20 @@ static int entry_from(const unsigned char *b, size_t left, struct second_entry *
 
 static int entries_from(const unsigned char *body, size_t n, struct second_telegram *t)
 {
-    int seen[QUANTITIES] = {0};
+    int seen[SECOND_QUANTITIES] = {0};
     for (size_t at = ENTRIES_AT, taken; at < n; at += taken) {
         struct second_entry e = {0};
         int refusal = entry_from(body + at, n - at, &e, &taken);
         if (refusal != 0)
             return refusal;
-        int q = quantity_of(e.unit);
+        enum second_quantity q = second_unit_row_of(e.unit)->quantity;
         if (seen[q])
             return 14;
         seen[q] = 1;
         t->entries[t->count++] = e; /* there are as many places as quantities, and this one is new */
     }
-    for (int q = 0; q < QUANTITIES; q++)
-        if (quantities[q].required && !seen[q])
+    for (size_t i = 0; i < ROWS; i++)
+        if (rows[i].required && !seen[rows[i].quantity])
             return 16;
     return 0;
 }

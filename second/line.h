@@ -10,6 +10,27 @@ enum second_kind { SECOND_ACK, SECOND_READ, SECOND_ENTER, SECOND_LEAVE, SECOND_D
 /* What an entry's value is: packed digits, a point in time, or binary (document 02, 2026-06). */
 enum second_sort { SECOND_DECIMAL, SECOND_TIME, SECOND_BINARY };
 
+/* The quantities in the order of 01's table. */
+enum second_quantity {
+    SECOND_ENERGY,
+    SECOND_VOLUME,
+    SECOND_POWER,
+    SECOND_FLOW,
+    SECOND_INLET,
+    SECOND_OUTLET,
+    SECOND_MOMENT,
+    SECOND_QUANTITIES
+};
+
+/* A row of the table: its unit bytes, the unit (0 none, 1 Wh, 2 J, 3 m3, 4 W, 5 m3/h, 6 degrees Celsius), the first one's power of ten,
+   whether data must have the quantity, and whether it may be below zero (2026-07). */
+struct second_unit_row {
+    unsigned first, last;
+    enum second_quantity quantity;
+    unsigned unit;
+    int power, required, may_be_negative;
+};
+
 enum { SECOND_ENTRIES = 7, SECOND_PARTS = 7, SECOND_LONGEST = 89 };
 
 struct second_entry {
@@ -33,6 +54,10 @@ uint16_t second_character(unsigned byte);
 
 /* The byte of a long form's CS: the sum of some bytes, modulo 256. */
 unsigned second_sum(const unsigned char *bytes, size_t n);
+
+/* The row that has the unit byte, or null; and whether it is one of the quantity. */
+const struct second_unit_row *second_unit_row_of(unsigned unit);
+int second_measures(unsigned unit, enum second_quantity quantity);
 
 /* Each answers 0, or the number of a refusal; what it hands out counts only after 0. */
 int second_read(const uint16_t *line, size_t n, struct second_telegram *t);

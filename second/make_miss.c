@@ -121,7 +121,7 @@ static size_t entry_place(const struct bytes *body, int is_time)
 static size_t energy_place(const struct bytes *body)
 {
     size_t at = 15;
-    while (at + 1 < body->n && body->b[at + 1] > 0x0F)
+    while (at + 1 < body->n && !second_measures(body->b[at + 1], SECOND_ENERGY))
         at += 2 + bytes_of(body->b[at]);
     return at;
 }

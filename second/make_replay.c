@@ -103,7 +103,7 @@ static void put_figures(struct second_telegram *t)
         struct second_entry *e = &t->entries[i];
         if (e->sort == SECOND_TIME)
             memcpy(e->moment, talk.moment, sizeof talk.moment);
-        else if (e->unit >= 0x10 && e->unit <= 0x17)
+        else if (second_measures(e->unit, SECOND_VOLUME))
             put_volume(e);
     }
 }

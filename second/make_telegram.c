@@ -56,7 +56,7 @@ static int64_t binary_for(unsigned bytes)
 /* Flow, inlet and outlet are as often as not below zero: in digits the sign has the place of one, and zero has none. */
 static int64_t count_for(unsigned structure, unsigned unit)
 {
-    int is_negative = unit >= 0x38 && once_in(2);
+    int is_negative = second_unit_row_of(unit)->may_be_negative && once_in(2);
     int64_t size;
     if (structure < 0x08) {
         size = binary_for(bytes_of(structure));
@@ -80,20 +80,28 @@ static void good_moment(unsigned m[SECOND_PARTS])
     m[6] = once_in(2) ? 0 : below(8); /* as often as not one that contradicts the date */
 }
 
+/* One of the unit bytes of a quantity. */
+static unsigned some_unit(enum second_quantity quantity)
+{
+    unsigned units[256], n = 0;
+    for (unsigned unit = 0; unit < 256; unit++)
+        if (second_measures(unit, quantity))
+            units[n++] = unit;
+    return units[n == 1 ? 0 : below(n)];
+}
+
 /* An entry of a quantity, 0 to 6 in 01's order, of some structure or of this one, which is binary. */
 static struct second_entry good_entry(unsigned quantity, unsigned wanted)
 {
-    static const unsigned char units[] = {0x00, 0x10, 0x28, 0x38, 0x58, 0x5C, 0x6D};
     static const unsigned char digits[] = {0x0A, 0x0B, 0x0C, 0x0E}, binary[] = {0x01, 0x02, 0x03, 0x04, 0x06, 0x07};
     struct second_entry e = {0};
-    e.unit = units[quantity];
-    if (quantity == 6) {
+    e.unit = some_unit(quantity);
+    if (quantity == SECOND_MOMENT) {
         e.structure = 0x06;
         e.sort = SECOND_TIME;
         good_moment(e.moment);
         return e;
     }
-    e.unit += below(quantity == 0 ? 16 : quantity < 4 ? 8 : 4);
     e.sort = wanted != 0 || once_in(2) ? SECOND_BINARY : SECOND_DECIMAL;
     e.structure = wanted != 0 ? wanted : e.sort == SECOND_BINARY ? binary[below(6)] : digits[below(4)];
     e.count = count_for(e.structure, e.unit);

@@ -8,9 +8,8 @@ enum { TOTAL_MOST = 99999999, RETURN_AFTER = 4320000, BROADCAST = 0xFE, EIGHT_DI
 /* The entry of volume (0) or energy (1), in Wh or J; a template that can be written has both. */
 static struct second_entry *total_of(struct second_telegram *t, int which)
 {
-    unsigned first = which == 0 ? 0x10 : 0x00, last = which == 0 ? 0x17 : 0x0F;
     for (size_t i = 0; i < SECOND_ENTRIES && i < t->count; i++)
-        if (t->entries[i].unit >= first && t->entries[i].unit <= last)
+        if (second_measures(t->entries[i].unit, which == 0 ? SECOND_VOLUME : SECOND_ENERGY))
             return &t->entries[i];
     return NULL;
 }

@@ -6,6 +6,7 @@
 
 #include "bundle.h"
 #include "line.h"
+#include "meaning.h"
 #include "number.h"
 
 /* A row of the position that is no wake-up: its first character begins, and its last one ends. */
@@ -74,9 +75,11 @@ static uint64_t millilitres(const struct second_telegram *t)
 {
     uint64_t volume = 0;
     for (size_t i = 0; i < t->count; i++)
-        if (t->entries[i].unit >= 0x10 && t->entries[i].unit <= 0x17) {
+        if (second_measures(t->entries[i].unit, SECOND_VOLUME)) {
+            struct second_meaning meaning;
+            second_entry_meaning(t->entries[i].unit, &meaning);
             volume = (uint64_t)t->entries[i].count; /* no volume is below zero */
-            for (unsigned tens = t->entries[i].unit - 0x10; tens > 0 && volume <= 1000000000; tens--)
+            for (int tens = meaning.power + 6; tens > 0 && volume <= 1000000000; tens--)
                 volume *= 10;
         }
     return volume;

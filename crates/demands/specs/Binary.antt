@@ -1,12 +1,13 @@
 -- 02, 2026-06: binary-coded values, two's complement, low byte first; and joules.
-use Prim.Native.Nat.{ℕ, _+_, _%_, _<_}
+use Prim.Native.Nat.{ℕ, _+_, _%_, _<_, zero-le}
 use mathlib.Core.Bool.{true, false, not, _&&_, _||_, or-true}
 use mathlib.Core.List.{List, [], _∷_, map}
 use mathlib.Core.Path.{_≡_, refl, sym, ap₂, _∙_}
+use native.Mathlib.Nat.{sub-zero}
 use native.Mathlib.Omega.{arith}
-use borrow.Author.Tests.{eqb-true, le-leb, lt-leb}
+use borrow.Author.Tests.{eqb-true, le-ltb, not-true}
 use lib.Count.{onesIn}
-use lib.Dec.{leb, eqb}
+use lib.Dec.{eqb}
 use lib.IntN.{ℤ, pos, negℤ}
 use lib.ListN.{length}
 use Rattle.mbus_rules.specs.declared.Decimal.{Decimal}
@@ -25,12 +26,12 @@ use Rattle.mbus_rules.specs.Lines.{readBody, readLine}
 use Rattle.mbus_rules.specs.Lists.{at, any, total}
 use Rattle.mbus_rules.specs.Moments.{wrongMoment}
 use Rattle.mbus_rules.specs.Numbers.{number, bytesOf}
-use Rattle.mbus_rules.specs.Quantities.{quantityOf, powerOf, inJoules, widthOf, paired, isTime, isPacked, isBinary, energy}
+use Rattle.mbus_rules.specs.Quantities.{rowOf, quantityOf, unitOf, powerOf, inJoules, widthOf, paired, isTime, isPacked, isBinary, energy}
 use Rattle.mbus_rules.specs.Signs.{minus, belowZero}
 use Rattle.mbus_rules.specs.Telegrams.{dataOf}
 use Rattle.mbus_rules.specs.Writing.{usedEntry, wrongValue, bytesOfEntries, lineOf}
 use Rattle.mbus_rules.proofs.Laws.BinaryLaws.{binary-read, binary-written}
-use Rattle.mbus_rules.proofs.Laws.Tests.{by-test}
+use Rattle.mbus_rules.proofs.Laws.Tests.{by-test, below}
 use Rattle.demands.specs.Values.{Hold, packedEntry, exampleHeader, exampleTime}
 
 -- ---- two's complement, over every number of bytes
@@ -99,12 +100,12 @@ most =
 -- L = 35 and L = 83 are reached, and 89 characters
 pub shortest-data : (readLine (lineOf fewest) ≡ reads fewest) × (at (map byteOf (lineOf fewest)) 1 ≡ 35)
 unfolding readLine readBody readEntries any total odd carrier onesIn lineOf wrongHeader digitsOf minus wrongMoment quantityOf widthOf paired packed
-    bytesOfEntries number bytesOf
+    bytesOfEntries number bytesOf mayFall
 shortest-data = (refl, refl)
 
 pub longest-data : (readLine (lineOf most) ≡ reads most) × (at (map byteOf (lineOf most)) 1 ≡ 83) × (length (lineOf most) ≡ 89)
 unfolding readLine readBody readEntries any total odd carrier onesIn lineOf wrongHeader digitsOf minus wrongMoment quantityOf widthOf paired packed
-    bytesOfEntries number bytesOf
+    bytesOfEntries number bytesOf mayFall
 longest-data = (refl, refl, refl)
 
 -- Wh and J in one telegram repeat a quantity
@@ -161,13 +162,16 @@ negative-refused st unit b t n = rw (t, n)
 
 -- unit bytes 08 to 0F: the quantity energy, 10^n J; 00 to 07 are Wh
 pub joules-are-energy : (n : ℕ) → n < 8 → (inJoules (8 + n) ≡ true) × (inJoules n ≡ false) × (quantityOf (8 + n) ≡ energy) × (powerOf (8 + n) ≡ pos n)
-unfolding quantityOf powerOf
+unfolding quantityOf unitOf powerOf
 joules-are-energy n h =
-    let low : leb 0x08 (8 + n) ≡ true = le-leb 0x08 (8 + n) (omega arith) in
-    let high : leb (8 + n) 0x0F ≡ true = le-leb (8 + n) 0x0F (omega arith) in
-    let all : leb 0x00 (8 + n) ≡ true = le-leb 0x00 (8 + n) (omega arith) in
-    let rest : (8 + n) % 8 ≡ n = omega arith in
-    (rw (low, high), rw (lt-leb 0x08 n h), rw (all, high), rw (low, high, rest))
+    let low : rowOf (8 + n) .4 ≡ 8 = eqb-true (rowOf (8 + n) .4) 8 (below 8 (λ k. eqb (rowOf (8 + k) .4) 8) refl n h) in
+    let less : rowOf (8 + n) .5 ≡ 0 = eqb-true (rowOf (8 + n) .5) 0 (below 8 (λ k. eqb (rowOf (8 + k) .5) 0) refl n h) in
+    let rest : (8 + n) % 8 ≡ n = omega arith in (
+      below 8 (λ k. inJoules (8 + k)) refl n h,
+      not-true (inJoules n) (below 8 (λ k. not (inJoules k)) refl n h),
+      eqb-true (quantityOf (8 + n)) energy (below 8 (λ k. eqb (quantityOf (8 + k)) energy) refl n h),
+      rw (low, less, rest, le-ltb n 0 zero-le, sub-zero),
+    )
 
 -- ---- writing
 

@@ -5,10 +5,11 @@ use mathlib.Core.Path.{_≡_, refl}
 use lib.IntN.{pos, subℕ}
 use Rattle.mbus_rules.specs.Answers.{Answer, reads, refusal}
 use Rattle.mbus_rules.specs.Binary.{binaryOf, binaryBytes, fitsBinary}
-use Rattle.mbus_rules.specs.Quantities.{quantityOf, powerOf, energy, volume, power, flow, inlet, outlet, time}
+use Rattle.mbus_rules.specs.Quantities.{quantityOf, unitOf, powerOf, energy, volume, power, flow, inlet, outlet, time}
+use Rattle.mbus_rules.specs.Quantities.{noUnit, wattHour, joule, cubicMetre, watt, cubicMetreAnHour, degreeCelsius}
 use Rattle.mbus_rules.proofs.Laws.BinaryLaws.{binary-written}
 use Rattle.mbus_rules.proofs.Laws.Tests.{below}
-use Rattle.host_meaning.specs.Meanings.{Meaning, meant, meaningOf, unitOf, noUnit, wattHour, joule, cubicMetre, watt, cubicMetreAnHour, degreeCelsius}
+use Rattle.host_meaning.specs.Meanings.{Meaning, meant, meaningOf}
 
 -- what so many unit bytes mean, from one on
 unfoldable pub meanings : ℕ → ℕ → List (Answer Meaning)

@@ -1,9 +1,11 @@
 -- 02, "Real-time method, from the record": which answers count, what has no part in them, days and millilitres, and the error.
 use Prim.Native.Nat.{ℕ, _+_, _*_, _-_, _/_, _%_, _≤_, _<_}
-use mathlib.Core.Bool.{Bool, true, false}
+use mathlib.Core.Bool.{Bool, true, false, cond, not, _&&_, false≢true}
 use mathlib.Core.List.{List, [], _∷_, _++_, map}
-use mathlib.Core.Path.{_≡_, refl}
-use lib.IntN.{ℤ, pos, negℤ, _+ℤ_, _-ℤ_, _*ℤ_}
+use mathlib.Core.Path.{_≡_, refl, ap}
+use borrow.Author.Tests.{eqb-true, eq-eqb}
+use lib.Dec.{eqb}
+use lib.IntN.{ℤ, pos, negsuc, negℤ, natAbs, _+ℤ_, _-ℤ_, _*ℤ_}
 use lib.ListN.{getD}
 use Rattle.mbus_rules.specs.declared.Moment.{Moment}
 use Rattle.mbus_rules.specs.declared.Request.the-variants.{Read}
@@ -12,7 +14,9 @@ use Rattle.mbus_rules.specs.Answers.{reads, refusal}
 use Rattle.mbus_rules.specs.Host.{chars}
 use Rattle.mbus_rules.specs.Lists.{any}
 use Rattle.mbus_rules.specs.Moments.{daysIn, momentOf}
-use Rattle.mbus_rules.specs.Quantities.{quantityOf, powerOf}
+use Rattle.mbus_rules.specs.Quantities.{quantityOf, powerOf, volume}
+use Rattle.mbus_rules.specs.Signs.{belowZero}
+use Rattle.mbus_rules.proofs.Laws.Tests.{below}
 use Rattle.bench_clock.specs.Times.{replyTime}
 use Rattle.bench_clock.specs.Wakes.{isWake}
 use Rattle.bench_indication.specs.Errors.{tenths}
@@ -30,6 +34,7 @@ use Rattle.replay_counting.proofs.Laws.Others as others
 use Rattle.replay_counting.proofs.Laws.Meaning as meaning
 use Rattle.replay_calendar.specs.Days.{yearDays, monthDays, daysBefore, interval}
 use Rattle.replay_calendar.proofs.Laws.NextDay as days
+use Rattle.replay_error.specs.Figures.{millilitrePower}
 use Rattle.replay_error.specs.Errors.{errorOfFigures, errorBetween, rowTells, lastOf, replayOf}
 use Rattle.replay_error.proofs.Laws.Figuring as figuring
 use Rattle.replay_error.proofs.Laws.Replaying as replaying
@@ -100,19 +105,18 @@ pub days-by-the-calendar :
     × ((year : ℕ) → daysBefore (year + 1) 1 1 ≡ daysBefore year 12 31 + 1)
 days-by-the-calendar = (days.first-day, days.next-in-month, days.next-month, days.next-year)
 
--- The power of ten of each unit byte of a volume, 10 to 17, and six more for a millionth of a m³, is its low three bits: a whole number of
+-- Six more than the power of ten of a unit byte of a volume, a millilitre being a millionth of a m³, is never below zero: a whole number of
 -- millilitres.
-pub whole-millilitres :
-    (powerOf 0x10 +ℤ pos 6 ≡ pos (0x10 % 8))
-    × (powerOf 0x11 +ℤ pos 6 ≡ pos (0x11 % 8))
-    × (powerOf 0x12 +ℤ pos 6 ≡ pos (0x12 % 8))
-    × (powerOf 0x13 +ℤ pos 6 ≡ pos (0x13 % 8))
-    × (powerOf 0x14 +ℤ pos 6 ≡ pos (0x14 % 8))
-    × (powerOf 0x15 +ℤ pos 6 ≡ pos (0x15 % 8))
-    × (powerOf 0x16 +ℤ pos 6 ≡ pos (0x16 % 8))
-    × (powerOf 0x17 +ℤ pos 6 ≡ pos (0x17 % 8))
+whole-from : (z : ℤ) (n : ℕ) → (not (belowZero z) && eqb (natAbs z) n) ≡ true → z ≡ pos n
+whole-from (pos m) n e = ap pos (eqb-true m n e)
+whole-from (negsuc m) n e = absurd (false≢true e)
+
+pub whole-millilitres : (u : ℕ) → u < 256 → quantityOf u ≡ volume → powerOf u +ℤ pos 6 ≡ pos (millilitrePower u)
 unfolding powerOf quantityOf
-whole-millilitres = (refl, refl, refl, refl, refl, refl, refl, refl)
+whole-millilitres u h v =
+    let whole : ℕ → Bool = λ k. not (belowZero (powerOf k +ℤ pos 6)) && eqb (natAbs (powerOf k +ℤ pos 6)) (millilitrePower k) in
+    whole-from (powerOf u +ℤ pos 6) (millilitrePower u)
+    (rw (eq-eqb (quantityOf u) volume v) at (below 256 (λ k. cond (eqb (quantityOf k) volume) (whole k) true) refl u h))
 
 -- ---- the error
 

@@ -26,6 +26,7 @@ use Rattle.mbus_rules.specs.Signs.{minus, sizeBytes, marked, signedOf, wrongSig
 use Rattle.mbus_rules.specs.Telegrams.{dataOf}
 use Rattle.mbus_rules.specs.Writing.{wrongValue, bytesOfEntries, lineOf}
 use Rattle.mbus_rules.proofs.Laws.SignLaws.{signed-read, signed-written}
+use Rattle.mbus_rules.proofs.Laws.RowLaws.{may-fall-three}
 use Rattle.mbus_rules.proofs.Laws.Tests.{by-test, neither}
 use Rattle.demands.specs.Values.{packedEntry, exampleHeader, exampleTime}
 
@@ -51,7 +52,7 @@ minus-one-fifty = (refl, refl, refl, refl)
 pub chilled-is-read : (readLine (lineOf (chilled 0x0A)) ≡ reads (chilled 0x0A)) × (readLine (lineOf (chilled 0x0B)) ≡ reads (chilled 0x0B))
     × (readLine (lineOf (chilled 0x0C)) ≡ reads (chilled 0x0C)) × (readLine (lineOf (chilled 0x0E)) ≡ reads (chilled 0x0E))
 unfolding readLine readBody readEntries any total odd carrier onesIn lineOf wrongHeader digitsOf minus sizeBytes wrongMoment quantityOf widthOf paired packed
-    marked bytesOfEntries
+    marked bytesOfEntries mayFall
 chilled-is-read = (refl, refl, refl, refl)
 
 -- ---- what a sign says, over every number of bytes
@@ -86,7 +87,7 @@ pub sign-allowed : (st unit : ℕ) (b : List ℕ) → isBinary st ≡ false → 
     → (eqb (quantityOf unit) inlet || eqb (quantityOf unit) outlet || eqb (quantityOf unit) flow) ≡ true
 sign-allowed st unit b p t w m =
     let both = neither (wrongSigned b) (minus b && not (mayFall unit)) (rw (t, p) at w) in
-    not-false (mayFall unit) (rw m at (both .1))
+    sym (may-fall-three unit) ∙ not-false (mayFall unit) (rw m at (both .1))
 
 -- .. and there it is
 pub sign-read : (st unit : ℕ) (b : List ℕ) → isBinary st ≡ false → mayFall unit ≡ true → wrongSigned b ≡ false → wrongNumber st unit b ≡ false

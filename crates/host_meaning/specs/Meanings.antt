@@ -1,47 +1,12 @@
 -- 01, "Entry", the table of quantities, for C: what a unit byte means.
 use Prim.Native.Nat.{ℕ}
-use mathlib.Core.Bool.{cond, _||_}
 use mathlib.Core.List.{List, [], _∷_, _++_}
 use lib.Dec.{eqb}
 use lib.IntN.{ℤ}
 use Rattle.mbus_rules.specs.Answers.{Answer, reads, refuse}
 use Rattle.mbus_rules.specs.Binary.{binaryBytes}
-use Rattle.mbus_rules.specs.Quantities.{quantityOf, inJoules, powerOf, energy, volume, power, flow, inlet, outlet, unknown}
+use Rattle.mbus_rules.specs.Quantities.{quantityOf, unitOf, powerOf, unknown}
 use Rattle.bytes_lent.specs.Lent.{placed}
-
--- the units that the table names, by the header's numbers; a point in time has none
-abbrev pub noUnit : ℕ
-noUnit = 0
-
-abbrev pub wattHour : ℕ
-wattHour = 1
-
-abbrev pub joule : ℕ
-joule = 2
-
-abbrev pub cubicMetre : ℕ
-cubicMetre = 3
-
-abbrev pub watt : ℕ
-watt = 4
-
-abbrev pub cubicMetreAnHour : ℕ
-cubicMetreAnHour = 5
-
-abbrev pub degreeCelsius : ℕ
-degreeCelsius = 6
-
--- the unit beside the quantity; 02, 2026-06: that of 08–0F is J
-unfoldable pub unitOf : ℕ → ℕ
-unitOf u =
-    let q = quantityOf u in
-    cond (inJoules u) joule
-    (cond (eqb q energy) wattHour
-    (cond (eqb q volume) cubicMetre
-    (cond (eqb q power) watt
-    (cond (eqb q flow) cubicMetreAnHour
-    (cond (eqb q inlet || eqb q outlet) degreeCelsius
-    noUnit)))))
 
 -- What a unit byte means: a value's last digit is ten to the power, in the unit. The power of a point in time is 0.
 pub record Meaning : Type 0 where

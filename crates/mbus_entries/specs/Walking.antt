@@ -1,13 +1,13 @@
 -- All entries of a data telegram.
 use Prim.Native.Nat.{_-_}
-use mathlib.Core.Bool.{Bool, true, false, cond, not, _||_}
+use mathlib.Core.Bool.{Bool, true, false, cond}
 use mathlib.Core.List.{List, _++_}
 use lib.ListN.{length, getD, replicate}
 use Rattle.mbus_rules.specs.declared.Entry.{Entry}
 use Rattle.mbus_rules.specs.declared.Outcome.{Outcome}
 use Rattle.mbus_rules.specs.declared.Outcome.the-variants.{Accepted, Refused}
 use Rattle.mbus_rules.specs.Answers.{Answer, reads, refusal}
-use Rattle.mbus_rules.specs.Quantities.{energy, volume, inlet, outlet, time}
+use Rattle.mbus_rules.specs.Entries.{lacking}
 use Rattle.mbus_rules.specs.Telegrams.{blankEntry}
 use Rattle.mbus_entries.specs.declared.Entries.{Entries}
 
@@ -18,9 +18,7 @@ entriesShown (reads done) = record { outcome = Accepted; count = length done; en
 
 -- 16 by the marks
 abbrev pub unmarked : List Bool → Bool
-unmarked marks =
-    not (getD marks energy false) || not (getD marks volume false) || not (getD marks inlet false) || not (getD marks outlet false)
-    || not (getD marks time false)
+unmarked marks = lacking (λ q. getD marks q false)
 
 -- what stands after the last entry: 16 where no entry was refused
 abbrev pub outcomeAfter : Outcome → List Bool → Outcome

@@ -12,9 +12,9 @@ use mbus_fields::digits::digits_at;
 use mbus_fields::digits::signed_in;
 use mbus_fields::moments::timed_of;
 use mbus_fields::quantities::goes_with;
-use mbus_fields::quantities::low_width;
 use mbus_fields::quantities::may_fall;
 use mbus_fields::quantities::quantity_of;
+use mbus_fields::quantities::width_of;
 use mbus_rules::Decimal;
 use mbus_rules::Entry;
 use mbus_rules::Value;
@@ -115,7 +115,7 @@ fn try_low(rest: &[u8], quantity: u8) -> Tried
     let structure = rest[0];
     let unit = rest[1];
     let paired = goes_with(structure, quantity);
-    let width = low_width(structure);
+    let width = width_of(structure);
     if !paired | (rest.len() < 2 + width) {
         return Tried::Refused(11);
     }

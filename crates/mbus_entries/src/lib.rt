@@ -10,28 +10,13 @@ use crate::entry::next_entry;
 use mbus_rules::Entry;
 use mbus_rules::Outcome;
 use mbus_telegrams::blank_entry;
-use mbus_telegrams::table::ENERGY;
-use mbus_telegrams::table::INLET;
-use mbus_telegrams::table::OUTLET;
-use mbus_telegrams::table::TIME;
-use mbus_telegrams::table::VOLUME;
+use mbus_telegrams::table::any_missing;
 
 // The answer of reading entries. Where the outcome is a refusal, count and entries are blank.
 pub struct Entries {
     pub outcome: Outcome,
     pub count: usize,
     pub entries: [Entry; 7],
-}
-
-// A required quantity is not marked.
-fn any_missing(marks: [bool; 8]) -> bool
-    ensures { λ r. ⌜ r ≡ unmarked marks ⌝ }
-{
-    !marks[ENERGY as usize]
-        | !marks[VOLUME as usize]
-        | !marks[INLET as usize]
-        | !marks[OUTLET as usize]
-        | !marks[TIME as usize]
 }
 
 // What became of the entries once the last is read: 16 where a required quantity is missing.

@@ -1,5 +1,5 @@
 -- The fields of a data telegram as they are read: packed digits and the point in time, each with whether its rule is broken; binary; and a pair.
-use Prim.Native.Nat.{ℕ, zero, suc, _+_, _-_, _*_, _%_, min}
+use Prim.Native.Nat.{ℕ, zero, suc, _+_, _-_, _*_, min}
 use mathlib.Core.Bool.{Bool, true, false, cond, _&&_, _||_}
 use mathlib.Core.List.{List}
 use lib.Dec.{ltb, leb, eqb}
@@ -64,7 +64,3 @@ timedOf b = record { wrong = wrongMoment b; moment = momentOf b }
 -- 01, "Entry": time goes with structure 06 only, packed BCD and binary with each other quantity.
 abbrev pub goesWith : ℕ → ℕ → Bool
 goesWith st q = cond (eqb q time) (eqb st 0x06) ((isPacked st || isBinary st) && ltb q unknown)
-
--- the width of a structure by its low three bits
-abbrev pub lowWidth : ℕ → ℕ
-lowWidth st = cond (eqb st 0x07) 8 (st % 8)

@@ -10,10 +10,7 @@ ghost use Rattle.mbus_rules.specs.Digits.{overNine, digitsOf};
 ghost use Rattle.bytes_numbers.specs.Numbers.{bytesOf};
 ghost use Rattle.mbus_fields.specs.Fields.{packedOf, markOf, signOn, markedIn, signedBy, wideBy, wideOf};
 use bytes_numbers::number_at;
-use mbus_telegrams::table::EIGHT_DIGITS;
-use mbus_telegrams::table::FOUR_DIGITS;
-use mbus_telegrams::table::SIX_DIGITS;
-use mbus_telegrams::table::TWELVE_DIGITS;
+use mbus_telegrams::table::structure_of;
 
 // What packed digits hold: a digit is over nine, and the number that they are.
 pub struct Packed {
@@ -65,21 +62,34 @@ fn wide_at(rest: &[u8], width: usize) -> Wide
     Wide { width, word }
 }
 
-// The value of packed digits that stands behind structure and unit. A structure that the code names is read without a loop.
+// The same: a width that is named here is read without a loop.
+fn named_at(rest: &[u8], width: usize) -> Wide
+    requires { ⌜ width ≤ 8 ⌝ }
+    ensures { λ r. ⌜ r ≡ wideBy width (now (rest .entry)) ⌝ }
+{
+    if width == 4 {
+        return wide_at(rest, 4);
+    }
+    if width == 2 {
+        return wide_at(rest, 2);
+    }
+    if width == 3 {
+        return wide_at(rest, 3);
+    }
+    if width == 6 {
+        return wide_at(rest, 6);
+    }
+    wide_at(rest, width)
+}
+
+// The value of packed digits that stands behind structure and unit.
 pub fn digits_at(structure: u8, rest: &[u8]) -> Wide
     ensures { λ r. ⌜ r ≡ wideOf structure (now (rest .entry)) ⌝ }
 {
-    if structure == EIGHT_DIGITS {
-        return wide_at(rest, 4);
-    }
-    if structure == FOUR_DIGITS {
-        return wide_at(rest, 2);
-    }
-    if structure == SIX_DIGITS {
-        return wide_at(rest, 3);
-    }
-    if structure == TWELVE_DIGITS {
-        return wide_at(rest, 6);
+    let row = structure_of(structure);
+    let packed = row.2;
+    if packed {
+        return named_at(rest, row.1);
     }
     Wide { width: 0, word: 0 }
 }

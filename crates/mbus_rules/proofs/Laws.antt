@@ -23,6 +23,7 @@ pub mod NumberLaws
 pub mod BinaryLaws
 pub mod MomentLaws
 pub mod HeaderLaws
+pub mod RowLaws
 pub mod Seven
 pub mod EntryLaws
 pub mod LengthLaws

@@ -7,12 +7,13 @@ use lib.ListN.{length, take, drop}
 use Rattle.mbus_rules.specs.declared.Value.{Value}
 use Rattle.mbus_rules.specs.declared.Value.the-variants.{Number, Time, Binary}
 use Rattle.mbus_rules.specs.declared.Entry.{Entry}
+use Rattle.mbus_rules.specs.declared.UnitRow.{UnitRow}
 use Rattle.mbus_rules.specs.Lists.{at, any}
 use Rattle.mbus_rules.specs.Answers.{Answer, reads, refuse}
 use Rattle.mbus_rules.specs.Signs.{minus, signedOf, wrongSigned}
 use Rattle.mbus_rules.specs.Binary.{negative, binaryOf}
 use Rattle.mbus_rules.specs.Moments.{momentOf, wrongMoment}
-use Rattle.mbus_rules.specs.Quantities.{quantityOf, widthOf, paired, isTime, isBinary, energy, volume, flow, inlet, outlet, time}
+use Rattle.mbus_rules.specs.Quantities.{table, rowOf, quantityOf, widthOf, paired, isTime, isBinary}
 
 -- Structure byte, unit byte, value low byte first: the value's bytes of the entry that the list begins with, and its whole width.
 abbrev pub valueBytes : List ℕ → List ℕ
@@ -33,9 +34,9 @@ entryOf s = record { structure = at s 0; unit = at s 1; value = valueOf (at s 0)
 abbrev pub unfit : List ℕ → Bool
 unfit s = ltb (length s) 2 || not (paired (at s 0) (at s 1)) || ltb (length s) (entryWidth s)
 
--- 02, 2026-07: a minus is allowed for inlet, outlet and flow, for no other quantity; 2026-06: these may be negative
-abbrev pub mayFall : ℕ → Bool
-mayFall unit = eqb (quantityOf unit) inlet || eqb (quantityOf unit) outlet || eqb (quantityOf unit) flow
+-- the table says whether a quantity may be negative (02, 2026-06), by a minus too (2026-07)
+unfoldable pub mayFall : ℕ → Bool
+mayFall unit = rowOf unit .7
 
 -- 12: a BCD digit over 9 in an entry; minus zero, or a minus where none is allowed (02, 2026-07)
 abbrev pub wrongPacked : ℕ → List ℕ → Bool
@@ -59,9 +60,13 @@ wrongTime s = isTime (at s 1) && wrongMoment (valueBytes s)
 abbrev pub seen : ℕ → List Entry → Bool
 seen q done = any (λ (e : Entry). eqb (quantityOf (e .unit)) q) done
 
+-- a row of the table is required, and its quantity is not there
+abbrev pub lacking : (ℕ → Bool) → Bool
+lacking there = any (λ (r : UnitRow). r .6 && not (there (r .2))) table
+
 -- 16: energy, volume, inlet, outlet and time must be there
 abbrev pub missing : List Entry → Bool
-missing done = not (seen energy done) || not (seen volume done) || not (seen inlet done) || not (seen outlet done) || not (seen time done)
+missing done = lacking (λ q. seen q done)
 
 -- 11 to 14 are tried entry by entry from the left, 16 at the end. `passing` bytes of the entry before are still to be passed over.
 -- 02, 2026-05: no 15; an eighth entry repeats a quantity, and is 14 where it is not refused before.

@@ -52,6 +52,22 @@ pub struct Header {
     pub status: u8,
 }
 
+// A row of the table of quantities: its first and last unit byte; the quantity and its unit; the power of ten, which is what the unit byte
+// leaves by the one number, less the other; whether a telegram must have the quantity, and whether it may be below zero.
+pub struct UnitRow(
+    pub u8,
+    pub u8,
+    pub u8,
+    pub u8,
+    pub u8,
+    pub u8,
+    pub bool,
+    pub bool,
+);
+
+// A row of the structures: the structure byte, the bytes of a value, and whether they are packed digits or binary.
+pub struct StructureRow(pub u8, pub usize, pub bool, pub bool);
+
 // A telegram. What its kind does not use is zero, and so are the entry places past the count.
 pub struct Telegram {
     pub kind: Kind,

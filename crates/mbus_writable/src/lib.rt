@@ -4,8 +4,7 @@ ghost use lib.ListN.{take, drop};
 ghost use Prim.Native.Nat.{_^_, _≤_};
 ghost use Rattle.mbus_rules.specs.Lists.{any};
 ghost use mathlib.Core.Bool.{not};
-ghost use mathlib.Core.Bool.{false};
-ghost use Rattle.mbus_rules.specs.Quantities.{widthOf, isBinary};
+ghost use Rattle.mbus_rules.specs.Quantities.{widthOf};
 ghost use Rattle.mbus_rules.specs.Signs.{fitsSigned};
 ghost use Rattle.mbus_rules.specs.Writing.{usedValue, usedEntry, usedHeader, usedBody, wrongValue, wrongEntry, unwrittenHeader, wrongData, unwritable};
 ghost use Rattle.mbus_writable.specs.Together.{wrongTogether};
@@ -28,11 +27,8 @@ use mbus_rules::Kind;
 use mbus_rules::Telegram;
 use mbus_rules::Value;
 use mbus_telegrams::is_method;
-use mbus_telegrams::table::EIGHT_DIGITS;
-use mbus_telegrams::table::FOUR_DIGITS;
-use mbus_telegrams::table::SIX_DIGITS;
-use mbus_telegrams::table::TWELVE_DIGITS;
 use mbus_telegrams::table::UNIT_OF_TIME;
+use mbus_telegrams::table::any_missing;
 
 // A value that is not blank.
 fn used_value(value: Value) -> bool
@@ -90,33 +86,41 @@ fn used_body(t: Telegram) -> bool
     headed | (0 < t.count) | entered
 }
 
-// One more than the greatest number that the structure has digits for.
-fn limit_of(structure: u8) -> u64
-    requires { ⌜ isBinary structure ≡ false ⌝ }
-    ensures { λ r. ⌜ r ≡ 100 ^ widthOf structure ⌝ }
+// One more than the greatest number that so many bytes have digits for. The widths of the table's digits come first.
+fn limit_of(width: usize) -> u64
+    requires { ⌜ width ≤ 8 ⌝ }
+    ensures { λ r. ⌜ r ≡ 100 ^ width ⌝ }
 {
-    if structure == FOUR_DIGITS {
-        return 10000;
-    }
-    if structure == SIX_DIGITS {
-        return 1000000;
-    }
-    if structure == EIGHT_DIGITS {
+    if width == 4 {
         return 100000000;
     }
-    if structure == TWELVE_DIGITS {
-        1000000000000
+    if width == 2 {
+        return 10000;
+    }
+    if width == 3 {
+        return 1000000;
+    }
+    if width == 6 {
+        return 1000000000000;
+    }
+    if width < 2 {
+        return if width == 0 { 1 } else { 100 };
+    }
+    if width < 6 {
+        return 10000000000;
+    }
+    if width < 8 {
+        100000000000000
     } else {
-        1
+        10000000000000000
     }
 }
 
 // The number has more digits than the structure has places, of which a sign takes one.
 fn is_long(structure: u8, count: i64) -> bool
-    requires { ⌜ isBinary structure ≡ false ⌝ }
     ensures { λ r. ⌜ r ≡ not (fitsSigned (widthOf structure) count) ⌝ }
 {
-    let limit = limit_of(structure);
+    let limit = limit_of(width_of(structure));
     let size = size_of(count);
     let below = is_below_zero(count);
     if below {
@@ -189,7 +193,8 @@ fn wrong_entries(entries: [Entry; 7], count: usize) -> bool
         seen[quantity] = true;
         i += 1;
     }
-    wrong | !seen[0] | !seen[1] | !seen[4] | !seen[5] | !seen[6]
+    let missing = any_missing(seen);
+    wrong | missing
 }
 
 // A header, a count or entries that no data line has.

@@ -1,5 +1,5 @@
 -- 02, 2026-04: volumes are taken in millilitres, of which every unit byte gives a whole number; the meter's times.
-use Prim.Native.Nat.{ℕ, _*_, _%_, _^_}
+use Prim.Native.Nat.{ℕ, _+_, _-_, _*_, _%_, _^_}
 use mathlib.Core.Bool.{cond}
 use mathlib.Core.List.{List, [], _∷_}
 use lib.Dec.{eqb}
@@ -11,7 +11,7 @@ use Rattle.mbus_rules.specs.declared.Value.{Value}
 use Rattle.mbus_rules.specs.declared.Value.the-variants.{Number, Time, Binary}
 use Rattle.mbus_rules.specs.Lines.{readLine}
 use Rattle.mbus_rules.specs.Moments.{momentOf}
-use Rattle.mbus_rules.specs.Quantities.{quantityOf, volume, time}
+use Rattle.mbus_rules.specs.Quantities.{rowOf, quantityOf, volume, time}
 use Rattle.mbus_rules.specs.Telegrams.{blankEntry, shown}
 
 -- A volume's value is a count of its last digit, or a number in binary (2026-06), and never below zero; a point in time is none.
@@ -20,9 +20,13 @@ volumeCount (Number d) = natAbs (d .count)
 volumeCount (Time m) = 0
 volumeCount (Binary w) = natAbs (w .count)
 
--- The volume in millilitres of an entry: the unit bytes 10 to 17 are 10^(n−6) m³, which are 10^n ml, n being the low three bits.
+-- A cubic metre is 10^6 ml: 6 more than the power of ten of a unit byte, which no volume has below 0.
+abbrev pub millilitrePower : ℕ → ℕ
+millilitrePower u = u % rowOf u .4 + (6 - rowOf u .5)
+
+-- The volume in millilitres of an entry.
 unfoldable pub millilitres : Entry → ℕ
-millilitres e = volumeCount (e .value) * 10 ^ (e .unit % 8)
+millilitres e = volumeCount (e .value) * 10 ^ millilitrePower (e .unit)
 
 -- the meter time of a value; a number is none, and zeros stand for it
 abbrev pub noMoment : Moment

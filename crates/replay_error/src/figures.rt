@@ -2,7 +2,7 @@
 ghost use mathlib.Core.Path.{_≡_};
 ghost use Prim.Native.Nat.{_^_, _<_};
 ghost use Rattle.bundle_rows.specs.Rows.{uncheckedCharacters};
-ghost use Rattle.replay_error.specs.Figures.{volumeCount, millilitres, momentIn, entryWith, toldBy, lineTells};
+ghost use Rattle.replay_error.specs.Figures.{volumeCount, millilitrePower, millilitres, momentIn, entryWith, toldBy, lineTells};
 ghost use Rattle.replay_error.specs.Shown.{cappedVolume, shownTold};
 use bundle_rows::unchecked_characters;
 use mbus_fields::digits::size_of;
@@ -16,6 +16,7 @@ use mbus_rules::Value;
 use mbus_telegrams::blank_entry;
 use mbus_telegrams::table::TIME;
 use mbus_telegrams::table::VOLUME;
+use mbus_telegrams::table::row_of;
 
 // A volume in millilitres, 10^9 + 1 standing for every larger one, and a time.
 pub(crate) struct Figures {
@@ -56,13 +57,21 @@ fn ten_to(n: u8) -> u64
     }
 }
 
+// One of the last digit of a volume, in millilitres.
+fn digit_of(unit: u8) -> u64
+    ensures { λ r. ⌜ r ≡ 10 ^ millilitrePower unit ⌝ }
+{
+    let row = row_of(unit);
+    ten_to(unit % row.4) * ten_to(6 - row.5)
+}
+
 // The volume in millilitres of an entry. Whether it is over 10^9 is told without computing it, so that no value overflows.
 fn volume_of(e: Entry) -> u64
     ensures { λ r. ⌜ r ≡ cappedVolume (millilitres e) ⌝ }
 {
     let value = e.value;
     let count = volume_count(value);
-    let unit = ten_to(e.unit % 8);
+    let unit = digit_of(e.unit);
     if VOLUME_MOST / unit < count {
         return VOLUME_MOST + 1;
     }

@@ -5,13 +5,13 @@ use mathlib.Core.List.{List, [], _∷_}
 use mathlib.Core.Path.{_≡_, refl, sym, _∙_}
 use native.Mathlib.Nat.{div-add-mod'}
 use native.Mathlib.Omega.{arith}
-use borrow.Author.Tests.{eqb-true, eqb-false, eq-eqb, ne-eqb, lt-ltb, ltb-true, le-leb, leb-true, not-true, not-false}
+use borrow.Author.Tests.{eqb-true, eqb-false, eq-eqb, ne-eqb, lt-ltb, ltb-true, leb-true, not-true, not-false}
 use lib.Dec.{ltb, leb, eqb}
 use lib.IntN.{pos}
 use Rattle.mbus_rules.specs.declared.Entry.{Entry}
 use Rattle.mbus_rules.specs.declared.Value.the-variants.{Number}
 use Rattle.mbus_rules.specs.Answers.{Answer, reads, refusal, refuse}
-use Rattle.mbus_rules.specs.Quantities.{quantityOf, widthOf, paired}
+use Rattle.mbus_rules.specs.Quantities.{quantityOf, widthOf, paired, energy}
 use Rattle.mbus_rules.specs.Writing.{wrongEntry}
 use Rattle.mbus_rules.proofs.Laws.AnswerLaws.{reads-same}
 use Rattle.mbus_rules.proofs.Laws.Tests.{by-test, passed, below}
@@ -126,7 +126,8 @@ unit-nearest code n k h =
 
 stands : (u n : ℕ) → u < 16 → n < 1000000000000 → wrongEntry (record { structure = 0x0E; unit = u; value = Number (record { count = pos n }) }) ≡ false
 unfolding paired quantityOf widthOf
-stands u n h k = rw (ne-eqb u 0x6D (λ e. omega arith), le-leb 0 u (omega arith), le-leb u 15 (omega arith), lt-ltb n (100 ^ 6) (omega arith))
+stands u n h k =
+    rw (ne-eqb u 0x6D (λ e. omega arith), eqb-true (quantityOf u) energy (below 16 (λ v. eqb (quantityOf v) energy) refl u h), lt-ltb n (100 ^ 6) (omega arith))
 
 pub energy-stands : (count code : ℕ) → count < 100000000 → energyCode code ≡ true → wrongEntry (entryOf count code) ≡ false
 energy-stands count code h known =

@@ -9,26 +9,26 @@ use Rattle.host_meaning.proofs.skarrowith_entry_meaning.Tie as tie
 returns : tie.Need-returns
 returns c =
     let start = c .before .before .before in
-    in-no-row (start .args .unit) (now (start .args .meaning)) (c .before .quantity-of .ensures) (c .if1 .taken)
+    in-no-row (start .args .unit) (now (start .args .meaning)) (c .before .row-of .ensures) (c .if1 .taken)
 
 returns-2 : tie.Need-returns-2
 returns-2 c =
     let stored = c .before .before .before in
     let made = stored .before .before .before in
-    let known = made .before .before in
+    let known = made .before in
     let start = known .before .before .before in
-    no-place (start .args .unit) (now (start .args .meaning)) (known .before .quantity-of .ensures) (known .if1 .left)
-    (made .before .unit-of .ensures) (made .power-byte .ensures) (stored .store .ensures .1)
+    no-place (start .args .unit) (now (start .args .meaning)) (known .before .row-of .ensures) (known .if1 .left)
+    (made .power-byte .ensures) (stored .store .ensures .1)
     (sym (stored .store .ensures .0) ∙ c .if2 .taken)
 
 returns-3 : tie.Need-returns-3
 returns-3 c =
     let stored = c .before .before .before in
     let made = stored .before .before .before in
-    let known = made .before .before in
+    let known = made .before in
     let start = known .before .before .before in
-    in-place (start .args .unit) (now (start .args .meaning)) (known .before .quantity-of .ensures) (known .if1 .left)
-    (made .before .unit-of .ensures) (made .power-byte .ensures) (stored .store .ensures .1)
+    in-place (start .args .unit) (now (start .args .meaning)) (known .before .row-of .ensures) (known .if1 .left)
+    (made .power-byte .ensures) (stored .store .ensures .1)
     (sym (stored .store .ensures .0) ∙ c .if2 .left)
 
 pub skarrowith-entry-meaning-spec : {M : Type 1} → statement M
@@ -38,7 +38,6 @@ skarrowith-entry-meaning-spec =
     (λ c κs. search needs)
     (λ c. search needs)
     returns
-    (λ c κs. search needs)
     (λ c κs. search needs)
     (λ c. search needs)
     (λ c κs. search needs)

@@ -18,7 +18,7 @@ use Rattle.mbus_rules.specs.Moments.{wrongMoment}
 use Rattle.mbus_rules.specs.Entries.{mayFall, valueBytes, unfit, wrongBinary}
 use Rattle.mbus_rules.specs.Bytes.{Bytes}
 use Rattle.mbus_rules.proofs.Laws.ByteLaws.{bytes-take, bytes-drop}
-use Rattle.mbus_rules.proofs.Laws.LengthLaws.{width-most}
+use Rattle.mbus_rules.proofs.Laws.RowLaws.{time-quantity, quantity-few, width-most, width-least, low-packed, high-binary}
 use Rattle.mbus_rules.proofs.Laws.Tests.{by-test, neither, passed}
 use Rattle.mbus_rules.proofs.Laws.TestLaws.{every, not-refused, within-reads}
 use Rattle.mbus_rules.specs.Numbers.{number}
@@ -26,9 +26,9 @@ use Rattle.mbus_fields.specs.declared.binary.Coded.{Coded}
 use Rattle.mbus_fields.specs.declared.digits.Signed.{Signed}
 use Rattle.mbus_fields.specs.declared.moments.Timed.{Timed}
 use Rattle.mbus_fields.specs.declared.digits.Wide.{Wide}
-use Rattle.mbus_fields.specs.Fields.{signedBy, signedIn, codedOf, timedOf, goesWith, lowWidth, wideOf}
+use Rattle.mbus_fields.specs.Fields.{signedBy, signedIn, codedOf, timedOf, goesWith, wideOf}
 use Rattle.mbus_fields.proofs.Laws.MarkLaws.{signed-by}
-use Rattle.mbus_fields.proofs.Laws.TableLaws.{time-quantity, goes-paired, low-width, low-most, quantity-few}
+use Rattle.mbus_fields.proofs.Laws.TableLaws.{goes-paired}
 use Rattle.mbus_entries.specs.declared.entry.Valued.{Valued}
 use Rattle.mbus_entries.specs.declared.entry.Tried.{Tried}
 use Rattle.mbus_entries.specs.Trying.{Long, Led, numbered, lowValued, digitsValued, valued, valuedShown, withValue}
@@ -82,38 +82,8 @@ valuedShown-same a (reads v) e = value-held a e
 
 -- ---- the structure
 
--- the structures of digits stand from 8 on, and those of binary below
-packed-each : (P : ℕ → Type 0) → P 0x0A → P 0x0B → P 0x0C → P 0x0E → (st : ℕ) → isPacked st ≡ true → P st
-packed-each P pa pb pc pe st p =
-    by-test (eqb st 0x0A) (is 0x0A pa) λ a.
-    by-test (eqb st 0x0B) (is 0x0B pb) λ b.
-    by-test (eqb st 0x0C) (is 0x0C pc) λ c.
-    by-test (eqb st 0x0E) (is 0x0E pe) λ d. absurd (false≢true (rw (a, b, c, d) at p))
-  where
-    is : (k : ℕ) → P k → eqb st k ≡ true → P st
-    is k so h = rw (eqb-true st k h) so
-
-low-packed : (st : ℕ) → st < 8 → isPacked st ≡ false
-low-packed st h = rw (
-  ne-eqb st 0x0A (λ e. omega arith),
-  ne-eqb st 0x0B (λ e. omega arith),
-  ne-eqb st 0x0C (λ e. omega arith),
-  ne-eqb st 0x0E (λ e. omega arith),
-)
-
-high-binary : (st : ℕ) → 8 ≤ st → isBinary st ≡ false
-high-binary st h = rw (
-  ne-eqb st 0x01 (λ e. omega arith),
-  ne-eqb st 0x02 (λ e. omega arith),
-  ne-eqb st 0x03 (λ e. omega arith),
-  ne-eqb st 0x04 (λ e. omega arith),
-  ne-eqb st 0x06 (λ e. omega arith),
-  ne-eqb st 0x07 (λ e. omega arith),
-)
-
 packed-wide : (st : ℕ) → isPacked st ≡ true → eqb (widthOf st) 0 ≡ false
-unfolding widthOf
-packed-wide st p = packed-each (λ (k : ℕ). eqb (widthOf k) 0 ≡ false) refl refl refl refl st p
+packed-wide st p = ne-eqb (widthOf st) 0 (omega (arith, width-least st (rw p)))
 
 -- what a structure below 8 is paired with is a point in time or binary
 low-valued : (st unit : ℕ) (b : List ℕ) → st < 8 → paired st unit ≡ true → lowValued unit b ≡ valued st unit b
@@ -160,24 +130,21 @@ module _ {s : List ℕ} {q w : ℕ} {x : Valued} (l : Led s q) (f : unfit s ≡ 
 pub record Told (s : List ℕ) (q w : ℕ) (p : Bool) : Type 0 where
   pub led : Led s q
   pub below : at s 0 < 8
-  pub width : w ≡ lowWidth (at s 0)
+  pub width : w ≡ widthOf (at s 0)
   pub pair : p ≡ goesWith (at s 0) q
 
 module _ {s : List ℕ} {q w : ℕ} {p : Bool} (t : Told s q w p) where
   paired-told : paired (at s 0) (at s 1) ≡ p
   paired-told = sym (t .pair ∙ ap (goesWith (at s 0)) (t .led .quantity) ∙ goes-paired (at s 0) (at s 1))
 
-  told-width : p ≡ true → w ≡ widthOf (at s 0)
-  told-width e = t .width ∙ low-width (at s 0) q (sym (t .pair) ∙ e)
-
   unfit-told : unfit s ≡ (not p || ltb (length s) (2 + w))
-  unfit-told = rw (le-ltb (length s) 2 (t .led .two), paired-told) (by-test p (λ e. rw (e, told-width e)) (λ e. rw e))
+  unfit-told = rw (le-ltb (length s) 2 (t .led .two), paired-told) (rw (t .width))
 
   pub told-unfit : (not p || ltb (length s) (2 + w)) ≡ true → Tried.Refused 11 ≡ triedShown (tried s)
   told-unfit e = rw (unfit-told ∙ e)
 
   pub told-narrow : w ≤ 8
-  told-narrow = omega (arith, t .width, low-most (at s 0))
+  told-narrow = omega (arith, t .width, width-most (at s 0))
 
   -- 11 has let the entry pass
   module _ (f : (not p || ltb (length s) (2 + w)) ≡ false) where
@@ -185,7 +152,7 @@ module _ {s : List ℕ} {q w : ℕ} {p : Bool} (t : Told s q w p) where
     fit-pair = not-false p (neither (not p) (ltb (length s) (2 + w)) f .0)
 
     fit-width : w ≡ widthOf (at s 0)
-    fit-width = told-width fit-pair
+    fit-width = t .width
 
     pub told-inside : 2 + w ≤ length s
     told-inside = ltb-false (length s) (2 + w) (neither (not p) (ltb (length s) (2 + w)) f .1)

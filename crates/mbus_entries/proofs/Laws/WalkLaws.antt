@@ -7,7 +7,7 @@ use native.Mathlib.Decide.{ℕ-discrete}
 use native.Mathlib.Numerals.{add-one}
 use native.Mathlib.Omega.{arith}
 use borrow.Author.Tests.{ltb-false, eq-eqb, ne-eqb}
-use lib.Dec.{ltb, eqb, lit<}
+use lib.Dec.{ltb, eqb}
 use lib.ListN.{length, getD, take, drop, set, replicate, getD-replicate, length-drop, length-set, drop-of-length-le, take-append-drop}
 use lib.Seq.{take-all, length-take-le, drop-cons, getD-set-same, getD-set-other, take-suc-set, drop-set-lt, drop-drop}
 use Rattle.mbus_rules.specs.declared.Entry.{Entry}
@@ -20,12 +20,11 @@ use Rattle.mbus_rules.specs.Answers.{Answer, reads, refusal, refuse, within, fo
 use Rattle.mbus_rules.proofs.Laws.AnswerLaws.{follow-refuse, reads-same}
 use Rattle.mbus_rules.specs.Quantities.{quantityOf, widthOf, paired}
 use Rattle.mbus_rules.specs.Entries.{entryWidth, seen, missing, readEntries}
-use Rattle.mbus_rules.proofs.Laws.LengthLaws.{width-most}
+use Rattle.mbus_rules.proofs.Laws.RowLaws.{width-most, quantity-few, lacking-same}
 use Rattle.mbus_rules.proofs.Laws.EntryLaws.{entries-next}
 use Rattle.mbus_rules.proofs.Laws.Seven.{Different, different-last, different-room, fit-known, none-yet}
 use Rattle.mbus_rules.specs.Telegrams.{blankEntry}
 use Rattle.mbus_rules.proofs.Laws.Tests.{neither, passed}
-use Rattle.mbus_fields.proofs.Laws.TableLaws.{quantity-few}
 use Rattle.mbus_entries.specs.declared.Entries.{Entries}
 use Rattle.mbus_entries.specs.declared.entry.Tried.{Tried}
 use Rattle.mbus_entries.specs.Trying.{Taken, takenOf, tried, triedShown, unseen, nextOf}
@@ -213,7 +212,7 @@ module _ {rest : List ℕ} {at count : ℕ} {marks : List Bool} {entries : List 
       ∙ ap (λ (t : Bool). refuse 16 t (reads (take count entries))) (sym marks-missing)
     where
       marks-missing : unmarked marks ≡ missing (take count entries)
-      marks-missing = simp (w .link 0 (lit< tt), w .link 1 (lit< tt), w .link 4 (lit< tt), w .link 5 (lit< tt), w .link 6 (lit< tt))
+      marks-missing = lacking-same (λ q. getD marks q false) (λ q. seen q (take count entries)) (w .link)
 
   walked-whole : _≡_ {A = Entries} (record { outcome = Accepted; count = count; entries = entries }) (entriesShown (reads (take count entries)))
   walked-whole =

@@ -4,8 +4,8 @@ use mathlib.Core.Bool.{Bool, true, false, not, _&&_, _||_, false≢true, and-fal
 use mathlib.Core.List.{List, [], _∷_, _++_, append-assoc, append-nil}
 use mathlib.Core.Path.{_≡_, refl, sym, ap, ap₂, _∙_}
 use native.Mathlib.Omega.{arith}
-use borrow.Author.Tests.{ltb-false, le-ltb, lt-leb, eqb-true, ne-eqb, not-false}
-use lib.Dec.{ltb, leb, eqb, lit<}
+use borrow.Author.Tests.{ltb-false, le-ltb, eqb-true, ne-eqb, not-false}
+use lib.Dec.{ltb, eqb, lit<}
 use lib.ListN.{length, take, drop, length-drop, length-append, take-append-drop, drop-of-length-le}
 use lib.Seq.{length-take-le, take-add, take-at, drop-at, drop-drop}
 use Rattle.mbus_rules.specs.declared.Value.{Value}
@@ -14,13 +14,14 @@ use Rattle.mbus_rules.specs.declared.Entry.{Entry}
 use Rattle.mbus_rules.specs.Lists.{at, any}
 use Rattle.mbus_rules.specs.Answers.{reads, refuse}
 use Rattle.mbus_rules.specs.Moments.{dateExists, timeExists, weekdayExists, wrongMoment}
-use Rattle.mbus_rules.specs.Quantities.{quantityOf, widthOf, paired, isTime, isPacked, isBinary, unknown, between}
+use Rattle.mbus_rules.specs.Quantities.{quantityOf, widthOf, paired, isTime, isPacked, isBinary}
 use Rattle.mbus_rules.specs.Entries.{mayFall, valueBytes, entryWidth, valueOf, entryOf, unfit, wrongNumber, wrongDigit, wrongTime}
 use Rattle.mbus_rules.specs.Entries.{seen, missing, readEntries}
 use Rattle.mbus_rules.specs.Writing.{bytesOfValue, bytesOfEntry, bytesOfEntries, wrongValue, wrongEntry, repeats}
 use Rattle.mbus_rules.proofs.Laws.TestLaws.{none, refusals, all-passed, all-passing}
 use Rattle.mbus_rules.proofs.Laws.Tests.{by-test, neither, passed}
 use Rattle.mbus_rules.proofs.Laws.AnswerLaws.{reads-same}
+use Rattle.mbus_rules.proofs.Laws.RowLaws.{unit-past, structure-past}
 use Rattle.mbus_rules.specs.Bytes.{Bytes}
 use Rattle.mbus_rules.proofs.Laws.ByteLaws.{bytes-append, bytes-take, bytes-drop, spell}
 use Rattle.mbus_rules.specs.Signs.{minus, wrongSigned, fitsSigned, belowZero}
@@ -117,45 +118,13 @@ unfolding paired widthOf
 six-wide st u e q = rw (eqb-true st 0x06 (rw q at e))
 
 -- the structures and units that 01 knows are bytes
-between-past : (low high u : ℕ) → high < u → between low high u ≡ false
-between-past low high u h = rw (lt-leb u high h) (and-false (leb low u))
-
-unit-unknown : (u : ℕ) → 256 ≤ u → quantityOf u ≡ unknown
-unfolding quantityOf
-unit-unknown u h =
-    rw (
-      between-past 0x00 0x0F u (omega arith),
-      between-past 0x10 0x17 u (omega arith),
-      between-past 0x28 0x2F u (omega arith),
-      between-past 0x38 0x3F u (omega arith),
-      between-past 0x58 0x5B u (omega arith),
-      between-past 0x5C 0x5F u (omega arith),
-      ne-eqb u 0x6D (omega arith),
-    )
-
-no-structure : (st : ℕ) → 256 ≤ st → (isPacked st || isBinary st) ≡ false
-no-structure st h =
-    let past : (n : ℕ) → n < 256 → eqb st n ≡ false = λ n k. ne-eqb st n (omega arith) in
-    rw (
-      past 0x0A (lit< tt),
-      past 0x0B (lit< tt),
-      past 0x0C (lit< tt),
-      past 0x0E (lit< tt),
-      past 0x01 (lit< tt),
-      past 0x02 (lit< tt),
-      past 0x03 (lit< tt),
-      past 0x04 (lit< tt),
-      past 0x06 (lit< tt),
-      past 0x07 (lit< tt),
-    )
-
 paired-bytes : (st u : ℕ) → paired st u ≡ true → (st < 256) × (u < 256)
 unfolding paired
 paired-bytes st u e =
     let nost : 256 ≤ st → ⊥ = λ h.
     by-test (isTime u) (λ q. false≢true (rw (q, ne-eqb st 0x06 (omega arith)) at e))
-    (λ q. false≢true (rw (q, no-structure st h) at e)) in
-    let nou : 256 ≤ u → ⊥ = λ h. false≢true (rw (ne-eqb u 0x6D (omega arith), unit-unknown u h, and-false (isPacked st || isBinary st)) at e) in
+    (λ q. false≢true (rw (q, structure-past st h) at e)) in
+    let nou : 256 ≤ u → ⊥ = λ h. false≢true (rw (ne-eqb u 0x6D (omega arith), unit-past u h, and-false (isPacked st || isBinary st)) at e) in
     omega arith
 
 pub record EntryRead (s : List ℕ) : Type 0 where

@@ -1,63 +1,22 @@
 -- 02, 2026-06: "L now runs from 35 to 83 and the longest line has 89 characters".
 use Prim.Native.Nat.{ℕ, _+_, _*_, _≤_}
-use mathlib.Core.Bool.{Bool, true, false, cond, not, _||_, false≢true}
+use mathlib.Core.Bool.{Bool, true, false, cond, not, _||_}
 use mathlib.Core.List.{List, [], _∷_, _++_}
-use mathlib.Core.Path.{_≡_, refl}
+use mathlib.Core.Path.{_≡_, sym, _∙_}
 use native.Mathlib.Omega.{arith}
 use borrow.Author.Tests.{eqb-true, not-false}
 use lib.Dec.{eqb, ltb, lit≤}
 use lib.ListN.{length, length-append}
 use Rattle.mbus_rules.specs.declared.Entry.{Entry}
 use Rattle.mbus_rules.specs.Lists.{any}
-use Rattle.mbus_rules.specs.Quantities.{quantityOf, widthOf, paired, isTime, isPacked, isBinary, between, unknown}
-use Rattle.mbus_rules.specs.Quantities.{energy, volume, power, flow, inlet, outlet, time}
+use Rattle.mbus_rules.specs.Quantities.{quantityOf, widthOf, paired, isTime, isPacked, isBinary, unknown}
+use Rattle.mbus_rules.specs.Quantities.{energy, volume, inlet, outlet, time}
 use Rattle.mbus_rules.specs.Entries.{seen, missing}
 use Rattle.mbus_rules.specs.Writing.{bytesOfEntry, bytesOfEntries, wrongValue, wrongEntry}
 use Rattle.mbus_rules.proofs.Laws.TestLaws.{none, every, picked}
 use Rattle.mbus_rules.proofs.Laws.Tests.{by-test}
+use Rattle.mbus_rules.proofs.Laws.RowLaws.{time-quantity, missing-five, width-most, width-least}
 use Rattle.mbus_rules.proofs.Laws.EntryLaws.{entry-written, six-wide}
-
--- ---- the width of one entry
-
-pub width-most : (st : ℕ) → widthOf st ≤ 8
-unfolding widthOf
-width-most st =
-    let P : ℕ → Type 0 = λ n. n ≤ 8 in
-    picked P (eqb st 0x0A) 2 _ (lit≤ tt)
-    (picked P (eqb st 0x0B) 3 _ (lit≤ tt)
-    (picked P (eqb st 0x0C) 4 _ (lit≤ tt)
-    (picked P (eqb st 0x0E) 6 _ (lit≤ tt)
-    (picked P (eqb st 0x01) 1 _ (lit≤ tt)
-    (picked P (eqb st 0x02) 2 _ (lit≤ tt)
-    (picked P (eqb st 0x03) 3 _ (lit≤ tt)
-    (picked P (eqb st 0x04) 4 _ (lit≤ tt) (picked P (eqb st 0x06) 6 _ (lit≤ tt) (picked P (eqb st 0x07) 8 0 (lit≤ tt) (lit≤ tt))))))))))
-
-width-least : (st : ℕ) → (isPacked st || isBinary st) ≡ true → 1 ≤ widthOf st
-unfolding widthOf
-width-least st e =
-    by-test (eqb st 0x0A) (λ a. rw a (lit≤ tt)) λ a.
-    by-test (eqb st 0x0B) (λ b. rw (a, b) (lit≤ tt)) λ b.
-    by-test (eqb st 0x0C) (λ c. rw (a, b, c) (lit≤ tt)) λ c.
-    by-test (eqb st 0x0E) (λ d. rw (a, b, c, d) (lit≤ tt)) λ d.
-    by-test (eqb st 0x01) (λ f. rw (a, b, c, d, f) (lit≤ tt)) λ f.
-    by-test (eqb st 0x02) (λ g. rw (a, b, c, d, f, g) (lit≤ tt)) λ g.
-    by-test (eqb st 0x03) (λ h. rw (a, b, c, d, f, g, h) (lit≤ tt)) λ h.
-    by-test (eqb st 0x04) (λ k. rw (a, b, c, d, f, g, h, k) (lit≤ tt)) λ k.
-    by-test (eqb st 0x06) (λ l. rw (a, b, c, d, f, g, h, k, l) (lit≤ tt)) λ l.
-    by-test (eqb st 0x07) (λ m. rw (a, b, c, d, f, g, h, k, l, m) (lit≤ tt)) λ m.
-    absurd (false≢true (rw (a, b, c, d, f, g, h, k, l, m) at e))
-
--- a unit that is not the point in time's is of another quantity
-other-quantity : (u : ℕ) → isTime u ≡ false → eqb (quantityOf u) time ≡ false
-unfolding quantityOf
-other-quantity u e =
-    let P : ℕ → Type 0 = λ q. eqb q time ≡ false in
-    picked P (between 0x00 0x0F u) energy _ refl
-    (picked P (between 0x10 0x17 u) volume _ refl
-    (picked P (between 0x28 0x2F u) power _ refl
-    (picked P (between 0x38 0x3F u) flow _ refl
-    (picked P (between 0x58 0x5B u) inlet _ refl
-    (picked P (between 0x5C 0x5F u) outlet _ refl (rw e))))))
 
 -- ---- the least that the required quantities take: 8 for the point in time, 3 for each other
 
@@ -118,8 +77,8 @@ entry-takes e h =
     let p = every (isPacked st || isBinary st) (ltb (quantityOf u) unknown ∷ []) (rw q at pair) in
     let w : 1 ≤ widthOf st = width-least st (p .0) in
     let m : widthOf st ≤ 8 = width-most st in
-    let less : cond (eqb (quantityOf u) time) 8 3 ≤ 3 = rw (other-quantity u q) (lit≤ tt) in
-    let none-more : takes (eqb (quantityOf u) time) 2 ≤ 0 = rw (other-quantity u q) (lit≤ tt) in
+    let less : cond (eqb (quantityOf u) time) 8 3 ≤ 3 = rw (time-quantity u, q) (lit≤ tt) in
+    let none-more : takes (eqb (quantityOf u) time) 2 ≤ 0 = rw (time-quantity u, q) (lit≤ tt) in
     record { least = omega arith; most = omega arith })
 
 -- ---- all entries
@@ -149,7 +108,8 @@ lengths (e ∷ es) h =
 
 pub entries-least : (es : List Entry) → any wrongEntry es ≡ false → missing es ≡ false → 20 ≤ length (bytesOfEntries es)
 entries-least es h m =
-    let k = none (not (seen energy es)) (not (seen volume es) ∷ not (seen inlet es) ∷ not (seen outlet es) ∷ not (seen time es) ∷ []) m in
+    let k = none (not (seen energy es)) (not (seen volume es) ∷ not (seen inlet es) ∷ not (seen outlet es) ∷ not (seen time es) ∷ [])
+    (sym (missing-five (λ q. seen q es)) ∙ m) in
     rw (
       not-false (seen energy es) (k .0),
       not-false (seen volume es) (k .1 .0),
@@ -160,6 +120,7 @@ entries-least es h m =
 
 pub entries-most : (es : List Entry) → any wrongEntry es ≡ false → missing es ≡ false → length es ≤ 7 → length (bytesOfEntries es) ≤ 68
 entries-most es h m few =
-    let k = none (not (seen energy es)) (not (seen volume es) ∷ not (seen inlet es) ∷ not (seen outlet es) ∷ not (seen time es) ∷ []) m in
+    let k = none (not (seen energy es)) (not (seen volume es) ∷ not (seen inlet es) ∷ not (seen outlet es) ∷ not (seen time es) ∷ [])
+    (sym (missing-five (λ q. seen q es)) ∙ m) in
     let l : length (bytesOfEntries es) + 2 ≤ 10 * length es = rw (not-false (seen time es) (k .1 .1 .1 .1 .0)) at (lengths es h .most) in
     omega arith

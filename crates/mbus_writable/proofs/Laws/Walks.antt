@@ -1,12 +1,12 @@
 -- Laws of `specs/Walks`.
 use Prim.Native.Nat.{ℕ, suc, _+_, _≤_, _<_, zero-le}
-use mathlib.Core.Bool.{Bool, true, false, not, _||_, or-assoc, or-false, or-true}
+use mathlib.Core.Bool.{Bool, true, false, _||_, or-assoc, or-false, or-true}
 use mathlib.Core.List.{List, [], _∷_, _++_}
 use mathlib.Core.Path.{_≡_, refl, sym, ap, _∙_}
 use native.Mathlib.Numerals.{add-one}
 use native.Mathlib.Omega.{arith}
 use borrow.Author.Tests.{lt-ltb, le-ltb, eqb-true, eqb-false}
-use lib.Dec.{eqb, lit<}
+use lib.Dec.{eqb}
 use lib.ListN.{length, getD, take, drop, set, replicate, getD-replicate, length-set, drop-of-length-le}
 use lib.Seq.{drop-cons, take-suc, take-all, length-take-le, getD-take, getD-set-same, getD-set-other}
 use Rattle.mbus_rules.specs.declared.Kind.{Kind}
@@ -14,9 +14,9 @@ use Rattle.mbus_rules.specs.declared.Entry.{Entry}
 use Rattle.mbus_rules.specs.declared.Telegram.{Telegram}
 use Rattle.mbus_rules.specs.Lists.{any}
 use Rattle.mbus_rules.proofs.Laws.ListLaws.{any-snoc}
-use Rattle.mbus_rules.specs.Quantities.{quantityOf, between, energy, volume, power, flow, inlet, outlet, time, unknown}
-use Rattle.mbus_rules.specs.Entries.{seen}
-use Rattle.mbus_rules.proofs.Laws.TestLaws.{picked}
+use Rattle.mbus_rules.specs.Quantities.{quantityOf}
+use Rattle.mbus_rules.specs.Entries.{seen, lacking}
+use Rattle.mbus_rules.proofs.Laws.RowLaws.{quantity-few, lacking-same}
 use Rattle.mbus_rules.proofs.Laws.Tests.{by-test}
 use Rattle.mbus_rules.specs.Writing.{entriesOf, usedEntry, wrongEntry, unwrittenHeader, repeats, wrongData, wrongFor, unwritable}
 use Rattle.mbus_writable.specs.Together.{wrongTogether}
@@ -43,17 +43,6 @@ pub looked-all : {A : Type 0} {test : A → Bool} {s : List A} {from i : ℕ} {f
 unfolding any
 looked-all {test = test} {s} {from} {i} {found} g h = sym (or-false found) ∙ ap (λ (l : List _). found || any test l) (sym (drop-of-length-le s h)) ∙ g .so
 
-pub quantity-below : (u : ℕ) → quantityOf u < 8
-unfolding quantityOf
-quantity-below u =
-    let P : ℕ → Type 0 = λ q. q < 8 in
-    picked P (between 0x00 0x0F u) energy _ (lit< tt)
-    (picked P (between 0x10 0x17 u) volume _ (lit< tt)
-    (picked P (between 0x28 0x2F u) power _ (lit< tt)
-    (picked P (between 0x38 0x3F u) flow _ (lit< tt)
-    (picked P (between 0x58 0x5B u) inlet _ (lit< tt)
-    (picked P (between 0x5C 0x5F u) outlet _ (lit< tt) (picked P (eqb u 0x6D) time unknown (lit< tt) (lit< tt)))))))
-
 -- what is wrong so far, and is wrong with what is left; the marks say which quantities came so far
 pub record Walked (es : List Entry) (i : ℕ) (wrong : Bool) (marks : List Bool) : Type 0 where
   pub so : (wrong || (any wrongEntry (drop i es) || repeats (take i es) (drop i es))) ≡ (any wrongEntry es || repeats [] es)
@@ -75,7 +64,7 @@ mark : (marks : List Bool) (done : List Entry) (e : Entry) (q : ℕ) → length 
 unfolding any
 mark marks done e q n h m =
     let p : ℕ = quantityOf (e .unit) in
-    let small : p < 8 = quantity-below (e .unit) in
+    let small : p < 8 = quantity-few (e .unit) in
     let more : seen q (done ++ (e ∷ [])) ≡ (seen q done || eqb p q) = any-snoc (λ (x : Entry). eqb (quantityOf (x .unit)) q) done e in
     by-test (eqb p q)
     (λ y.
@@ -102,22 +91,21 @@ module _ {es : List Entry} {i : ℕ} {wrong : Bool} {marks : List Bool} (g : Wal
       let step : (wrong || (any wrongEntry (e ∷ rest) || repeats (take i es) (e ∷ rest))) ≡ (any wrongEntry es || repeats [] es) = rw left at (g .so) in
       record {
         so =
-            rw (add-one, done, g .marked q (quantity-below (e .unit)))
+            rw (add-one, done, g .marked q (quantity-few (e .unit)))
             (regroup wrong (wrongEntry e) (seen q (take i es)) (any wrongEntry rest) (repeats (take i es ++ (e ∷ [])) rest) ∙ step);
         marked = λ p k. rw (add-one, done) (mark marks (take i es) e p (g .eight) k (g .marked p k));
         eight = length-set marks q true ∙ g .eight;
       }
 
   pub walked-all : i ≡ length es
-      → (wrong || not (getD marks 0 false) || not (getD marks 1 false) || not (getD marks 4 false) || not (getD marks 5 false) || not (getD marks 6 false))
-      ≡ wrongTogether es
+      → (wrong || lacking (λ q. getD marks q false)) ≡ wrongTogether es
   unfolding any repeats
   walked-all e =
       let none : drop i es ≡ [] = drop-of-length-le es {i = i} (omega arith) in
       let all : take i es ≡ es = take-all i es (omega arith) in
       let done : wrong ≡ (any wrongEntry es || repeats [] es) = sym (or-false wrong) ∙ (rw none at (g .so)) in
       let m : (q : ℕ) → q < 8 → getD marks q false ≡ seen q es = λ q h. g .marked q h ∙ ap (seen q) all in
-      rw (done, m 0 (lit< tt), m 1 (lit< tt), m 4 (lit< tt), m 5 (lit< tt), m 6 (lit< tt)) (simp or-assoc)
+      rw (done, lacking-same (λ q. getD marks q false) (λ q. seen q es) m)
 
 -- the same for the places of an array, of which the count says how many are entries
 pub record Counted (entries : List Entry) (count i : ℕ) (wrong : Bool) (marks : List Bool) : Type 0 where
@@ -136,8 +124,7 @@ counted-next {entries} {count} {i} d g n h eq ew =
 
 pub counted-all : {entries : List Entry} {count i : ℕ} {wrong : Bool} {marks : List Bool} → Counted entries count i wrong marks → count ≤ length entries
     → count ≤ i
-    → (wrong || not (getD marks 0 false) || not (getD marks 1 false) || not (getD marks 4 false) || not (getD marks 5 false) || not (getD marks 6 false))
-    ≡ wrongTogether (take count entries)
+    → (wrong || lacking (λ q. getD marks q false)) ≡ wrongTogether (take count entries)
 counted-all {entries} {count} g n h =
     let size : length (take count entries) ≡ count = length-take-le count entries n in
     let inside = g .inside in

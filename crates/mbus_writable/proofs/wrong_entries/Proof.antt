@@ -3,7 +3,8 @@
 use Prim.Native.Nat.{_-_, _≤_}
 use borrow.Author.Needs.{needs}
 use lib.ListN.{length}
-use Rattle.mbus_writable.proofs.Laws.Walks.{Counted, counted-none, counted-next, counted-all, quantity-below}
+use Rattle.mbus_rules.proofs.Laws.RowLaws.{quantity-few}
+use Rattle.mbus_writable.proofs.Laws.Walks.{Counted, counted-none, counted-next, counted-all}
 use Rattle.mbus_writable.proofs.wrong_entries.Statement.{statement}
 use Rattle.mbus_writable.proofs.wrong_entries.Tie as tie
 
@@ -17,10 +18,10 @@ loop-holds : tie.Need-loop-holds Inv-loop μ-loop
 loop-holds c = counted-none
 
 array-read-wrong : tie.Need-array-read-wrong Inv-loop μ-loop
-array-read-wrong c = rw (c .before .quantity-of .ensures) (quantity-below _)
+array-read-wrong c = rw (c .before .quantity-of .ensures) (quantity-few _)
 
 array-write-seen : tie.Need-array-write-seen Inv-loop μ-loop
-array-write-seen c = rw (c .before .quantity-of .ensures) (quantity-below _)
+array-write-seen c = rw (c .before .quantity-of .ensures) (quantity-few _)
 
 loop-again : tie.Need-loop-again Inv-loop μ-loop
 loop-again c =
@@ -30,8 +31,9 @@ loop-again c =
 
 returns : tie.Need-returns Inv-loop μ-loop
 returns c =
-    let n : c .before .before .args .count ≤ length (c .before .before .args .t1) = search needs in
-    counted-all (c .before .loop .inv) n (c .loop-test .left)
+    let left = c .before in
+    let n : left .before .before .args .count ≤ length (left .before .before .args .t1) = search needs in
+    rw (c .any-missing .ensures) (counted-all (left .before .loop .inv) n (left .loop-test .left))
 
 pub wrong-entries-spec : {M : Type 1} → statement M
 wrong-entries-spec =
@@ -50,9 +52,5 @@ wrong-entries-spec =
     (λ c. search needs)
     (λ c. search needs)
     loop-again
-    (λ c. search needs)
-    (λ c. search needs)
-    (λ c. search needs)
-    (λ c. search needs)
-    (λ c. search needs)
+    (λ c κs. search needs)
     returns)

@@ -10,7 +10,7 @@ use Rattle.mbus_rules.specs.Quantities.{widthOf, isTime}
 use Rattle.mbus_rules.specs.Entries.{mayFall}
 use Rattle.mbus_rules.specs.Signs.{fitsSigned, belowZero}
 use Rattle.mbus_rules.specs.Binary.{fitsBinary}
-use Rattle.mbus_rules.proofs.Laws.LengthLaws.{width-most}
+use Rattle.mbus_rules.proofs.Laws.RowLaws.{width-most}
 use Rattle.mbus_writable.proofs.Laws.Sizes.{digits-coded}
 use Rattle.mbus_writable.proofs.wrong_value.Statement.{statement}
 use Rattle.mbus_writable.proofs.wrong_value.Tie as tie
@@ -22,9 +22,6 @@ returns c =
     let z = v .0 .0 .count in
     rw (v .1, sym (c .before .before .before .before .is-binary .ensures) ∙ c .if1 .taken)
     (digits-coded (isTime (a .unit)) (not (fitsSigned (widthOf (a .structure)) z)) (belowZero z && not (mayFall (a .unit))))
-
-is-long-requires : tie.Need-is-long-requires
-is-long-requires c κs = sym (c .before .before .before .before .before .is-binary .ensures) ∙ c .before .if1 .left
 
 returns-2 : tie.Need-returns-2
 returns-2 c =
@@ -74,7 +71,7 @@ wrong-value-spec =
     (λ c κs. search needs)
     (λ c. search needs)
     returns
-    is-long-requires
+    (λ c κs. search needs)
     (λ c κs. search needs)
     (λ c κs. search needs)
     (λ c. search needs)

@@ -1,6 +1,6 @@
 -- Laws of `specs/Laying`.
 use Prim.Native.Nat.{ℕ, zero, suc, _+_, _*_, _-_, _/_, _%_, _^_, _≤_, _<_, zero-le}
-use mathlib.Core.Bool.{true, false, not, _&&_, false≢true}
+use mathlib.Core.Bool.{true, false, cond, not, _&&_, false≢true}
 use mathlib.Core.List.{List, [], _∷_, _++_, map, append-assoc, append-nil}
 use mathlib.Core.Path.{_≡_, refl, sym, ap, ap₂, subst, _∙_}
 use native.Mathlib.Nat.{zero-add, not-suc-le-zero, pow-succ', pow-le-pow-right}
@@ -8,7 +8,7 @@ use native.Mathlib.Numerals.{add-one}
 use native.Mathlib.Omega.{arith}
 use borrow.Author.Tests.{eqb-true, ltb-true, leb-true, le-leb, not-false}
 use lib.Count.{onesIn}
-use lib.Dec.{eqb, ltb, lit<, lit≤}
+use lib.Dec.{eqb, ltb, leb, lit<}
 use lib.IntN.{ℤ, pos, negsuc, natAbs}
 use lib.ListN.{length, getD, take, drop, set, length-append, length-set, take-append-drop, drop-of-length-le, length-map, List·getD-map}
 use lib.Seq.{drop-cons, take-add, take-suc, take-take, getD-take, take-at, drop-at, take-append-seam, length-take-le}
@@ -34,11 +34,12 @@ use Rattle.mbus_rules.specs.Numbers.{bytesOf}
 use Rattle.mbus_rules.specs.Binary.{binaryBytes, fitsBinary}
 use Rattle.bytes_numbers.proofs.Laws.NumberLaws.{bytes-first}
 use Rattle.mbus_rules.specs.Moments.{dateExists, timeExists, weekdayExists}
-use Rattle.mbus_rules.specs.Quantities.{widthOf, paired, isTime, isBinary}
+use Rattle.mbus_rules.specs.Quantities.{widthOf, paired, isTime, isBinary, structures, noStructure, hasStructure, structureOf}
 use Rattle.mbus_rules.proofs.Laws.TestLaws.{none, picked}
 use Rattle.mbus_rules.proofs.Laws.HeaderLaws.{header-length}
 use Rattle.mbus_rules.proofs.Laws.EntryLaws.{six-wide, entry-written}
-use Rattle.mbus_rules.proofs.Laws.LengthLaws.{width-most, entries-least, entries-most}
+use Rattle.mbus_rules.proofs.Laws.LengthLaws.{entries-least, entries-most}
+use Rattle.mbus_rules.proofs.Laws.RowLaws.{width-most, found-each}
 use Rattle.mbus_rules.proofs.Laws.LineLaws.{GoodData, good-data}
 use Rattle.mbus_rules.specs.Writing.{bytesOfValue, bytesOfEntry, bytesOfEntries, bytesOfKind, wrongValue, wrongEntry, wrongData, entriesOf, bytesOfHeader}
 use Rattle.mbus_rules.specs.Writing.{closed, longest, unwritable}
@@ -180,11 +181,7 @@ binary-cut w (negsuc n) h f =
 packed-most : (st : ℕ) → isBinary st ≡ false → widthOf st ≤ 6
 unfolding widthOf
 packed-most st e =
-    let P : ℕ → Type 0 = λ n. n ≤ 6 in
-    let k = none (eqb st 0x01) (eqb st 0x02 ∷ eqb st 0x03 ∷ eqb st 0x04 ∷ eqb st 0x06 ∷ eqb st 0x07 ∷ []) e in
-    rw (k .0, k .1 .0, k .1 .1 .0, k .1 .1 .1 .0, k .1 .1 .1 .1 .0, k .1 .1 .1 .1 .1 .0)
-    (picked P (eqb st 0x0A) 2 _ (lit≤ tt)
-    (picked P (eqb st 0x0B) 3 _ (lit≤ tt) (picked P (eqb st 0x0C) 4 _ (lit≤ tt) (picked P (eqb st 0x0E) 6 0 (lit≤ tt) (lit≤ tt)))))
+    leb-true (structureOf st .1) 6 (rw e at (found-each (hasStructure st) (λ r. cond (r .3) true (leb (r .1) 6)) noStructure structures refl))
 
 value-cut : (st u : ℕ) (v : Value) → (isTime u ≡ true → widthOf st ≡ 6) → wrongValue st u v ≡ false
     → (take (widthOf st) (eightBytes (widthOf st) v) ≡ bytesOfValue (widthOf st) v) × (exists (widthOf st) v ≡ true)

@@ -19,7 +19,7 @@ use Rattle.mbus_rules.specs.declared.Value.the-variants.{Number, Time, Binary}
 use Rattle.mbus_rules.specs.Answers.{Answer, reads, refusal, refuse, follow}
 use Rattle.mbus_rules.proofs.Laws.AnswerLaws.{reads-same}
 use Rattle.mbus_rules.specs.Headers.{letter, makerNamed, heatMeter}
-use Rattle.mbus_rules.proofs.Laws.LengthLaws.{width-most}
+use Rattle.mbus_rules.proofs.Laws.RowLaws.{width-most}
 use Rattle.mbus_rules.specs.Lines.{isMethod}
 use Rattle.mbus_rules.specs.Lists.{any}
 use Rattle.mbus_rules.specs.Quantities.{widthOf, paired, isTime, isBinary}

@@ -22,6 +22,7 @@ use Rattle.mbus_rules.specs.Quantities.{quantityOf, widthOf, paired, isTime, is
 use Rattle.mbus_rules.specs.Signs.{fitsSigned, belowZero}
 use Rattle.mbus_rules.specs.Entries.{mayFall, seen, missing}
 use Rattle.mbus_rules.proofs.Laws.Tests.{by-test, neither}
+use Rattle.mbus_rules.proofs.Laws.RowLaws.{lacking-same}
 use Rattle.mbus_rules.specs.TelegramSizes.{Sized}
 use Rattle.mbus_rules.specs.Writing.{entriesOf, usedValue, usedEntry, wrongValue, wrongEntry, unwrittenHeader, repeats, wrongData, wrongFor, unwritable}
 use Rattle.meter_template.specs.declared.Pair.{Pair}
@@ -67,7 +68,7 @@ repeats-filled p done (e ∷ es) =
     (ap (λ (l : List Entry). repeats l (filled p es)) (sym (map-snoc (filledEntry p) done e)) ∙ repeats-filled p (done ++ (e ∷ [])) es)
 
 missing-filled : (p : Pair) (es : List Entry) → missing (filled p es) ≡ missing es
-missing-filled p es = simp (seen-filled p)
+missing-filled p es = lacking-same (λ q. seen q (filled p es)) (λ q. seen q es) (λ q h. seen-filled p q es)
 
 -- ---- what holds a total, and what its count may be
 

@@ -1,20 +1,22 @@
 -- The entry that has a quantity, found by a walk, and the volume of one in millilitres.
-use Prim.Native.Nat.{ℕ, zero, suc, _+_, _*_, _/_, _%_, _^_, _≤_, _<_, min}
+use Prim.Native.Nat.{ℕ, zero, suc, _+_, _-_, _*_, _/_, _%_, _^_, _≤_, _<_, min}
 use mathlib.Core.Bool.{true, false}
 use mathlib.Core.List.{List}
-use mathlib.Core.Path.{_≡_, sym, ap, ap₂, _∙_}
-use native.Mathlib.Nat.{div-lt-iff-lt-mul, mul-pos, pow-suc}
+use mathlib.Core.Path.{_≡_, refl, sym, ap, ap₂, _∙_}
+use native.Mathlib.Nat.{div-lt-iff-lt-mul, mul-pos, mul-le-mul, pow-suc, pow-le-pow-right, lt-of-le-of-lt, mod-lt}
 use native.Mathlib.Numerals.{add-one}
 use native.Mathlib.Decide.{decLt}
 use native.Mathlib.Omega.{arith}
-use lib.Dec.{eqb, lit<}
+use borrow.Author.Tests.{leb-true}
+use lib.Dec.{eqb, leb, lit<}
 use lib.ListN.{length, getD, drop, drop-of-length-le}
 use lib.Seq.{drop-cons}
 use Rattle.mbus_rules.specs.declared.Entry.{Entry}
-use Rattle.mbus_rules.specs.Quantities.{quantityOf}
+use Rattle.mbus_rules.specs.Quantities.{table, noRow, hasUnit, rowOf, quantityOf}
+use Rattle.mbus_rules.proofs.Laws.RowLaws.{found-each, low-some}
 use Rattle.mbus_rules.specs.Telegrams.{blankEntry}
 use Rattle.replay_error.specs.Errors.{volumeMost}
-use Rattle.replay_error.specs.Figures.{entryWith, millilitres, volumeCount}
+use Rattle.replay_error.specs.Figures.{entryWith, millilitrePower, millilitres, volumeCount}
 use Rattle.replay_error.specs.Shown.{cappedVolume}
 
 -- ---- the walk along the entries
@@ -49,6 +51,21 @@ pub unit-some : (n : ℕ) → 0 < 10 ^ n
 unit-some zero = lit< tt
 unit-some (suc n) = rw (pow-suc 10 n) (mul-pos (unit-some n) (lit< tt))
 
+-- the two powers of which one of the last digit is made
+pub digit-low : (u : ℕ) → u % rowOf u .4 < 8
+digit-low u =
+    let most : rowOf u .4 ≤ 8 = leb-true (rowOf u .4) 8 (found-each (hasUnit u) (λ r. leb (r .4) 8) noRow table refl) in
+    omega (arith, mod-lt u (low-some u))
+
+pub less-most : (u : ℕ) → rowOf u .5 ≤ 6
+less-most u = leb-true (rowOf u .5) 6 (found-each (hasUnit u) (λ r. leb (r .5) 6) noRow table refl)
+
+pub digit-small : (u : ℕ) → 10 ^ (u % rowOf u .4) * 10 ^ (6 - rowOf u .5) < 2 ^ 64
+digit-small u =
+    let a : 10 ^ (u % rowOf u .4) ≤ 10 ^ 7 = pow-le-pow-right (lit< tt) {j = 7} (omega (arith, digit-low u)) in
+    let b : 10 ^ (6 - rowOf u .5) ≤ 10 ^ 6 = pow-le-pow-right (lit< tt) {j = 6} (omega arith) in
+    lt-of-le-of-lt (mul-le-mul a b) (lit< tt)
+
 -- whether a product is over 10^9 is told by a quotient
 module _ (count unit : ℕ) (some : 0 < unit) where
   over-told : volumeMost / unit < count → volumeMost < count * unit
@@ -62,9 +79,9 @@ module _ (count unit : ℕ) (some : 0 < unit) where
       go (no l) = omega arith
 
 -- of an entry, from its count and its unit
-module _ (e : Entry) {count unit : ℕ} (c : count ≡ volumeCount (e .value)) (u : unit ≡ 10 ^ (e .unit % 8)) where
+module _ (e : Entry) {count unit : ℕ} (c : count ≡ volumeCount (e .value)) (u : unit ≡ 10 ^ millilitrePower (e .unit)) where
   pub unit-above : 0 < unit
-  unit-above = rw u (unit-some (e .unit % 8))
+  unit-above = rw u (unit-some (millilitrePower (e .unit)))
 
   product : count * unit ≡ millilitres e
   unfolding millilitres

@@ -8,13 +8,13 @@ use Rattle.mbus_entries.proofs.entry.try_low.Statement.{statement}
 use Rattle.mbus_entries.proofs.entry.try_low.Tie as tie
 
 -- what was read of the entry
-told : (c : tie.After-low-width)
+told : (c : tie.After-width-of)
     → Told (now (c .before .before .before .before .before .args .rest)) (c .before .before .before .before .before .args .quantity)
-    (c .low-width .result) (c .before .goes-with .result)
+    (c .width-of .result) (c .before .goes-with .result)
 told c = record {
   led = c .before .before .before .before .before .pre .0;
   below = c .before .before .before .before .before .pre .1;
-  width = c .low-width .ensures;
+  width = c .width-of .ensures;
   pair = c .before .goes-with .ensures;
 }
 

@@ -7,25 +7,25 @@ use Rattle.replay_error.proofs.figures.volume_of.Tie as tie
 
 div-if1 : tie.Need-div-if1
 div-if1 c =
-    let back3 = c .before .before .before in
-    omega (arith, unit-above (back3 .args .e) (c .before .before .volume-count .ensures) (c .ten-to .ensures))
+    let back = c .before .before in
+    omega (arith, unit-above (back .args .e) (c .before .volume-count .ensures) (c .digit-of .ensures))
 
 returns : tie.Need-returns
 returns c =
-    let back3 = c .before .before .before in
-    volume-over (back3 .before .args .e) (back3 .volume-count .ensures) (c .before .ten-to .ensures) (c .if1 .taken)
+    let back = c .before .before in
+    volume-over (back .before .args .e) (back .volume-count .ensures) (c .before .digit-of .ensures) (c .if1 .taken)
 
 mul-result : tie.Need-mul-result
 mul-result c =
     omega (
       arith,
-      volume-small (c .before .before .before .before .args .e) (c .before .before .before .volume-count .ensures) (c .before .ten-to .ensures) (c .if1 .left),
+      volume-small (c .before .before .before .args .e) (c .before .before .volume-count .ensures) (c .before .digit-of .ensures) (c .if1 .left),
     )
 
 returns-2 : tie.Need-returns-2
 returns-2 c =
-    let back3 = c .before .before .before in
-    volume-told (back3 .before .args .e) (back3 .volume-count .ensures) (c .before .ten-to .ensures) (c .if1 .left)
+    let back = c .before .before in
+    volume-told (back .before .args .e) (back .volume-count .ensures) (c .before .digit-of .ensures) (c .if1 .left)
 
 pub volume-of-spec : {M : Type 1} → statement M
 volume-of-spec =
