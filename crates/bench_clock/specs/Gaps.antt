@@ -2,7 +2,7 @@
 use Prim.Native.Nat.{ℕ, _-_}
 use mathlib.Core.Bool.{_||_}
 use lib.Dec.{ltb}
-use Rattle.mbus_rules.specs.Answers.{Answer, reads, refusal, refuse}
+use Rattle.base_rules.specs.Answers.{Answer, reads, refusal, refuse}
 use Rattle.bench_clock.specs.Times.{gapLeast, gapMost}
 use Rattle.bench_clock.specs.declared.Gap.{Gap}
 use Rattle.bench_clock.specs.declared.Gap.the-variants.{Fine, Refused}

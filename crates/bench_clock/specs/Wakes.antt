@@ -4,8 +4,8 @@ use mathlib.Core.Bool.{Bool, not, _||_, _&&_}
 use mathlib.Core.List.{List}
 use lib.Dec.{ltb, eqb}
 use lib.ListN.{length, replicate}
-use Rattle.mbus_rules.specs.Lists.{any}
-use Rattle.mbus_rules.specs.Answers.{Answer, reads, refusal, refuse}
+use Rattle.base_rules.specs.Lists.{any}
+use Rattle.base_rules.specs.Answers.{Answer, reads, refusal, refuse}
 use Rattle.bench_clock.specs.declared.Wake.{Wake}
 use Rattle.bench_clock.specs.declared.Wake.the-variants.{Written, Refused}
 

@@ -1,12 +1,12 @@
 // The line clock of document 01, the wake-up that opens an optical interface, and the gap between the two.
 ghost use mathlib.Core.Path.{_≡_};
 ghost use Prim.Native.Nat.{_-_};
-ghost use Rattle.mbus_rules.specs.Host.{chars};
-ghost use Rattle.bytes_lent.specs.Lent.{stored};
+ghost use Rattle.base_characters.specs.Characters.{chars};
+ghost use Rattle.base_lent.specs.Lent.{stored};
 ghost use Rattle.bench_clock.specs.Times.{late, due, earlier};
 ghost use Rattle.bench_clock.specs.Gaps.{gapOf, shownGap};
 ghost use Rattle.bench_clock.specs.Wakes.{isWake, wakeOf, shownWake, wakeLine};
-use mbus_characters::pairs::character_at;
+use base_characters::pairs::character_at;
 
 // A time on the line clock, counted in bit times of 1/2400 s.
 pub struct Clock(pub u64);

@@ -3,7 +3,7 @@ use Prim.Native.Nat.{ℕ, _-_}
 use mathlib.Core.Bool.{Bool, _||_}
 use lib.Dec.{ltb, leb, eqb}
 use lib.IntN.{ℤ, pos, _-ℤ_, _*ℤ_}
-use Rattle.mbus_rules.specs.Answers.{Answer, reads, refusal, refuse}
+use Rattle.base_rules.specs.Answers.{Answer, reads, refusal, refuse}
 use Rattle.bench_indication.specs.Rounding.{rounded}
 use Rattle.bench_indication.specs.declared.Indication.{Indication}
 use Rattle.bench_indication.specs.declared.Indication.the-variants.{Error, Refused}

@@ -2,7 +2,7 @@
 use Prim.Native.Nat.{ℕ, _≤_}
 use mathlib.Core.List.{List, [], _∷_}
 use lib.ListN.{length}
-use Rattle.mbus_rules.specs.Flips.{Place, Places}
+use Rattle.base_characters.specs.Flips.{Place, Places}
 use Rattle.both_ends.specs.Line.{Ends, Between, Happening, reachesMeter, lostToMeter, reachesBench, lostToBench, ticks, sendEnds, measures, happens}
 
 -- ---- all times rising together

@@ -5,8 +5,8 @@ use mathlib.Core.List.{List, [], _∷_, _++_}
 use lib.Dec.{eqb}
 use Rattle.bench_clock.specs.declared.Clock.{Clock}
 use Rattle.mbus_rules.specs.declared.Request.{Request}
-use Rattle.mbus_rules.specs.Answers.{Answer, reads, refusal}
-use Rattle.mbus_rules.specs.Flips.{Place, flips}
+use Rattle.base_rules.specs.Answers.{Answer, reads, refusal}
+use Rattle.base_characters.specs.Flips.{Place, flips}
 use Rattle.mbus_rules.specs.Lines.{readLine}
 use Rattle.mbus_rules.specs.Views.{viewed}
 use Rattle.mbus_rules.specs.Writing.{lineOf}

@@ -8,7 +8,7 @@ use Rattle.bench_clock.specs.declared.Clock.{Clock}
 use Rattle.bench_clock.specs.Times.{returnTime}
 use Rattle.mbus_rules.specs.declared.Request.{Request}
 use Rattle.mbus_rules.specs.declared.Request.the-variants.{Read, Enter, Leave}
-use Rattle.mbus_rules.specs.Flips.{Place}
+use Rattle.base_characters.specs.Flips.{Place}
 use Rattle.mbus_rules.specs.Lines.{isMethod}
 use Rattle.exchange_steps.specs.declared.Cause.{Cause}
 use Rattle.exchange_steps.specs.declared.State.the-variants.{Well, Failed}

@@ -3,7 +3,7 @@ use Prim.Native.Nat.{ℕ}
 use mathlib.Core.List.{List, [], _∷_}
 use Rattle.mbus_rules.specs.declared.Request.{Request}
 use Rattle.mbus_rules.specs.declared.Request.the-variants.{Enter, Leave}
-use Rattle.mbus_rules.specs.Flips.{Place}
+use Rattle.base_characters.specs.Flips.{Place}
 use Rattle.mbus_rules.specs.Telegrams.{blank}
 use Rattle.exchange_steps.specs.Values.{clockAt}
 use Rattle.meter_template.specs.declared.Pair.{Pair}

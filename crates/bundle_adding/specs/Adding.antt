@@ -5,11 +5,10 @@ use mathlib.Core.Bool.{Bool, _||_}
 use mathlib.Core.List.{List, [], _∷_, _++_}
 use lib.Dec.{ltb, leb}
 use lib.ListN.{length, take}
-use Rattle.mbus_rules.specs.Answers.{Answer, reads, refuse, follow}
-use Rattle.mbus_rules.specs.Characters.{over}
-use Rattle.mbus_rules.specs.Host.{chars}
-use Rattle.mbus_rules.specs.Lists.{any}
-use Rattle.bytes_lent.specs.Lent.{stored}
+use Rattle.base_rules.specs.Answers.{Answer, reads, refuse, follow}
+use Rattle.base_characters.specs.Characters.{over, chars}
+use Rattle.base_rules.specs.Lists.{any}
+use Rattle.base_lent.specs.Lent.{stored}
 use Rattle.bundle_rows.specs.Rows.{mostRows}
 use Rattle.bundle_rows.specs.declared.Row.{Row}
 use Rattle.bundle_check.specs.Bundles.{mostBytes, contentsOf, checkOf}

@@ -2,7 +2,7 @@
 use Prim.Native.Nat.{ℕ}
 use mathlib.Core.List.{List}
 use mathlib.Core.Path.{_≡_}
-use Rattle.mbus_rules.specs.Answers.{Answer, reads, refusal}
+use Rattle.base_rules.specs.Answers.{Answer, reads, refusal}
 use Rattle.bundle_check.specs.Records.{Recorded}
 use Rattle.bundle_adding.specs.declared.Added.{Added}
 use Rattle.bundle_adding.specs.declared.Added.the-variants.{Filled, Refused}

@@ -4,7 +4,7 @@ use mathlib.Core.List.{List, _++_}
 use lib.ListN.{length, take, drop}
 use lib.Seq.{slice}
 use Rattle.bundle_rows.specs.declared.Row.{Row}
-use Rattle.bytes_numbers.specs.Numbers.{bytesOf}
+use Rattle.base_numbers.specs.Numbers.{bytesOf}
 use Rattle.bundle_rows.specs.Rows.{rowsOf, firstOffset, bytesOfRow, bytesOfRows}
 use Rattle.bundle_check.specs.Records.{placedFrom}
 

@@ -3,7 +3,7 @@ ghost use mathlib.Core.Path.{_≡_};
 ghost use Prim.Native.Nat.{_+_, _≤_};
 ghost use lib.ListN.{length};
 ghost use Rattle.bundle_adding.specs.Writing.{shifted, bodiesMoved};
-use bytes_lent::lay;
+use base_lent::lay;
 
 // What stands from one place up to another moves by 12, the last byte first, so that none is written over before it has moved.
 fn move_by_twelve(buffer: &mut [u8], from: usize, to: usize)

@@ -8,8 +8,8 @@ ghost use Rattle.bundle_adding.specs.Writing.{rowsPlaced, contentsGrown}
 use bundle_rows::Row;
 use bundle_rows::row_bytes;
 use bundle_rows::unchecked_row;
-use bytes_lent::lay;
-use bytes_numbers::put_number;
+use base_lent::lay;
+use base_numbers::put_number;
 
 // Each row gets the offset that its body has, the first body at a place and each next one behind it.
 fn place_rows(buffer: &mut [u8], count: usize, first: usize)

@@ -2,7 +2,7 @@
 ghost use mathlib.Core.Path.{_≡_};
 ghost use Prim.Native.Nat.{_+_, _≤_};
 ghost use lib.ListN.{length, take};
-ghost use Rattle.mbus_rules.specs.Answers.{reads};
+ghost use Rattle.base_rules.specs.Answers.{reads};
 ghost use Rattle.bundle_check.specs.Bundles.{mostBytes, contentsOf, checkOf};
 ghost use Rattle.bundle_adding.specs.Adding.{newRecord, lastTime, bufferAfter};
 ghost use Rattle.bundle_adding.specs.Shown.{Adds};
@@ -15,7 +15,7 @@ use bundle_rows::MOST_ROWS;
 use bundle_rows::Row;
 use bundle_rows::unchecked_row;
 use bundle_rows::wrong_field;
-use mbus_characters::pairs::any_over;
+use base_characters::pairs::any_over;
 
 mod bodies;
 mod growing;

@@ -3,14 +3,13 @@ use Prim.Native.Nat.{ℕ}
 use mathlib.Core.List.{List}
 use lib.Dec.{ltb}
 use lib.ListN.{length, take, drop}
-use Rattle.mbus_rules.specs.Lists.{any}
-use Rattle.mbus_rules.specs.Characters.{over}
-use Rattle.mbus_rules.specs.Answers.{Answer, reads, refuse}
+use Rattle.base_rules.specs.Lists.{any}
+use Rattle.base_characters.specs.Characters.{over, chars}
+use Rattle.base_rules.specs.Answers.{Answer, reads, refuse}
 use Rattle.bundle_rows.specs.declared.Row.{Row}
-use Rattle.bytes_numbers.specs.Numbers.{number}
+use Rattle.base_numbers.specs.Numbers.{number}
 use Rattle.bundle_rows.specs.Rows.{mostRows, rowsOf, firstOffset}
 use Rattle.bundle_check.specs.RowRules.{wrongRows, wrongPlaces, bodiesEnd}
-use Rattle.mbus_rules.specs.Host.{chars}
 
 -- at most 65,536 bytes
 abbrev pub mostBytes : ℕ

@@ -3,7 +3,7 @@ use Prim.Native.Nat.{ℕ}
 use mathlib.Core.List.{List}
 use lib.Dec.{leb}
 use lib.ListN.{getD}
-use Rattle.mbus_rules.specs.Answers.{Answer, reads, refuse, within, follow}
+use Rattle.base_rules.specs.Answers.{Answer, reads, refuse, within, follow}
 use Rattle.bundle_rows.specs.declared.Row.{Row}
 use Rattle.bundle_rows.specs.Rows.{blankRow}
 use Rattle.bundle_check.specs.Bundles.{contentsOf, checkOf}

@@ -2,7 +2,7 @@
 use Prim.Native.Nat.{ℕ, _+_}
 use mathlib.Core.List.{List, [], _∷_, _++_}
 use lib.ListN.{length, take, drop}
-use Rattle.bytes_numbers.specs.Numbers.{bytesOf}
+use Rattle.base_numbers.specs.Numbers.{bytesOf}
 use Rattle.bundle_rows.specs.Rows.{firstOffset, bytesOfRows}
 use Rattle.bundle_rows.specs.declared.Row.{Row}
 use Rattle.bundle_check.specs.Bundles.{contentsOf, bodiesOf}

@@ -1,5 +1,5 @@
 -- 01, "The form to use in each place": for every answer that is an enum, 01's number and values for each of its cases.
-use Rattle.mbus_rules.specs.Answers.{Answer, reads, refusal}
+use Rattle.base_rules.specs.Answers.{Answer, reads, refusal}
 use Rattle.bundle_rows.specs.declared.Row.{Row}
 use Rattle.bundle_check.specs.declared.rows.RowFound.{RowFound}
 use Rattle.bundle_check.specs.declared.rows.RowFound.the-variants as row-found

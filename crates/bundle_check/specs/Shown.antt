@@ -1,6 +1,6 @@
 -- 01, "The form to use in each place": for every answer that is an enum, 01's number and values for each of its cases.
 use Prim.Native.Nat.{ℕ}
-use Rattle.mbus_rules.specs.Answers.{Answer, reads, refusal}
+use Rattle.base_rules.specs.Answers.{Answer, reads, refusal}
 use Rattle.bundle_check.specs.declared.Checked.{Checked}
 use Rattle.bundle_check.specs.declared.Checked.the-variants as checked
 

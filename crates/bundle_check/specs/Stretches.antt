@@ -4,7 +4,7 @@ use mathlib.Core.List.{List, []}
 use mathlib.Core.Path.{_≡_}
 use lib.ListN.{take, drop}
 use denote.Ref.{RefT, now, ptr}
-use Rattle.mbus_rules.specs.Answers.{Answer, reads, refusal}
+use Rattle.base_rules.specs.Answers.{Answer, reads, refusal}
 use Rattle.bundle_check.specs.Handing.{BodyPlace}
 
 -- the bytes that are handed out, and where in the bundle they lie

@@ -3,13 +3,13 @@ ghost use mathlib.Core.Path.{_≡_};
 ghost use Prim.Native.Nat.{_≤_};
 ghost use lib.ListN.{length};
 ghost use Rattle.bundle_rows.specs.Rows.{mostRows, firstOffset};
-ghost use Rattle.mbus_rules.specs.Answers.{reads};
+ghost use Rattle.base_rules.specs.Answers.{reads};
 ghost use Rattle.bundle_check.specs.Bundles.{countOf, opened, checkRows, checkOf};
 ghost use Rattle.bundle_check.specs.Shown.{shownChecked};
 use crate::walk::walk_rows;
 use bundle_rows::MOST_ROWS;
-use bytes_numbers::number_at;
-use mbus_characters::pairs::any_over;
+use base_numbers::number_at;
+use base_characters::pairs::any_over;
 
 pub mod rows;
 mod walk;

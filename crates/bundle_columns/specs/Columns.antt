@@ -3,9 +3,9 @@ use Prim.Native.Nat.{ℕ, zero, suc, _-_, _^_, _≤_, _<_}
 use mathlib.Core.List.{List, [], _∷_, _++_, map}
 use mathlib.Core.Path.{_≡_}
 use lib.ListN.{length, drop, replicate}
-use Rattle.mbus_rules.specs.Lists.{at}
-use Rattle.mbus_rules.specs.Answers.{Answer, within}
-use Rattle.bytes_numbers.specs.Numbers.{bytesOf}
+use Rattle.base_rules.specs.Lists.{at}
+use Rattle.base_rules.specs.Answers.{Answer, within}
+use Rattle.base_numbers.specs.Numbers.{bytesOf}
 use Rattle.bundle_rows.specs.Lists.{All}
 use Rattle.bundle_rows.specs.Rows.{mostRows, bytesOfRows}
 use Rattle.bundle_rows.specs.declared.Row.{Row}

@@ -4,7 +4,7 @@ use mathlib.Core.Bool.{Bool, cond}
 use mathlib.Core.List.{List, [], _∷_}
 use lib.Dec.{leb, eqb}
 use lib.ListN.{length, take, drop}
-use Rattle.mbus_rules.specs.Answers.{Answer, reads, refuse, within, follow}
+use Rattle.base_rules.specs.Answers.{Answer, reads, refuse, within, follow}
 use Rattle.bundle_rows.specs.declared.Row.{Row}
 use Rattle.bundle_check.specs.Bundles.{contentsOf, checkOf}
 use Rattle.bundle_check.specs.Handing.{BodyPlace, placeOf}

@@ -3,8 +3,8 @@ use Prim.Native.Nat.{ℕ, zero, suc, _-_, _^_, _<_}
 use mathlib.Core.List.{List, [], _∷_, _++_}
 use mathlib.Core.Path.{_≡_}
 use lib.ListN.{take, drop, replicate}
-use Rattle.mbus_rules.specs.Lists.{at}
-use Rattle.bytes_numbers.specs.Numbers.{number}
+use Rattle.base_rules.specs.Lists.{at}
+use Rattle.base_numbers.specs.Numbers.{number}
 use Rattle.bundle_rows.specs.Rows.{mostRows}
 
 -- so many bytes at a place in each of n rows

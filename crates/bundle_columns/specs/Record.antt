@@ -4,10 +4,10 @@ use mathlib.Core.Bool.{not, _||_}
 use mathlib.Core.List.{List, [], _∷_, _++_}
 use lib.Dec.{ltb, eqb}
 use lib.ListN.{length, take, drop}
-use Rattle.mbus_rules.specs.Answers.{Answer, reads, refuse}
-use Rattle.bytes_lent.specs.Pieces.{pieces}
-use Rattle.bytes_numbers.specs.Numbers.{number, bytesOf}
-use Rattle.host_records.specs.Recorded.{noRecord}
+use Rattle.base_rules.specs.Answers.{Answer, reads, refuse}
+use Rattle.base_lent.specs.Pieces.{pieces}
+use Rattle.base_numbers.specs.Numbers.{number, bytesOf}
+use Rattle.base_lent.specs.Recorded.{noRecord}
 use Rattle.bundle_rows.specs.Rows.{mostRows}
 use Rattle.bundle_columns.specs.Columns.{Columns}
 

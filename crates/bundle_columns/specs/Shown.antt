@@ -2,8 +2,8 @@
 use Prim.Native.Nat.{ℕ}
 use mathlib.Core.List.{List, []}
 use mathlib.Core.Path.{_≡_}
-use Rattle.mbus_rules.specs.Answers.{Answer, reads, refusal, within, follow}
-use Rattle.bytes_lent.specs.Lent.{stored, needs}
+use Rattle.base_rules.specs.Answers.{Answer, reads, refusal, within, follow}
+use Rattle.base_lent.specs.Lent.{stored, needs}
 use Rattle.bundle_rows.specs.Rows.{firstOffset}
 use Rattle.bundle_check.specs.declared.Checked.{Checked}
 use Rattle.bundle_check.specs.Shown.{shownChecked}

@@ -15,7 +15,7 @@ use bundle_check::rows::BodyFound;
 use bundle_check::rows::RowFound;
 use bundle_rows::MOST_ROWS;
 use bundle_rows::Row;
-use bytes_numbers::number_at;
+use base_numbers::number_at;
 
 pub mod making;
 mod scanning;

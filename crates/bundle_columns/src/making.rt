@@ -3,9 +3,9 @@ ghost use mathlib.Core.Path.{_≡_};
 ghost use mathlib.Core.List.{_++_};
 ghost use Prim.Native.Nat.{_+_, _*_, _≤_};
 ghost use lib.ListN.{length};
-ghost use Rattle.mbus_rules.specs.Lists.{at};
-ghost use Rattle.bytes_lent.specs.Copying.{laid};
-ghost use Rattle.bytes_numbers.specs.Numbers.{bytesOf};
+ghost use Rattle.base_rules.specs.Lists.{at};
+ghost use Rattle.base_lent.specs.Copying.{laid};
+ghost use Rattle.base_numbers.specs.Numbers.{bytesOf};
 ghost use Rattle.bundle_rows.specs.Rows.{mostRows};
 ghost use Rattle.bundle_columns.specs.Record.{columnsSize, listBytes, columnsBytes};
 ghost use Rattle.bundle_columns.specs.Making.{fieldsIn, FieldThere};
@@ -19,8 +19,8 @@ use crate::TIMES;
 use bundle_check::Checked;
 use bundle_check::check;
 use bundle_rows::MOST_ROWS;
-use bytes_numbers::number_at;
-use bytes_numbers::put_number;
+use base_numbers::number_at;
+use base_numbers::put_number;
 
 // A field of row i: so many bytes at a place in its twelve; 0 where there is no such row.
 fn field(bundle: &[u8], count: usize, place: usize, width: usize, i: usize) -> u64

@@ -2,7 +2,7 @@
 ghost use mathlib.Core.Path.{_≡_};
 ghost use Prim.Native.Nat.{_+_, _<_, _≤_};
 ghost use lib.ListN.{length, drop};
-ghost use Rattle.mbus_rules.specs.Lists.{any};
+ghost use Rattle.base_rules.specs.Lists.{any};
 ghost use Rattle.bundle_columns.specs.Lookups.{isPosition, inFront, firstFrom};
 ghost use Rattle.bundle_columns.specs.Shown.{shownNext};
 ghost use Rattle.bundle_columns.specs.Scanning.{Passed};

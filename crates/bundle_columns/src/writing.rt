@@ -2,7 +2,7 @@
 ghost use mathlib.Core.Path.{_≡_};
 ghost use Prim.Native.Nat.{_≤_};
 ghost use lib.ListN.{length};
-ghost use Rattle.bytes_lent.specs.Copying.{laid};
+ghost use Rattle.base_lent.specs.Copying.{laid};
 ghost use Rattle.bundle_rows.specs.Rows.{mostRows, firstOffset, bytesOfRows};
 ghost use Rattle.bundle_columns.specs.Columns.{keptFrom, contentsBytes};
 ghost use Rattle.bundle_columns.specs.Record.{columnsSize, columnsIn};
@@ -11,8 +11,8 @@ use crate::count_in;
 use crate::kept_row;
 use bundle_check::Checked;
 use bundle_rows::row_bytes;
-use bytes_lent::lay;
-use bytes_numbers::put_number;
+use base_lent::lay;
+use base_numbers::put_number;
 
 // So many rows of the lists, one behind the other, behind the count.
 fn put_rows(columns: &[u8], count: usize, out: &mut [u8])

@@ -5,10 +5,10 @@ use mathlib.Core.List.{List, [], _∷_, _++_}
 use mathlib.Core.Path.{_≡_}
 use lib.Dec.{ltb, leb}
 use lib.ListN.{length, take, drop}
-use Rattle.mbus_rules.specs.Host.{chars}
-use Rattle.mbus_rules.specs.Lists.{at}
-use Rattle.bytes_numbers.specs.Numbers.{number, bytesOf}
-use Rattle.bytes_lent.specs.Copying.{laid}
+use Rattle.base_characters.specs.Characters.{chars}
+use Rattle.base_rules.specs.Lists.{at}
+use Rattle.base_numbers.specs.Numbers.{number, bytesOf}
+use Rattle.base_lent.specs.Copying.{laid}
 use Rattle.bundle_rows.specs.declared.Row.{Row}
 
 -- position; direction; time 4 bytes; offset 4; body length 2

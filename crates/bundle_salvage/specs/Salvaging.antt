@@ -5,10 +5,9 @@ use mathlib.Core.List.{List, [], _∷_}
 use mathlib.Core.Path.{_≡_}
 use lib.Dec.{ltb, eqb}
 use lib.ListN.{length, take, drop}
-use Rattle.mbus_rules.specs.Answers.{Answer, reads, refuse, follow}
-use Rattle.mbus_rules.specs.Characters.{over}
-use Rattle.mbus_rules.specs.Host.{chars}
-use Rattle.mbus_rules.specs.Lists.{any}
+use Rattle.base_rules.specs.Answers.{Answer, reads, refuse, follow}
+use Rattle.base_characters.specs.Characters.{over, chars}
+use Rattle.base_rules.specs.Lists.{any}
 use Rattle.bundle_rows.specs.Rows.{rowsOf, firstOffset, bodyIn}
 use Rattle.bundle_rows.specs.declared.Row.{Row}
 use Rattle.bundle_check.specs.Bundles.{countOf, opened}

@@ -2,8 +2,8 @@
 use Prim.Native.Nat.{ℕ}
 use mathlib.Core.List.{List, []}
 use mathlib.Core.Path.{_≡_}
-use Rattle.mbus_rules.specs.Answers.{Answer, reads, refusal}
-use Rattle.bytes_lent.specs.Lent.{stored}
+use Rattle.base_rules.specs.Answers.{Answer, reads, refusal}
+use Rattle.base_lent.specs.Lent.{stored}
 use Rattle.bundle_salvage.specs.declared.Salvaged.{Salvaged}
 use Rattle.bundle_salvage.specs.declared.SalvageTold.{SalvageTold}
 use Rattle.bundle_salvage.specs.declared.SalvageTold.the-variants.{Told, Refused}

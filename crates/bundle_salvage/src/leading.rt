@@ -8,7 +8,7 @@ ghost use Rattle.bundle_salvage.specs.Writing.{ContentsWhole};
 use bundle_rows::Row;
 use bundle_rows::unchecked_row;
 use bundle_rows::wrong_field;
-use mbus_characters::pairs::any_over;
+use base_characters::pairs::any_over;
 
 // How many rows, the rule that the next one breaks or 0, and where their bodies end.
 pub(crate) struct Leading {

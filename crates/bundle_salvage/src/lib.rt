@@ -1,6 +1,6 @@
 // Salvaging a run bundle cut short (2026-11 of document 02) into a second buffer.
 ghost use mathlib.Core.Path.{_≡_};
-ghost use Rattle.mbus_rules.specs.Answers.{reads};
+ghost use Rattle.base_rules.specs.Answers.{reads};
 ghost use Rattle.bundle_check.specs.Bundles.{countOf, opened};
 ghost use Rattle.bundle_salvage.specs.Salvaging.{ruleTold};
 ghost use Rattle.bundle_salvage.specs.Shown.{Salvages};

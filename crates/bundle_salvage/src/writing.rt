@@ -2,7 +2,7 @@
 ghost use mathlib.Core.Path.{_≡_};
 ghost use Prim.Native.Nat.{_+_, _-_, _≤_};
 ghost use lib.ListN.{length, take, drop};
-ghost use Rattle.bytes_lent.specs.Copying.{laid};
+ghost use Rattle.base_lent.specs.Copying.{laid};
 ghost use Rattle.bundle_rows.specs.Rows.{rowsOf, firstOffset, bytesOfRows};
 ghost use Rattle.bundle_check.specs.Bundles.{countOf};
 ghost use Rattle.bundle_check.specs.Records.{recordsOf, bundleOf};
@@ -12,8 +12,8 @@ ghost use Rattle.bundle_salvage.specs.Writing.{loweredRows, InPlace};
 use bundle_rows::Row;
 use bundle_rows::row_bytes;
 use bundle_rows::unchecked_row;
-use bytes_lent::lay;
-use bytes_numbers::put_number;
+use base_lent::lay;
+use base_numbers::put_number;
 
 // The rows that are kept, each with its offset lower by the rows that are dropped.
 fn put_rows(damaged: &[u8], kept: usize, count: usize, out: &mut [u8])

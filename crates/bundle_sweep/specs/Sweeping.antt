@@ -4,9 +4,9 @@ use mathlib.Core.Bool.{Bool, cond, not, _&&_, _||_}
 use mathlib.Core.List.{List, [], _∷_}
 use lib.Dec.{ltb, eqb}
 use lib.ListN.{length, take}
-use Rattle.mbus_rules.specs.Answers.{Answer, reads, refuse, follow}
-use Rattle.mbus_rules.specs.Host.{chars}
-use Rattle.bytes_lent.specs.Lent.{stored}
+use Rattle.base_rules.specs.Answers.{Answer, reads, refuse, follow}
+use Rattle.base_characters.specs.Characters.{chars}
+use Rattle.base_lent.specs.Lent.{stored}
 use Rattle.bench_clock.specs.Wakes.{isWake}
 use Rattle.bundle_check.specs.Bundles.{checkOf}
 use Rattle.bundle_check.specs.Records.{Recorded, recordsOf, bundleOf}

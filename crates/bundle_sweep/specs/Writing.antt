@@ -4,8 +4,8 @@ use mathlib.Core.Bool.{Bool}
 use mathlib.Core.List.{List, [], _∷_}
 use mathlib.Core.Path.{_≡_}
 use lib.ListN.{length, drop}
-use Rattle.bytes_lent.specs.Copying.{laid}
-use Rattle.bytes_lent.specs.Pieces.{pieces}
+use Rattle.base_lent.specs.Copying.{laid}
+use Rattle.base_lent.specs.Pieces.{pieces}
 use Rattle.bundle_rows.specs.Rows.{mostRows, rowsOf, firstOffset, bytesOfRows, bodyIn}
 use Rattle.bundle_rows.specs.declared.Row.{Row}
 use Rattle.bundle_check.specs.Bundles.{mostBytes, contentsOf}

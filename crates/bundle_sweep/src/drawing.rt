@@ -2,7 +2,7 @@
 ghost use mathlib.Core.Path.{_≡_};
 ghost use Prim.Native.Nat.{_+_, _≤_};
 ghost use lib.ListN.{length};
-ghost use Rattle.mbus_rules.specs.Answers.{reads};
+ghost use Rattle.base_rules.specs.Answers.{reads};
 ghost use Rattle.bundle_rows.specs.Rows.{uncheckedRow};
 ghost use Rattle.bundle_check.specs.Bundles.{checkOf};
 ghost use Rattle.bundle_sweep.specs.Sweeping.{goes};

@@ -1,8 +1,8 @@
 // The sweep of a run bundle (2026-12 of document 02), in the caller's own buffer.
 ghost use mathlib.Core.Path.{_≡_};
 ghost use lib.ListN.{length};
-ghost use Rattle.mbus_rules.specs.Answers.{reads};
-ghost use Rattle.bytes_lent.specs.Copying.{laid};
+ghost use Rattle.base_rules.specs.Answers.{reads};
+ghost use Rattle.base_lent.specs.Copying.{laid};
 ghost use Rattle.bundle_check.specs.Bundles.{checkOf};
 ghost use Rattle.bundle_sweep.specs.Sweeping.{sweptBundle};
 ghost use Rattle.bundle_sweep.specs.Shown.{Sweeps};
@@ -10,7 +10,7 @@ use crate::drawing::draw_rows;
 use crate::placing::place_bodies;
 use bundle_check::Checked;
 use bundle_check::check;
-use bytes_numbers::put_number;
+use base_numbers::put_number;
 
 mod drawing;
 mod moving;

@@ -2,7 +2,7 @@
 ghost use mathlib.Core.Path.{_≡_};
 ghost use Prim.Native.Nat.{_+_, _≤_};
 ghost use lib.ListN.{length, take, drop};
-ghost use Rattle.bytes_lent.specs.Copying.{laid};
+ghost use Rattle.base_lent.specs.Copying.{laid};
 
 // So many bytes move to a lower place, the first byte first, so that none is written over before it has moved.
 pub(crate) fn move_down(bundle: &mut [u8], from: usize, to: usize, size: usize)

@@ -4,7 +4,7 @@ use crate::moving::move_down;
 use bundle_rows::Row;
 use bundle_rows::row_bytes;
 use bundle_rows::unchecked_row;
-use bytes_lent::lay;
+use base_lent::lay;
 
 // Each body moves to where the one before it ends, the first behind the rows, and its row gets that offset; answers where the last ends.
 pub(crate) fn place_bodies(bundle: &mut [u8], kept: usize) -> usize

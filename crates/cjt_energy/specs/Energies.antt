@@ -6,7 +6,7 @@ use lib.Dec.{ltb, eqb}
 use lib.IntN.{pos}
 use Rattle.mbus_rules.specs.declared.Entry.{Entry}
 use Rattle.mbus_rules.specs.declared.Value.the-variants.{Number}
-use Rattle.mbus_rules.specs.Answers.{Answer, reads, refusal, refuse}
+use Rattle.base_rules.specs.Answers.{Answer, reads, refusal, refuse}
 use Rattle.cjt_rules.specs.CjtUnits.{joules, energyCode}
 use Rattle.cjt_rules.specs.CjtWriting.{overEight}
 use Rattle.cjt_energy.specs.declared.Converted.{Converted}

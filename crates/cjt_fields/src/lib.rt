@@ -5,7 +5,7 @@ ghost use Rattle.cjt_rules.specs.CjtClocks.{wrongClock};
 ghost use Rattle.cjt_rules.specs.CjtUnits.{energyCode, powerCode, flowCode, volumeCode, wrongUnits};
 use cjt_rules::CjtAnswer;
 use cjt_rules::CjtClock;
-use mbus_fields::moments::days_of;
+use base_calendar::days_of;
 
 // The type is one of the seven.
 pub fn is_heat_type(sort: u8) -> bool

@@ -3,9 +3,9 @@ use Prim.Native.Nat.{ℕ, _+_, _*_, _≤_}
 use mathlib.Core.List.{List}
 use mathlib.Core.Path.{_≡_}
 use lib.ListN.{length, drop}
-use Rattle.mbus_rules.specs.declared.Outcome.{Outcome}
-use Rattle.mbus_rules.specs.declared.Outcome.the-variants as outcomes
-use Rattle.mbus_rules.specs.Lists.{total}
+use Rattle.base_rules.specs.declared.Outcome.{Outcome}
+use Rattle.base_rules.specs.declared.Outcome.the-variants as outcomes
+use Rattle.base_rules.specs.Lists.{total}
 use Rattle.cjt_rules.specs.declared.CjtReading.{CjtReading}
 use Rattle.cjt_rules.specs.declared.CjtReading.the-variants as readings
 use Rattle.cjt_rules.specs.declared.CjtView.{CjtView}

@@ -5,9 +5,9 @@ ghost use Rattle.cjt_rules.specs.CjtViews.{cjtShown};
 ghost use Rattle.cjt_reading.specs.CjtParts.{farFrom};
 use cjt_rules::CjtReading;
 use frame::read_in;
-use mbus_characters::line::gather;
-use mbus_characters::line::soundness_of;
-use mbus_rules::Outcome;
+use base_characters::line::gather;
+use base_characters::line::soundness_of;
+use base_rules::Outcome;
 
 mod frame;
 pub mod pairs;

@@ -1,6 +1,6 @@
 // A line whose characters come as bytes, two per character, low byte first.
 ghost use mathlib.Core.Path.{_≡_};
-ghost use Rattle.mbus_rules.specs.Host.{chars};
+ghost use Rattle.base_characters.specs.Characters.{chars};
 ghost use Rattle.cjt_rules.specs.CjtLines.{readCjtLine};
 ghost use Rattle.cjt_rules.specs.CjtViews.{cjtShown, cjtViewed};
 ghost use Rattle.cjt_reading.specs.CjtParts.{viewedAs};
@@ -10,9 +10,9 @@ use crate::frame::read_in;
 use cjt_rules::CjtReading;
 use cjt_rules::CjtTelegram;
 use cjt_rules::CjtView;
-use mbus_characters::pairs::gather;
-use mbus_characters::pairs::soundness_of;
-use mbus_rules::Outcome;
+use base_characters::pairs::gather;
+use base_characters::pairs::soundness_of;
+use base_rules::Outcome;
 
 // The whole answer of reading a line.
 fn read_pairs(bytes: &[u8]) -> CjtReading

@@ -2,16 +2,16 @@
 ghost use mathlib.Core.Path.{_≡_};
 ghost use mathlib.Core.List.{[], _∷_};
 ghost use Prim.Native.Nat.{_≤_};
-ghost use Rattle.mbus_rules.specs.Digits.{digitsOf};
+ghost use Rattle.base_digits.specs.Digits.{digitsOf};
 ghost use Rattle.cjt_rules.specs.CjtClocks.{clockOf};
 ghost use Rattle.cjt_rules.specs.CjtLines.{part, valueFrom, wrongPart, wrongListed, tellsIn};
-use bytes_numbers::byte_at;
-use bytes_numbers::number_at;
+use base_numbers::byte_at;
+use base_numbers::number_at;
 use cjt_fields::wrong_clock;
 use cjt_rules::CjtAnswer;
 use cjt_rules::CjtClock;
 use cjt_rules::CjtQuantity;
-use mbus_fields::digits::packed_in;
+use base_digits::packed_in;
 
 // A digit of at most eight bytes from a place on is over nine.
 fn wrong_at(d: &[u8], place: usize, width: usize) -> bool

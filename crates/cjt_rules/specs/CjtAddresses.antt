@@ -4,9 +4,8 @@ use mathlib.Core.Bool.{Bool, cond, not, _&&_, _||_}
 use mathlib.Core.List.{List}
 use lib.Dec.{eqb}
 use lib.ListN.{take, drop}
-use Rattle.mbus_rules.specs.Lists.{at, any}
-use Rattle.mbus_rules.specs.Digits.{overNine, digitsOf}
-use Rattle.mbus_rules.specs.Quantities.{between}
+use Rattle.base_rules.specs.Lists.{at, any, between}
+use Rattle.base_digits.specs.Digits.{overNine, digitsOf}
 use Rattle.cjt_rules.specs.declared.CjtAddress.{CjtAddress}
 use Rattle.cjt_rules.specs.declared.CjtAddress.the-variants.{Meter, Broadcast}
 use Rattle.cjt_rules.specs.CjtFrames.{asksLength}

@@ -3,9 +3,9 @@ use Prim.Native.Nat.{ℕ}
 use mathlib.Core.Bool.{Bool, not, _&&_, _||_}
 use mathlib.Core.List.{List, [], _∷_}
 use lib.Dec.{ltb, leb}
-use Rattle.mbus_rules.specs.Lists.{at}
-use Rattle.mbus_rules.specs.Digits.{digitsOf}
-use Rattle.mbus_rules.specs.Moments.{daysIn}
+use Rattle.base_rules.specs.Lists.{at}
+use Rattle.base_digits.specs.Digits.{digitsOf}
+use Rattle.base_calendar.specs.Months.{daysIn}
 use Rattle.cjt_rules.specs.declared.CjtClock.{CjtClock}
 
 -- Seven bytes of two digits each, low byte first: second, minute, hour, day, month, and two for the year.

@@ -4,7 +4,7 @@ use mathlib.Core.Bool.{Bool, cond, not, _||_}
 use mathlib.Core.List.{List, [], _∷_}
 use lib.Dec.{eqb}
 use lib.ListN.{length, take}
-use Rattle.mbus_rules.specs.Lists.{at, total}
+use Rattle.base_rules.specs.Lists.{at, total}
 
 -- FE bytes in front, none to five, are skipped before the line begins; `left` of them still may be.
 unfoldable pub pastFE : (left : ℕ) → List ℕ → List ℕ

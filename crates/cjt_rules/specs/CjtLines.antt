@@ -5,10 +5,10 @@ use mathlib.Core.List.{List, map}
 use mathlib.Core.Path.{_≡_}
 use lib.Dec.{eqb}
 use lib.ListN.{length, take, drop}
-use Rattle.mbus_rules.specs.Lists.{at, any}
-use Rattle.mbus_rules.specs.Characters.{over, odd, byteOf}
-use Rattle.mbus_rules.specs.Answers.{Answer, reads, refuse}
-use Rattle.mbus_rules.specs.Digits.{overNine, digitsOf}
+use Rattle.base_rules.specs.Lists.{at, any}
+use Rattle.base_characters.specs.Characters.{over, odd, byteOf}
+use Rattle.base_rules.specs.Answers.{Answer, reads, refuse}
+use Rattle.base_digits.specs.Digits.{overNine, digitsOf}
 use Rattle.cjt_rules.specs.declared.CjtRequest.{CjtRequest}
 use Rattle.cjt_rules.specs.declared.CjtQuantity.{CjtQuantity}
 use Rattle.cjt_rules.specs.declared.CjtAnswer.{CjtAnswer}

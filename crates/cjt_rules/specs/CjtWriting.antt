@@ -4,10 +4,10 @@ use mathlib.Core.Bool.{Bool, false, not, _||_}
 use mathlib.Core.List.{List, [], _∷_, _++_, map}
 use lib.Dec.{ltb}
 use lib.ListN.{length, replicate}
-use Rattle.mbus_rules.specs.Characters.{carrier}
-use Rattle.mbus_rules.specs.Answers.{Answer, reads, refuse}
-use Rattle.mbus_rules.specs.Digits.{packed}
-use Rattle.mbus_rules.specs.Writing.{closed}
+use Rattle.base_characters.specs.Characters.{carrier}
+use Rattle.base_rules.specs.Answers.{Answer, reads, refuse}
+use Rattle.base_digits.specs.Digits.{packed}
+use Rattle.base_characters.specs.Closing.{closed}
 use Rattle.cjt_rules.specs.declared.CjtAddress.{CjtAddress}
 use Rattle.cjt_rules.specs.declared.CjtAddress.the-variants.{Meter, Broadcast}
 use Rattle.cjt_rules.specs.declared.CjtQuantity.{CjtQuantity}

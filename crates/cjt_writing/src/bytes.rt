@@ -3,19 +3,19 @@ ghost use mathlib.Core.Path.{_≡_};
 ghost use mathlib.Core.List.{[], _∷_, _++_};
 ghost use Prim.Native.Nat.{_+_};
 ghost use lib.ListN.{length};
-ghost use Rattle.bytes_lent.specs.Pieces.{pieces};
-ghost use Rattle.mbus_rules.specs.Digits.{packed};
-ghost use Rattle.mbus_rules.specs.Writing.{closed};
+ghost use Rattle.base_lent.specs.Pieces.{pieces};
+ghost use Rattle.base_digits.specs.Digits.{packed};
+ghost use Rattle.base_characters.specs.Closing.{closed};
 ghost use Rattle.cjt_rules.specs.CjtWriting.{bytesOfParty, bytesOfQuantity, bytesOfClock, bytesListed, bytesOfTelegram};
-use bytes_lent::lay;
+use base_lent::lay;
 use cjt_rules::CjtAddress;
 use cjt_rules::CjtAnswer;
 use cjt_rules::CjtClock;
 use cjt_rules::CjtQuantity;
 use cjt_rules::CjtRequest;
 use cjt_rules::CjtTelegram;
-use mbus_characters::sum_of;
-use mbus_writing::digits::two_digits;
+use base_characters::sum_of;
+use base_digits::two_digits;
 
 // The digits in seven bytes, nothing has more; the first of them are the digits in so many.
 fn packed_seven(n: u64) -> [u8; 7]

@@ -1,14 +1,14 @@
 // Writing of CJ/T 188 lines.
 ghost use lib.ListN.{length};
 ghost use Rattle.cjt_rules.specs.CjtWriting.{writeCjtLine};
-ghost use Rattle.mbus_writing.specs.Answering.{Writes};
+ghost use Rattle.base_characters.specs.Carrying.{Writes};
 use bytes::answer_bytes;
 use bytes::request_bytes;
 use cjt_rules::CjtAnswer;
 use cjt_rules::CjtRequest;
 use cjt_rules::CjtTelegram;
-use mbus_writing::Written;
-use mbus_writing::write_bytes;
+use base_characters::carrying::Written;
+use base_characters::carrying::write_bytes;
 use unwritten::unwritten_answer;
 use unwritten::unwritten_request;
 

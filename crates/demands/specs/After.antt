@@ -6,9 +6,9 @@ use mathlib.Core.Path.{_≡_, refl}
 use lib.Count.{onesIn}
 use lib.Dec.{leb}
 use lib.ListN.{length}
-use Rattle.mbus_rules.specs.Lists.{at, any}
-use Rattle.mbus_rules.specs.Characters.{odd}
-use Rattle.mbus_rules.specs.Answers.{reads, refusal, within}
+use Rattle.base_rules.specs.Lists.{at, any}
+use Rattle.base_characters.specs.Characters.{odd}
+use Rattle.base_rules.specs.Answers.{reads, refusal, within}
 use Rattle.mbus_rules.specs.Lines.{readBody, readLine}
 use Rattle.mbus_search.specs.Searching.{Begins, lengthFrom, findIn}
 use Rattle.mbus_search.proofs.Laws.Meaning as searches

@@ -15,23 +15,23 @@ use Rattle.mbus_rules.specs.declared.Whole.{Whole}
 use Rattle.mbus_rules.specs.declared.Value.the-variants.{Number, Binary}
 use Rattle.mbus_rules.specs.declared.Entry.{Entry}
 use Rattle.mbus_rules.specs.declared.Telegram.{Telegram}
-use Rattle.mbus_rules.specs.Answers.{reads, refusal}
-use Rattle.mbus_rules.specs.Bytes.{Bytes}
-use Rattle.mbus_rules.specs.Characters.{odd, byteOf, carrier}
-use Rattle.mbus_rules.specs.Binary.{negative, binaryOf, binaryBytes, fitsBinary}
-use Rattle.mbus_rules.specs.Digits.{digitsOf, packed}
+use Rattle.base_rules.specs.Answers.{reads, refusal}
+use Rattle.base_rules.specs.Bytes.{Bytes}
+use Rattle.base_characters.specs.Characters.{odd, byteOf, carrier}
+use Rattle.base_numbers.specs.TwosComplement.{negative, binaryOf, binaryBytes, fitsBinary, belowZero}
+use Rattle.base_digits.specs.Digits.{digitsOf, packed}
 use Rattle.mbus_rules.specs.Entries.{mayFall, wrongNumber, readEntries}
 use Rattle.mbus_rules.specs.Headers.{wrongHeader}
 use Rattle.mbus_rules.specs.Lines.{readBody, readLine}
-use Rattle.mbus_rules.specs.Lists.{at, any, total}
+use Rattle.base_rules.specs.Lists.{at, any, total}
 use Rattle.mbus_rules.specs.Moments.{wrongMoment}
-use Rattle.mbus_rules.specs.Numbers.{number, bytesOf}
+use Rattle.base_numbers.specs.Numbers.{number, bytesOf}
 use Rattle.mbus_rules.specs.Quantities.{rowOf, quantityOf, unitOf, powerOf, inJoules, widthOf, paired, isTime, isPacked, isBinary, energy}
-use Rattle.mbus_rules.specs.Signs.{minus, belowZero}
+use Rattle.mbus_rules.specs.Signs.{minus}
 use Rattle.mbus_rules.specs.Telegrams.{dataOf}
 use Rattle.mbus_rules.specs.Writing.{usedEntry, wrongValue, bytesOfEntries, lineOf}
-use Rattle.mbus_rules.proofs.Laws.BinaryLaws.{binary-read, binary-written}
-use Rattle.mbus_rules.proofs.Laws.Tests.{by-test, below}
+use Rattle.base_numbers.proofs.Laws.BinaryLaws.{binary-read, binary-written}
+use Rattle.base_rules.proofs.Laws.Tests.{by-test, below}
 use Rattle.demands.specs.Values.{Hold, packedEntry, exampleHeader, exampleTime}
 
 -- ---- two's complement, over every number of bytes

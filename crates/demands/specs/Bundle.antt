@@ -4,7 +4,7 @@ use mathlib.Core.List.{List, [], _∷_, _++_, map}
 use mathlib.Core.Path.{_≡_}
 use lib.Dec.{lit<}
 use lib.ListN.{take, getD}
-use Rattle.mbus_rules.specs.Answers.{reads}
+use Rattle.base_rules.specs.Answers.{reads}
 use Rattle.bundle_rows.specs.declared.Row.{Row}
 use Rattle.bundle_check.specs.Bundles.{countOf, contentsOf, checkOf}
 use Rattle.bundle_check.specs.Records.{Recorded, recordsOf, rowFor, bundleOf, movedTo}
@@ -12,7 +12,7 @@ use Rattle.bundle_check.proofs.Laws.Accepted.{accepted-sound}
 use Rattle.bundle_check.specs.Handing.{bodyAt}
 use Rattle.bundle_check.specs.Stretches.{bytesAt}
 use Rattle.bundle_adding.specs.Adding.{addOf, bufferAfter}
-use Rattle.mbus_rules.specs.Bytes.{Bytes}
+use Rattle.base_rules.specs.Bytes.{Bytes}
 use Rattle.bundle_rows.specs.Lists.{All}
 use Rattle.bundle_adding.proofs.Laws.AddingLaws
 use Rattle.bundle_check.proofs.Laws.HoldingLaws.{bundle-whole}

@@ -6,12 +6,12 @@ use mathlib.Core.Logic.{_↔_, _≢_}
 use mathlib.Core.Path.{_≡_, refl, ap}
 use lib.ListN.{length, drop, replicate}
 use borrow.Author.Tests.{lt-ltb}
-use Rattle.bytes_lent.specs.Lent.{stored}
-use Rattle.mbus_rules.specs.Lists.{at}
-use Rattle.mbus_rules.specs.Characters.{carrier}
-use Rattle.mbus_rules.specs.Answers.{reads, refusal}
-use Rattle.mbus_rules.specs.Flips.{Place, Places, flips}
-use Rattle.mbus_rules.specs.Each.{Each}
+use Rattle.base_lent.specs.Lent.{stored}
+use Rattle.base_rules.specs.Lists.{at}
+use Rattle.base_characters.specs.Characters.{carrier}
+use Rattle.base_rules.specs.Answers.{reads, refusal}
+use Rattle.base_characters.specs.Flips.{Place, Places, flips}
+use Rattle.base_rules.specs.Each.{Each}
 use Rattle.cjt_rules.specs.declared.CjtRequest.{CjtRequest}
 use Rattle.cjt_rules.specs.declared.CjtAnswer.{CjtAnswer}
 use Rattle.cjt_rules.specs.declared.CjtTelegram.{CjtTelegram}

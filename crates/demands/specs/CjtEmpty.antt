@@ -8,12 +8,12 @@ use native.Mathlib.Omega.{arith}
 use lib.Count.{onesIn}
 use lib.Dec.{lit<, lit≤}
 use lib.ListN.{length, drop, replicate}
-use Rattle.bytes_lent.specs.Lent.{stored, told}
-use Rattle.mbus_rules.specs.Lists.{at, any, total}
-use Rattle.mbus_rules.specs.Characters.{odd, carrier}
-use Rattle.mbus_rules.specs.Answers.{Answer, reads, refusal}
-use Rattle.mbus_rules.specs.Digits.{digitsOf, packed}
-use Rattle.mbus_rules.specs.Flips.{Place, Places, flips, repeated}
+use Rattle.base_lent.specs.Lent.{stored, told}
+use Rattle.base_rules.specs.Lists.{at, any, total}
+use Rattle.base_characters.specs.Characters.{odd, carrier}
+use Rattle.base_rules.specs.Answers.{Answer, reads, refusal}
+use Rattle.base_digits.specs.Digits.{digitsOf, packed}
+use Rattle.base_characters.specs.Flips.{Place, Places, flips, repeated}
 use Rattle.cjt_rules.specs.declared.CjtAddress.the-variants.{Meter, Broadcast}
 use Rattle.cjt_rules.specs.declared.CjtTelegram.{CjtTelegram}
 use Rattle.cjt_rules.specs.CjtFrames.{pastFE}

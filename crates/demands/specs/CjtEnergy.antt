@@ -8,7 +8,7 @@ use lib.Dec.{ltb}
 use lib.IntN.{pos, _+ℤ_}
 use Rattle.mbus_rules.specs.declared.Entry.{Entry}
 use Rattle.mbus_rules.specs.declared.Value.the-variants.{Number}
-use Rattle.mbus_rules.specs.Answers.{reads, refusal}
+use Rattle.base_rules.specs.Answers.{reads, refusal}
 use Rattle.mbus_rules.specs.Quantities.{quantityOf, powerOf}
 use Rattle.mbus_rules.specs.Writing.{wrongEntry}
 use Rattle.bench_indication.specs.Rounding.{apart}

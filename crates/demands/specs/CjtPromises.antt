@@ -6,12 +6,12 @@ use mathlib.Core.List.{List, [], _∷_, map}
 use mathlib.Core.Path.{_≡_, refl, ap, _∙_}
 use lib.Dec.{ltb, eqb}
 use lib.ListN.{length}
-use Rattle.bytes_lent.specs.Lent.{stored}
-use Rattle.mbus_rules.specs.Lists.{any}
-use Rattle.mbus_rules.specs.Characters.{over, odd, byteOf}
-use Rattle.mbus_rules.specs.Answers.{Answer, reads, refusal, refuse}
-use Rattle.mbus_writing.specs.declared.Written.{Written}
-use Rattle.mbus_writing.specs.Answering.{Writes}
+use Rattle.base_lent.specs.Lent.{stored}
+use Rattle.base_rules.specs.Lists.{any}
+use Rattle.base_characters.specs.Characters.{over, odd, byteOf}
+use Rattle.base_rules.specs.Answers.{Answer, reads, refusal, refuse}
+use Rattle.base_characters.specs.declared.carrying.Written.{Written}
+use Rattle.base_characters.specs.Carrying.{Writes}
 use Rattle.cjt_rules.specs.declared.CjtTelegram.{CjtTelegram}
 use Rattle.cjt_rules.specs.declared.CjtTelegram.the-variants as telegrams
 use Rattle.cjt_rules.specs.CjtFrames.{pastFE, asksLength, wrongFrame, wrongFrameSum}

@@ -7,11 +7,11 @@ use mathlib.Core.Path.{_≡_, refl}
 use lib.Dec.{ltb, eqb}
 use lib.ListN.{length}
 use Rattle.mbus_rules.specs.declared.Entry.{Entry}
-use Rattle.mbus_rules.specs.Answers.{Answer, reads, refusal, refuse, follow}
-use Rattle.mbus_rules.specs.Characters.{carrier}
-use Rattle.mbus_rules.specs.Lists.{at, any}
-use Rattle.bytes_lent.specs.Lent.{placed}
-use Rattle.bytes_lent.specs.Same.{same}
+use Rattle.base_rules.specs.Answers.{Answer, reads, refusal, refuse, follow}
+use Rattle.base_characters.specs.Characters.{carrier}
+use Rattle.base_rules.specs.Lists.{at, any}
+use Rattle.base_lent.specs.Lent.{placed}
+use Rattle.base_lent.specs.Same.{same}
 use Rattle.cjt_rules.specs.declared.CjtTelegram.{CjtTelegram}
 use Rattle.cjt_rules.specs.CjtLines.{readCjtLine}
 use Rattle.cjt_rules.specs.CjtUnits.{energyCode}
@@ -20,8 +20,8 @@ use Rattle.cjt_rules.proofs.Laws.RoundTrip.{read-then-write, written-again}
 use Rattle.cjt_energy.specs.Energies.{unitFor, codeDigit, entryDigit, entryFor, shownEntry}
 use Rattle.cjt_energy.proofs.Laws.Energies.{shownEntry-same}
 use Rattle.cjt_energy.proofs.Laws.Meaning.{entryOf}
-use Rattle.host_cjt_records.specs.CjtRecords.{cjtSize, cjtBytes, cjtIn, cjtFrom}
-use Rattle.host_cjt_records.proofs.Laws.CjtRecordLaws.{CjtFits, cjt-length, cjt-read, cjt-written, writable-fits}
+use Rattle.cjt_records.specs.CjtRecords.{cjtSize, cjtBytes, cjtIn, cjtFrom}
+use Rattle.cjt_records.proofs.Laws.CjtRecordLaws.{CjtFits, cjt-length, cjt-read, cjt-written, writable-fits}
 use Rattle.host_cjt.specs.CjtCalls.{readCjtFor, writeCjtFor, entrySize, entryCjtFor}
 use Rattle.demands.specs.Refusals.{By}
 use Rattle.demands.specs.OneToOne.{Apart}

@@ -5,12 +5,12 @@ use mathlib.Core.Bool.{true}
 use mathlib.Core.Path.{_≡_, refl}
 use lib.Count.{onesIn}
 use lib.ListN.{length, replicate}
-use Rattle.mbus_rules.specs.Lists.{any, total}
-use Rattle.mbus_rules.specs.Characters.{odd, carrier}
-use Rattle.mbus_rules.specs.Answers.{Answer, reads, refusal}
-use Rattle.mbus_rules.specs.Digits.{digitsOf, packed}
-use Rattle.mbus_rules.specs.Flips.{Place, flipBit, flips}
-use Rattle.mbus_rules.specs.Writing.{closed}
+use Rattle.base_rules.specs.Lists.{any, total}
+use Rattle.base_characters.specs.Characters.{odd, carrier}
+use Rattle.base_rules.specs.Answers.{Answer, reads, refusal}
+use Rattle.base_digits.specs.Digits.{digitsOf, packed}
+use Rattle.base_characters.specs.Flips.{Place, flipBit, flips}
+use Rattle.base_characters.specs.Closing.{closed}
 use Rattle.cjt_rules.specs.declared.CjtAddress.{CjtAddress}
 use Rattle.cjt_rules.specs.declared.CjtAddress.the-variants.{Meter, Broadcast}
 use Rattle.cjt_rules.specs.declared.CjtTelegram.{CjtTelegram}

@@ -6,11 +6,11 @@ use mathlib.Core.Path.{_≡_, refl, sym, _∙_}
 use mathlib.Core.Logic.{_≢_}
 use borrow.Author.Tests.{eq-eqb, eqb-true}
 use lib.ListN.{length, getD, take, drop}
-use Rattle.mbus_rules.specs.Answers.{reads, refusal}
-use Rattle.mbus_rules.specs.Bytes.{Bytes}
-use Rattle.mbus_rules.specs.Host.{chars}
-use Rattle.mbus_rules.specs.Lists.{any}
-use Rattle.bytes_numbers.specs.Numbers.{number}
+use Rattle.base_rules.specs.Answers.{reads, refusal}
+use Rattle.base_rules.specs.Bytes.{Bytes}
+use Rattle.base_characters.specs.Characters.{chars}
+use Rattle.base_rules.specs.Lists.{any}
+use Rattle.base_numbers.specs.Numbers.{number}
 use Rattle.bundle_rows.specs.Rows.{rowsOf, firstOffset, blankRow}
 use Rattle.bundle_rows.specs.declared.Row.{Row}
 use Rattle.bundle_check.specs.Bundles.{countOf, contentsOf, checkOf}

@@ -16,24 +16,24 @@ use Rattle.mbus_rules.specs.declared.Request.the-variants.{Enter}
 use Rattle.mbus_rules.specs.declared.Request.the-variants as requests
 use Rattle.mbus_rules.specs.declared.Telegram.{Telegram}
 use Rattle.mbus_rules.specs.declared.View.the-variants.{Asks}
-use Rattle.mbus_rules.specs.Lists.{at, any, total}
-use Rattle.mbus_rules.specs.Characters.{over, byteOf, odd, carrier}
-use Rattle.mbus_rules.specs.Answers.{Answer, reads, refusal}
+use Rattle.base_rules.specs.Lists.{at, any, total}
+use Rattle.base_characters.specs.Characters.{over, byteOf, odd, carrier}
+use Rattle.base_rules.specs.Answers.{Answer, reads, refusal}
 use Rattle.mbus_rules.specs.Telegrams.{ack, readOf, enterOf, blank}
 use Rattle.mbus_rules.specs.TelegramSizes.{Sized}
 use Rattle.mbus_rules.specs.Host.{lineNumber}
 use Rattle.mbus_rules.specs.Lines.{readBody, readLine, Accepted}
 use Rattle.mbus_rules.specs.Views.{viewed}
 use Rattle.mbus_rules.specs.Writing.{lineOf, unwritable, writeLine}
-use Rattle.mbus_rules.specs.Flips.{Place, Places, flips, repeated}
+use Rattle.base_characters.specs.Flips.{Place, Places, flips, repeated}
 use Rattle.mbus_rules.proofs.Laws.LineLaws.{bare-sized}
-use Rattle.bytes_lent.specs.Lent.{stored, told}
-use Rattle.bytes_lent.specs.Pieces.{pieces}
+use Rattle.base_lent.specs.Lent.{stored, told}
+use Rattle.base_lent.specs.Pieces.{pieces}
 use Rattle.mbus_search.specs.Searching.{accepts, Begins, Spot, findIn}
 use Rattle.mbus_after.specs.After.{BeginsAfter, TimedSpot, findAfter}
-use Rattle.mbus_whole.specs.declared.HowLong.{HowLong}
-use Rattle.mbus_whole.specs.declared.HowLong.the-variants.{Known, NotYet, NoLine}
-use Rattle.mbus_whole.specs.Wholes.{lineLength, Agree}
+use Rattle.mbus_length.specs.declared.HowLong.{HowLong}
+use Rattle.mbus_length.specs.declared.HowLong.the-variants.{Known, NotYet, NoLine}
+use Rattle.mbus_length.specs.Wholes.{lineLength, Agree}
 use Rattle.mbus_either.specs.declared.Interface.the-variants.{Mbus, Optical}
 use Rattle.mbus_either.specs.Interfaces.{LiveLine, liveOn, findEither}
 use Rattle.host_either.specs.Finding.{lineInterface}

@@ -10,7 +10,7 @@ use Rattle.bench_clock.specs.Times.{replyTime, earlier}
 use Rattle.mbus_rules.specs.declared.Request.{Request}
 use Rattle.mbus_rules.specs.declared.Telegram.{Telegram}
 use Rattle.mbus_rules.specs.declared.View.the-variants.{Asks}
-use Rattle.mbus_rules.specs.Answers.{reads, refusal}
+use Rattle.base_rules.specs.Answers.{reads, refusal}
 use Rattle.mbus_rules.specs.Lines.{readLine}
 use Rattle.mbus_rules.specs.Views.{viewed}
 use Rattle.exchange_replies.specs.Fits.{fits}

@@ -4,9 +4,9 @@ use mathlib.Core.List.{List, [], _∷_}
 use mathlib.Core.Path.{_≡_, refl}
 use lib.Count.{onesIn}
 use denote.Ref.{RefT, now}
-use Rattle.mbus_rules.specs.Lists.{any}
-use Rattle.mbus_rules.specs.Characters.{odd}
-use Rattle.mbus_rules.specs.Answers.{reads, refusal}
+use Rattle.base_rules.specs.Lists.{any}
+use Rattle.base_characters.specs.Characters.{odd}
+use Rattle.base_rules.specs.Answers.{reads, refusal}
 use Rattle.mbus_rules.specs.Lines.{readBody, readLine, Accepted}
 use Rattle.mbus_search.specs.Searching.{Begins, Spot, spotAt, lengthFrom, findIn}
 use Rattle.mbus_either.specs.declared.Interface.the-variants.{Mbus, Optical}

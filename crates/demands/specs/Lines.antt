@@ -8,12 +8,12 @@ use mathlib.Core.Path.{_≡_}
 use lib.ListN.{length}
 use Rattle.mbus_rules.specs.declared.Kind.the-variants.{Data}
 use Rattle.mbus_rules.specs.declared.Telegram.{Telegram}
-use Rattle.mbus_rules.specs.Lists.{at}
+use Rattle.base_rules.specs.Lists.{at}
 use Rattle.mbus_rules.specs.Lines.{Accepted}
 use Rattle.mbus_rules.specs.TelegramSizes.{Sized}
 use Rattle.mbus_rules.specs.Writing.{bytesOfKind, wrongFor, lineOf, unwritable}
-use Rattle.mbus_rules.specs.Flips.{Place, Places, flips}
-use Rattle.mbus_rules.specs.Each.{Each}
+use Rattle.base_characters.specs.Flips.{Place, Places, flips}
+use Rattle.base_rules.specs.Each.{Each}
 use Rattle.mbus_rules.proofs.Laws.RoundTrip
 use Rattle.mbus_rules.proofs.Laws.RoundTrip.{accepted-lines, data-lengths}
 use Rattle.mbus_rules.proofs.Laws.LineCode

@@ -3,21 +3,20 @@ use Prim.Native.Nat.{ℕ}
 use mathlib.Core.List.{List, _++_}
 use mathlib.Core.Path.{_≡_, refl, ap}
 use lib.Count.{onesIn}
-use Rattle.bytes_numbers.specs.Numbers.{number}
-use Rattle.mbus_rules.specs.Lists.{any}
-use Rattle.mbus_rules.specs.Characters.{odd}
-use Rattle.mbus_rules.specs.Answers.{refusal}
-use Rattle.mbus_rules.specs.Host.{chars}
+use Rattle.base_numbers.specs.Numbers.{number}
+use Rattle.base_rules.specs.Lists.{any}
+use Rattle.base_characters.specs.Characters.{odd, chars}
+use Rattle.base_rules.specs.Answers.{refusal}
 use Rattle.mbus_rules.specs.Lines.{readBody, readLine}
 use Rattle.bundle_rows.specs.Rows.{rowsOf}
 use Rattle.bundle_check.specs.Walks.{someWrong, endOf}
 use Rattle.bundle_check.specs.Bundles.{checkOf}
 use Rattle.bundle_check.specs.Example.{sixteen}
 use Rattle.bench_clock.specs.Wakes.{isWake}
-use Rattle.listing_column.specs.Columns.{columnOf}
-use Rattle.host_words.specs.Words.{text}
+use Rattle.run_words.specs.Columns.{columnOf}
+use Rattle.text_filling.specs.Texts.{text}
 use Rattle.text_filling.specs.Decimals.{digitsIn}
-use Rattle.listing_text.specs.Listings.{refusedText, wordOf, rowText, linesFor, listed, listingOf}
+use Rattle.run_listing.specs.Listings.{refusedText, wordOf, rowText, linesFor, listed, listingOf}
 
 -- The 16 bytes of 01's example give, whole:
 pub listing-of-sixteen : listingOf sixteen ≡ text "position,direction,time,line\n7,heard,0,ack\n"

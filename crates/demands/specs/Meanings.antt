@@ -3,12 +3,12 @@ use Prim.Native.Nat.{ℕ, zero, suc, _<_}
 use mathlib.Core.List.{List, [], _∷_, _++_}
 use mathlib.Core.Path.{_≡_, refl}
 use lib.IntN.{pos, subℕ}
-use Rattle.mbus_rules.specs.Answers.{Answer, reads, refusal}
-use Rattle.mbus_rules.specs.Binary.{binaryOf, binaryBytes, fitsBinary}
+use Rattle.base_rules.specs.Answers.{Answer, reads, refusal}
+use Rattle.base_numbers.specs.TwosComplement.{binaryOf, binaryBytes, fitsBinary}
 use Rattle.mbus_rules.specs.Quantities.{quantityOf, unitOf, powerOf, energy, volume, power, flow, inlet, outlet, time}
 use Rattle.mbus_rules.specs.Quantities.{noUnit, wattHour, joule, cubicMetre, watt, cubicMetreAnHour, degreeCelsius}
-use Rattle.mbus_rules.proofs.Laws.BinaryLaws.{binary-written}
-use Rattle.mbus_rules.proofs.Laws.Tests.{below}
+use Rattle.base_numbers.proofs.Laws.BinaryLaws.{binary-written}
+use Rattle.base_rules.proofs.Laws.Tests.{below}
 use Rattle.host_meaning.specs.Meanings.{Meaning, meant, meaningOf}
 
 -- what so many unit bytes mean, from one on

@@ -8,7 +8,7 @@ use Rattle.bench_clock.specs.Times.{earlier}
 use Rattle.mbus_rules.specs.declared.Request.the-variants.{Enter}
 use Rattle.mbus_rules.specs.declared.Telegram.{Telegram}
 use Rattle.mbus_rules.specs.declared.View.the-variants as views
-use Rattle.mbus_rules.specs.Answers.{reads, refusal}
+use Rattle.base_rules.specs.Answers.{reads, refusal}
 use Rattle.mbus_rules.specs.Lines.{readLine}
 use Rattle.mbus_rules.specs.Telegrams.{ack}
 use Rattle.mbus_rules.specs.TelegramSizes.{Sized}

@@ -11,9 +11,9 @@ use Rattle.bench_clock.specs.Wakes.{shownWake}
 use Rattle.bench_clock.proofs.Laws.Gaps as gaps
 use Rattle.bench_clock.proofs.Laws.Wakes as wakes
 use Rattle.mbus_rules.specs.declared.Entry.{Entry}
-use Rattle.mbus_rules.specs.declared.Outcome.the-variants.{Accepted, Refused}
+use Rattle.base_rules.specs.declared.Outcome.the-variants.{Accepted, Refused}
 use Rattle.mbus_rules.specs.declared.Reading.{Reading}
-use Rattle.mbus_rules.specs.Answers.{Answer, reads, refusal}
+use Rattle.base_rules.specs.Answers.{Answer, reads, refusal}
 use Rattle.mbus_rules.specs.Telegrams.{blankEntry, shown}
 use Rattle.mbus_entries.specs.declared.Entries.{Entries}
 use Rattle.mbus_entries.specs.Walking.{entriesShown}
@@ -47,14 +47,14 @@ use Rattle.bundle_adding.specs.Shown.{shownAdded}
 use Rattle.bundle_adding.proofs.Laws.Shown as addings
 use Rattle.bundle_sweep.specs.Shown.{shownSwept}
 use Rattle.bundle_sweep.proofs.Laws.Shown as sweeps
-use Rattle.listing_text.specs.Shown.{shownListed}
-use Rattle.listing_text.proofs.Laws.Shown as listings
-use Rattle.replay_counting.specs.declared.Counted.{Counted}
-use Rattle.replay_counting.specs.Shown.{shownCounting}
-use Rattle.replay_error.specs.Shown.{shownReplay}
-use Rattle.picture_text.specs.Shown.{shownDrawn}
-use Rattle.picture_text.proofs.Laws.Shown as drawings
-use Rattle.verdict_rows.specs.Shown.{shownVerdicts}
+use Rattle.run_listing.specs.Shown.{shownListed}
+use Rattle.run_listing.proofs.Laws.Shown as listings
+use Rattle.run_counting.specs.declared.Counted.{Counted}
+use Rattle.run_counting.specs.Shown.{shownCounting}
+use Rattle.run_replay.specs.Shown.{shownReplay}
+use Rattle.run_picture.specs.Shown.{shownDrawn}
+use Rattle.run_picture.proofs.Laws.Shown as drawings
+use Rattle.run_verdicts.specs.Shown.{shownVerdicts}
 use Rattle.host_verdicts.specs.Told.{answerShown, verdictFound}
 use Rattle.host_verdicts.proofs.Laws.Told as verdicts
 

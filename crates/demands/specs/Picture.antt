@@ -3,19 +3,19 @@ use Prim.Native.Nat.{ℕ, _≤_, _<_}
 use mathlib.Core.List.{List}
 use mathlib.Core.Path.{_≡_}
 use lib.ListN.{length, getD, take, drop}
-use Rattle.mbus_rules.specs.Answers.{reads}
+use Rattle.base_rules.specs.Answers.{reads}
 use Rattle.bundle_check.specs.Bundles.{checkOf}
 use Rattle.bundle_check.specs.Records.{recordsOf}
 use Rattle.bundle_check.specs.Walks.{endOf}
 use Rattle.bundle_check.proofs.Laws.HoldingLaws.{blankRecord}
-use Rattle.verdict_rows.specs.declared.Verdict.the-variants.{Unasked}
-use Rattle.verdict_rows.specs.Verdicts.{verdictsOf}
-use Rattle.picture_text.specs.declared.Drawn.the-variants.{Written}
-use Rattle.picture_text.specs.Timing.{paced, unpaced}
-use Rattle.picture_text.specs.Elements.{rowDrawn}
-use Rattle.picture_text.specs.Pictures.{Inside, pictureOf}
-use Rattle.picture_text.specs.Shown.{Draws}
-use Rattle.picture_text.proofs.Laws.Meaning as meaning
+use Rattle.run_verdicts.specs.declared.Verdict.the-variants.{Unasked}
+use Rattle.run_verdicts.specs.Verdicts.{verdictsOf}
+use Rattle.run_picture.specs.declared.Drawn.the-variants.{Written}
+use Rattle.run_picture.specs.Timing.{paced, unpaced}
+use Rattle.run_picture.specs.Elements.{rowDrawn}
+use Rattle.run_picture.specs.Pictures.{Inside, pictureOf}
+use Rattle.run_picture.specs.Shown.{Draws}
+use Rattle.run_picture.proofs.Laws.Meaning as meaning
 
 -- What is written never exceeds the room: the picture stands in the first places, and what is behind it is as it was.
 pub picture-in-its-room : (b out : List ℕ) {n : ℕ} {after : List ℕ} → Draws b out (Written n) after

@@ -6,10 +6,10 @@ use mathlib.Core.Path.{_≡_, refl}
 use lib.ListN.{length, take, replicate}
 use Rattle.bench_clock.specs.declared.Clock.{Clock}
 use Rattle.mbus_rules.specs.declared.Telegram.{Telegram}
-use Rattle.mbus_rules.specs.Answers.{Answer, reads, refusal}
-use Rattle.bytes_lent.specs.Lent.{stored}
-use Rattle.host_records.specs.Telegrams.{telegramSize, telegramBytes, telegramFrom}
-use Rattle.host_records.proofs.Laws.TelegramLaws as telegrams
+use Rattle.base_rules.specs.Answers.{Answer, reads, refusal}
+use Rattle.base_lent.specs.Lent.{stored}
+use Rattle.mbus_records.specs.Telegrams.{telegramSize, telegramBytes, telegramFrom}
+use Rattle.mbus_records.proofs.Laws.TelegramLaws as telegrams
 use Rattle.exchange_steps.specs.declared.Bench.{Bench}
 use Rattle.exchange_steps.specs.declared.Bench.the-variants.{Idle}
 use Rattle.exchange_steps.specs.Histories.{Step, heard, after}

@@ -8,9 +8,9 @@ use lib.Dec.{ltb, leb, eqb}
 use lib.IntN.{ℤ}
 use lib.ListN.{length, take, drop}
 use borrow.Author.Tests.{eqb-true}
-use Rattle.bytes_numbers.specs.Numbers.{number}
-use Rattle.bytes_lent.specs.Same.{same}
-use Rattle.bytes_lent.specs.Lent.{told, needs, placed}
+use Rattle.base_numbers.specs.Numbers.{number}
+use Rattle.base_lent.specs.Same.{same}
+use Rattle.base_lent.specs.Lent.{told, needs, placed}
 use Rattle.mbus_telegrams.specs.Kinds.{kindIn}
 use Rattle.bench_clock.specs.declared.Clock.{Clock}
 use Rattle.bench_clock.specs.Times.{earlier, gapLeast, gapMost}
@@ -20,11 +20,11 @@ use Rattle.mbus_rules.specs.declared.Entry.{Entry}
 use Rattle.mbus_rules.specs.declared.Telegram.{Telegram}
 use Rattle.mbus_rules.specs.declared.View.{View}
 use Rattle.mbus_rules.specs.declared.View.the-variants as views
-use Rattle.mbus_rules.specs.Lists.{at, any}
-use Rattle.mbus_rules.specs.Characters.{over, odd, byteOf}
-use Rattle.mbus_rules.specs.Answers.{Answer, reads, refusal, refuse, within, follow}
+use Rattle.base_rules.specs.Lists.{at, any}
+use Rattle.base_characters.specs.Characters.{over, odd, byteOf, chars}
+use Rattle.base_rules.specs.Answers.{Answer, reads, refusal, refuse, within, follow}
 use Rattle.mbus_rules.specs.Headers.{headerOf, wrongHeader}
-use Rattle.mbus_rules.specs.Host.{chars, lineNumber, hostNumber}
+use Rattle.mbus_rules.specs.Host.{lineNumber, hostNumber}
 use Rattle.mbus_rules.specs.Quantities.{quantityOf, unknown, widthOf}
 use Rattle.mbus_rules.specs.Entries.{entryOf, unfit, wrongDigit, wrongTime, seen, missing, readEntries}
 use Rattle.mbus_rules.specs.Telegrams.{ack, readOf, dataOf, bare}
@@ -36,8 +36,8 @@ use Rattle.bench_indication.specs.Errors.{indicationOf}
 use Rattle.bench_indication.specs.Errors as errors
 use Rattle.mbus_search.specs.Searching.{Spot, lengthHere, further, orElse, findIn}
 use Rattle.mbus_after.specs.After.{TimedSpot, movedTimed, orLater, findAfter}
-use Rattle.mbus_whole.specs.declared.HowLong.{HowLong}
-use Rattle.mbus_whole.specs.declared.HowLong.the-variants.{Known, NotYet, NoLine}
+use Rattle.mbus_length.specs.declared.HowLong.{HowLong}
+use Rattle.mbus_length.specs.declared.HowLong.the-variants.{Known, NotYet, NoLine}
 use Rattle.mbus_either.specs.Interfaces.{liveOn, orOptical, findEither}
 use Rattle.mbus_either.specs.declared.Interface.the-variants.{Optical}
 use Rattle.exchange_steps.specs.declared.Exchange.{Exchange}
@@ -63,19 +63,19 @@ use Rattle.bundle_columns.specs.Shown.{columnsInto, contentsInto}
 use Rattle.bundle_salvage.specs.Salvaging.{tellOf, leadingRows, salvageOf, salvageInto}
 use Rattle.bundle_adding.specs.Adding.{lastTime, grown, noRoom, addOf}
 use Rattle.bundle_sweep.specs.Sweeping.{sweptBundle, sweepOf}
-use Rattle.listing_text.specs.Shown.{listedIn}
-use Rattle.picture_text.specs.Pictures.{pictureOf}
-use Rattle.picture_text.specs.Shown.{drawnIn}
-use Rattle.replay_counting.specs.Counting.{answersOf, countingOf}
-use Rattle.replay_calendar.specs.Days.{interval}
-use Rattle.replay_error.specs.Errors.{volumeOver, wrongInterval, errorByC1, errorOfFigures, rowTells, lastOf, errorFrom, replayOf}
+use Rattle.run_listing.specs.Shown.{listedIn}
+use Rattle.run_picture.specs.Pictures.{pictureOf}
+use Rattle.run_picture.specs.Shown.{drawnIn}
+use Rattle.run_counting.specs.Counting.{answersOf, countingOf}
+use Rattle.run_calendar.specs.Days.{interval}
+use Rattle.run_replay.specs.Errors.{volumeOver, wrongInterval, errorByC1, errorOfFigures, rowTells, lastOf, errorFrom, replayOf}
 use Rattle.host_words.specs.Refusals as words
 use Rattle.host_words.specs.Refusals.{wordsIn, textOf}
-use Rattle.host_words.specs.Words.{text}
+use Rattle.text_filling.specs.Texts.{text}
 use Rattle.host_words.specs.Saying.{zeroEnded, fitted}
 use Rattle.host_meaning.specs.Meanings.{meaningOf, meaningFor}
-use Rattle.host_records.specs.Recorded.{noRecord, recorded}
-use Rattle.host_records.specs.Telegrams.{telegramSize, telegramBytes, telegramIn, telegramFrom}
+use Rattle.base_lent.specs.Recorded.{noRecord, recorded}
+use Rattle.mbus_records.specs.Telegrams.{telegramSize, telegramBytes, telegramIn, telegramFrom}
 use Rattle.exchange_record.specs.Exchanges.{exchangeBytes, exchangeIn, reached, exchangeFrom, noneBytes, benchFrom}
 use Rattle.meter_record.specs.MeterRecords.{meterSize, meterBytes, meterIn, unreached, meterFrom}
 use Rattle.host_lines.specs.Calls.{readFor, writeFor, requestFor}
@@ -89,7 +89,7 @@ use Rattle.host_exchange.specs.Calls.{sendEndedFor, tickFor}
 use Rattle.host_meter.specs.Calls as meters
 use Rattle.host_meter.specs.Calls.{setUpFor, measureFor}
 use Rattle.host_bundle.specs.Rows.{rowInto, keptInto}
-use Rattle.verdict_rows.specs.Answering.{verdictsIn, bodyPast, verdictsKept}
+use Rattle.run_verdicts.specs.Answering.{verdictsIn, bodyPast, verdictsKept}
 use Rattle.host_verdicts.specs.Told.{verdictsInto, verdictInto}
 
 -- A refusal, if the answer is one, has one of these numbers.

@@ -8,38 +8,37 @@ use mathlib.Core.Path.{_≡_, refl, sym, _∙_}
 use lib.Count.{onesIn}
 use lib.Dec.{ltb, eqb}
 use lib.ListN.{length, getD}
-use Rattle.mbus_rules.specs.Answers.{Answer, reads, refusal, refuse, follow}
-use Rattle.mbus_rules.specs.Bytes.{Bytes}
-use Rattle.mbus_rules.specs.Characters.{odd, carrier}
-use Rattle.mbus_rules.specs.Digits.{digitsOf}
+use Rattle.base_rules.specs.Answers.{Answer, reads, refusal, refuse, follow}
+use Rattle.base_rules.specs.Bytes.{Bytes}
+use Rattle.base_characters.specs.Characters.{odd, carrier, chars}
+use Rattle.base_digits.specs.Digits.{digitsOf}
 use Rattle.mbus_rules.specs.Entries.{readEntries}
-use Rattle.mbus_rules.specs.Flips.{flipBit, flips}
+use Rattle.base_characters.specs.Flips.{flipBit, flips}
 use Rattle.mbus_rules.specs.FourFlips.{dataLine, four}
 use Rattle.mbus_rules.specs.Headers.{wrongHeader}
-use Rattle.mbus_rules.specs.Host.{chars}
 use Rattle.mbus_rules.specs.Lines.{readBody, readLine}
-use Rattle.mbus_rules.specs.Lists.{any, total}
+use Rattle.base_rules.specs.Lists.{any, total}
 use Rattle.mbus_rules.specs.Moments.{wrongMoment}
 use Rattle.mbus_rules.specs.Quantities.{quantityOf, widthOf, paired}
 use Rattle.mbus_rules.specs.Signs.{minus}
 use Rattle.bench_clock.specs.Wakes.{isWake}
-use Rattle.bytes_lent.specs.Lent.{needs}
-use Rattle.bytes_lent.specs.Pieces.{pieces}
-use Rattle.bytes_lent.specs.Same.{same}
-use Rattle.bytes_numbers.specs.Numbers.{number, bytesOf}
+use Rattle.base_lent.specs.Lent.{needs}
+use Rattle.base_lent.specs.Pieces.{pieces}
+use Rattle.base_lent.specs.Same.{same}
+use Rattle.base_numbers.specs.Numbers.{number, bytesOf}
 use Rattle.bundle_rows.specs.Rows.{rowsOf, bytesOfRows}
 use Rattle.bundle_check.specs.Bundles.{checkOf}
 use Rattle.bundle_check.specs.Records.{Recorded, recordsIn, recordsOf, rowsFor, bodiesFor, bundleOf}
 use Rattle.bundle_check.specs.Walks.{someWrong, endOf}
 use Rattle.bundle_check.specs.declared.Checked.{Checked}
 use Rattle.bundle_check.proofs.Laws.HoldingLaws.{blankRecord}
-use Rattle.replay_counting.specs.Counting.{isSent}
-use Rattle.replay_counting.proofs.Laws.Walking.{record-there, length-records}
-use Rattle.verdict_repeats.specs.Repeats.{givesReading, sameParts, sameReading, firstSame, earlierAfter, earlierRows, earlierInto, TellsEarlier}
-use Rattle.verdict_repeats.specs.Meaning.{SameTelegrams}
-use Rattle.verdict_repeats.proofs.Laws.Meaning as meaning
-use Rattle.verdict_repeats.proofs.Laws.Naming as naming
-use Rattle.verdict_repeats.proofs.Laws.Putting as putting
+use Rattle.run_counting.specs.Counting.{isSent}
+use Rattle.run_counting.proofs.Laws.Walking.{record-there, length-records}
+use Rattle.run_repeats.specs.Repeats.{givesReading, sameParts, sameReading, firstSame, earlierAfter, earlierRows, earlierInto, TellsEarlier}
+use Rattle.run_repeats.specs.Meaning.{SameTelegrams}
+use Rattle.run_repeats.proofs.Laws.Meaning as meaning
+use Rattle.run_repeats.proofs.Laws.Naming as naming
+use Rattle.run_repeats.proofs.Laws.Putting as putting
 use Rattle.host_repeats.specs.Repeating.{RepeatsIn}
 use Rattle.demands.specs.Refusals.{By, bundleNumbers, bundle-by}
 use Rattle.demands.specs.Settled.{Settled, equation, two-equations, gives-settled}

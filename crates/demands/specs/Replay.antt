@@ -10,13 +10,14 @@ use lib.ListN.{getD}
 use Rattle.mbus_rules.specs.declared.Moment.{Moment}
 use Rattle.mbus_rules.specs.declared.Request.the-variants.{Read}
 use Rattle.mbus_rules.specs.declared.View.the-variants.{Asks}
-use Rattle.mbus_rules.specs.Answers.{reads, refusal}
-use Rattle.mbus_rules.specs.Host.{chars}
-use Rattle.mbus_rules.specs.Lists.{any}
-use Rattle.mbus_rules.specs.Moments.{daysIn, momentOf}
+use Rattle.base_rules.specs.Answers.{reads, refusal}
+use Rattle.base_characters.specs.Characters.{chars}
+use Rattle.base_rules.specs.Lists.{any}
+use Rattle.base_calendar.specs.Months.{daysIn}
+use Rattle.mbus_rules.specs.Moments.{momentOf}
 use Rattle.mbus_rules.specs.Quantities.{quantityOf, powerOf, volume}
-use Rattle.mbus_rules.specs.Signs.{belowZero}
-use Rattle.mbus_rules.proofs.Laws.Tests.{below}
+use Rattle.base_numbers.specs.TwosComplement.{belowZero}
+use Rattle.base_rules.proofs.Laws.Tests.{below}
 use Rattle.bench_clock.specs.Times.{replyTime}
 use Rattle.bench_clock.specs.Wakes.{isWake}
 use Rattle.bench_indication.specs.Errors.{tenths}
@@ -26,18 +27,18 @@ use Rattle.exchange_steps.specs.Steps.{begun}
 use Rattle.bundle_rows.specs.Fields.{wrongPosition}
 use Rattle.bundle_check.specs.Bundles.{checkOf}
 use Rattle.bundle_check.specs.Records.{Recorded, recordsOf}
-use Rattle.replay_counting.specs.Counting.{isSent, rowView, looked, sendEnd, beginsFrom, counts, keptIf, lookedAt, countedAfter, answersOf, numbersOf}
-use Rattle.replay_counting.specs.Exchanges.{rowClock, toldRows, endsWellBy}
-use Rattle.replay_counting.proofs.Laws.Exchanges as exchanges
-use Rattle.replay_counting.proofs.Laws.Numbering as numbering
-use Rattle.replay_counting.proofs.Laws.Others as others
-use Rattle.replay_counting.proofs.Laws.Meaning as meaning
-use Rattle.replay_calendar.specs.Days.{yearDays, monthDays, daysBefore, interval}
-use Rattle.replay_calendar.proofs.Laws.NextDay as days
-use Rattle.replay_error.specs.Figures.{millilitrePower}
-use Rattle.replay_error.specs.Errors.{errorOfFigures, errorBetween, rowTells, lastOf, replayOf}
-use Rattle.replay_error.proofs.Laws.Figuring as figuring
-use Rattle.replay_error.proofs.Laws.Replaying as replaying
+use Rattle.run_counting.specs.Counting.{isSent, rowView, looked, sendEnd, beginsFrom, counts, keptIf, lookedAt, countedAfter, answersOf, numbersOf}
+use Rattle.run_counting.specs.Exchanges.{rowClock, toldRows, endsWellBy}
+use Rattle.run_counting.proofs.Laws.Exchanges as exchanges
+use Rattle.run_counting.proofs.Laws.Numbering as numbering
+use Rattle.run_counting.proofs.Laws.Others as others
+use Rattle.run_counting.proofs.Laws.Meaning as meaning
+use Rattle.run_calendar.specs.Days.{yearDays, monthDays, daysBefore, interval}
+use Rattle.run_calendar.proofs.Laws.NextDay as days
+use Rattle.run_replay.specs.Figures.{millilitrePower}
+use Rattle.run_replay.specs.Errors.{errorOfFigures, errorBetween, rowTells, lastOf, replayOf}
+use Rattle.run_replay.proofs.Laws.Figuring as figuring
+use Rattle.run_replay.proofs.Laws.Replaying as replaying
 
 -- ---- which rows count
 

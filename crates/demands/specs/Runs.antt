@@ -5,9 +5,9 @@ use mathlib.Core.Path.{_≡_, refl}
 use lib.Count.{onesIn}
 use lib.Dec.{lit<, lit≤}
 use Rattle.mbus_rules.specs.declared.Request.{Request}
-use Rattle.mbus_rules.specs.Lists.{any, total}
-use Rattle.mbus_rules.specs.Characters.{odd, carrier}
-use Rattle.mbus_rules.specs.Flips.{Place, flipBit, flips, repeated}
+use Rattle.base_rules.specs.Lists.{any, total}
+use Rattle.base_characters.specs.Characters.{odd, carrier}
+use Rattle.base_characters.specs.Flips.{Place, flipBit, flips, repeated}
 use Rattle.mbus_rules.specs.Lines.{readBody, readLine}
 use Rattle.mbus_rules.specs.Telegrams.{ack}
 use Rattle.mbus_rules.specs.Writing.{lineOf}

@@ -4,8 +4,8 @@ use mathlib.Core.List.{List}
 use mathlib.Core.Path.{_≡_, refl, sym, ap, _∙_}
 use native.Mathlib.Omega.{arith}
 use lib.ListN.{length, getD, take, drop}
-use Rattle.mbus_rules.specs.Answers.{reads}
-use Rattle.mbus_rules.specs.Bytes.{Bytes}
+use Rattle.base_rules.specs.Answers.{reads}
+use Rattle.base_rules.specs.Bytes.{Bytes}
 use Rattle.bundle_rows.specs.Rows.{rowsOf, firstOffset, blankRow}
 use Rattle.bundle_rows.specs.declared.Row.{Row}
 use Rattle.bundle_rows.proofs.Laws.RowLaws.{length-rows}

@@ -7,13 +7,13 @@ use mathlib.Core.Path.{_≡_, refl, sym}
 use lib.Count.{onesIn}
 use lib.Dec.{eqb, ltb}
 use lib.ListN.{length, take, drop}
-use Rattle.mbus_rules.specs.Lists.{any}
-use Rattle.mbus_rules.specs.Characters.{over, odd, carrier}
-use Rattle.mbus_rules.specs.Bytes.{Bytes}
-use Rattle.mbus_rules.specs.Flips.{flipBit}
+use Rattle.base_rules.specs.Lists.{any}
+use Rattle.base_characters.specs.Characters.{over, odd, carrier}
+use Rattle.base_rules.specs.Bytes.{Bytes}
+use Rattle.base_characters.specs.Flips.{flipBit}
 use Rattle.mbus_rules.specs.Lines.{Accepted}
 use Rattle.mbus_rules.proofs.Laws.LineCode.{line-code}
-use Rattle.bytes_lent.specs.Pieces.{pieces}
+use Rattle.base_lent.specs.Pieces.{pieces}
 use Rattle.serial_marks.specs.Marks.{portMarked, wronged, Beginning}
 use Rattle.serial_marks.specs.declared.First.the-variants.{Finished}
 use Rattle.serial_marks.specs.Unmarking.{first, unmarkedIn}

@@ -6,9 +6,9 @@ use mathlib.Core.Path.{_≡_, sym, _∙_}
 use denote.Ref.{RefT, now, ptr}
 use Rattle.bench_clock.specs.declared.Clock.{Clock}
 use Rattle.mbus_rules.specs.declared.Telegram.{Telegram}
-use Rattle.mbus_rules.specs.Answers.{Answer}
-use Rattle.bytes_lent.specs.Lent.{Leaves}
-use Rattle.mbus_writing.specs.declared.Written.{Written}
+use Rattle.base_rules.specs.Answers.{Answer}
+use Rattle.base_lent.specs.Lent.{Leaves}
+use Rattle.base_characters.specs.declared.carrying.Written.{Written}
 use Rattle.mbus_writing.specs.Answering.{WritesLine}
 use Rattle.mbus_either.specs.declared.Either.{Either}
 use Rattle.mbus_either.specs.Stretches.{HandsEither}
@@ -26,11 +26,11 @@ use Rattle.bundle_sweep.specs.declared.Swept.{Swept}
 use Rattle.bundle_sweep.specs.Shown.{Sweeps}
 use Rattle.bundle_adding.specs.declared.Added.{Added}
 use Rattle.bundle_adding.specs.Shown.{Adds}
-use Rattle.listing_text.specs.declared.Listed.{Listed}
-use Rattle.listing_text.specs.Shown.{Lists}
+use Rattle.run_listing.specs.declared.Listed.{Listed}
+use Rattle.run_listing.specs.Shown.{Lists}
 use Rattle.text_filling.specs.Putting.{PutAt}
-use Rattle.picture_text.specs.declared.Drawn.{Drawn}
-use Rattle.picture_text.specs.Shown.{Draws}
+use Rattle.run_picture.specs.declared.Drawn.{Drawn}
+use Rattle.run_picture.specs.Shown.{Draws}
 use Rattle.host_picture.specs.Pictured.{DrawsIn}
 use Rattle.host_words.specs.Saying.{Says}
 use Rattle.host_serial.specs.Calls.{UnmarksFor}
@@ -38,13 +38,13 @@ use Rattle.exchange_steps.specs.declared.Exchange.{Exchange}
 use Rattle.host_exchange.specs.Calls as exchanges
 use Rattle.meter_steps.specs.Meters.{Deed}
 use Rattle.host_meter.specs.Calls as meters
-use Rattle.mbus_whole.specs.declared.HowLong.{HowLong}
+use Rattle.mbus_length.specs.declared.HowLong.{HowLong}
 use Rattle.host_capture.specs.Calls.{TellsLength}
 use Rattle.host_bundle.specs.Lent.{Gives}
 use Rattle.host_bundle.specs.Bundled.{AddsIn, ListsIn}
 use Rattle.host_bundle.specs.Salvaging.{SalvagesIn}
 use Rattle.host_sweep.specs.Sweeping.{SweepsIn}
-use Rattle.verdict_rows.specs.declared.Verdict.{Verdict}
+use Rattle.run_verdicts.specs.declared.Verdict.{Verdict}
 use Rattle.host_verdicts.specs.Told.{GivesVerdicts}
 
 -- Any two results that the promise allows are the same. (A result is the answer, and beside it what is left in each thing lent.)

@@ -12,22 +12,23 @@ use lib.ListN.{length, take}
 use Rattle.mbus_rules.specs.declared.Value.the-variants.{Number}
 use Rattle.mbus_rules.specs.declared.Entry.{Entry}
 use Rattle.mbus_rules.specs.declared.Telegram.{Telegram}
-use Rattle.mbus_rules.specs.Answers.{reads, refusal}
-use Rattle.mbus_rules.specs.Bytes.{Bytes}
-use Rattle.mbus_rules.specs.Characters.{odd, carrier}
-use Rattle.mbus_rules.specs.Digits.{overNine, digitsOf, packed}
+use Rattle.base_rules.specs.Answers.{reads, refusal}
+use Rattle.base_rules.specs.Bytes.{Bytes}
+use Rattle.base_characters.specs.Characters.{odd, carrier}
+use Rattle.base_digits.specs.Digits.{overNine, digitsOf, packed}
 use Rattle.mbus_rules.specs.Entries.{mayFall, wrongNumber, readEntries}
 use Rattle.mbus_rules.specs.Headers.{wrongHeader}
 use Rattle.mbus_rules.specs.Lines.{readBody, readLine}
-use Rattle.mbus_rules.specs.Lists.{any, total}
+use Rattle.base_rules.specs.Lists.{any, total}
 use Rattle.mbus_rules.specs.Moments.{wrongMoment}
 use Rattle.mbus_rules.specs.Quantities.{quantityOf, widthOf, paired, isTime, isBinary, flow, inlet, outlet}
-use Rattle.mbus_rules.specs.Signs.{minus, sizeBytes, marked, signedOf, wrongSigned, signedBytes, fitsSigned, belowZero}
+use Rattle.mbus_rules.specs.Signs.{minus, sizeBytes, marked, signedOf, wrongSigned, signedBytes, fitsSigned}
+use Rattle.base_numbers.specs.TwosComplement.{belowZero}
 use Rattle.mbus_rules.specs.Telegrams.{dataOf}
 use Rattle.mbus_rules.specs.Writing.{wrongValue, bytesOfEntries, lineOf}
 use Rattle.mbus_rules.proofs.Laws.SignLaws.{signed-read, signed-written}
 use Rattle.mbus_rules.proofs.Laws.RowLaws.{may-fall-three}
-use Rattle.mbus_rules.proofs.Laws.Tests.{by-test, neither}
+use Rattle.base_rules.proofs.Laws.Tests.{by-test, neither}
 use Rattle.demands.specs.Values.{packedEntry, exampleHeader, exampleTime}
 
 -- ---- an inlet of -1.50 °C

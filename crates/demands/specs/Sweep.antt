@@ -7,14 +7,13 @@ use native.Mathlib.Omega.{arith}
 use borrow.Author.Tests.{le-ltb, ltb-false}
 use lib.Dec.{ltb}
 use lib.ListN.{length, take, drop}
-use Rattle.bytes_lent.specs.Pieces.{pieces}
-use Rattle.bytes_numbers.specs.Numbers.{number, bytesOf}
-use Rattle.mbus_rules.specs.Answers.{Answer, reads, refusal, refuse}
-use Rattle.mbus_rules.specs.Bytes.{Bytes}
-use Rattle.mbus_rules.specs.Characters.{over}
-use Rattle.mbus_rules.specs.Host.{chars}
-use Rattle.mbus_rules.specs.Lists.{any}
-use Rattle.mbus_rules.proofs.Laws.Tests.{by-test, neither}
+use Rattle.base_lent.specs.Pieces.{pieces}
+use Rattle.base_numbers.specs.Numbers.{number, bytesOf}
+use Rattle.base_rules.specs.Answers.{Answer, reads, refusal, refuse}
+use Rattle.base_rules.specs.Bytes.{Bytes}
+use Rattle.base_characters.specs.Characters.{over, chars}
+use Rattle.base_rules.specs.Lists.{any}
+use Rattle.base_rules.proofs.Laws.Tests.{by-test, neither}
 use Rattle.bench_clock.specs.Wakes.{isWake}
 use Rattle.bundle_rows.specs.Fields.{wrongField}
 use Rattle.bundle_rows.specs.Lists.{All}
@@ -32,9 +31,9 @@ use Rattle.bundle_check.proofs.Laws.RecordLaws.{recordTime, Timely}
 use Rattle.bundle_adding.specs.Adding.{lastTime, grown, noRoom, addOf}
 use Rattle.bundle_adding.proofs.Laws.AddingLaws.{bytes-timely}
 use Rattle.bundle_adding.proofs.Laws.AddLaws as adding
-use Rattle.listing_text.specs.Listings.{wordOf, rowText, linesFor, firstLine, listed, listingOf}
-use Rattle.replay_counting.specs.Counting.{looked, keptIf, lookedAt}
-use Rattle.replay_error.specs.Errors.{replayOf}
+use Rattle.run_listing.specs.Listings.{wordOf, rowText, linesFor, firstLine, listed, listingOf}
+use Rattle.run_counting.specs.Counting.{looked, keptIf, lookedAt}
+use Rattle.run_replay.specs.Errors.{replayOf}
 use Rattle.bundle_sweep.specs.Sweeping.{goes, removed, without, swept, sweepOf, bufferSwept}
 use Rattle.bundle_sweep.proofs.Laws.Going as going
 use Rattle.bundle_sweep.proofs.Laws.Proper as proper

@@ -8,10 +8,10 @@ use denote.Ref.{RefT, now}
 use Rattle.bench_clock.specs.declared.Clock.{Clock}
 use Rattle.bench_clock.specs.Wakes.{wakeOf, wakeLine}
 use Rattle.mbus_rules.specs.declared.Telegram.{Telegram}
-use Rattle.mbus_rules.specs.Answers.{Answer, refusal, within, follow}
+use Rattle.base_rules.specs.Answers.{Answer, refusal, within, follow}
 use Rattle.mbus_rules.specs.Writing.{writeLine}
-use Rattle.bytes_lent.specs.Lent.{told, stored, done, Leaves}
-use Rattle.mbus_writing.specs.declared.Written.{Written}
+use Rattle.base_lent.specs.Lent.{told, stored, done, Leaves}
+use Rattle.base_characters.specs.declared.carrying.Written.{Written}
 use Rattle.mbus_writing.specs.Answering.{WritesLine}
 use Rattle.mbus_either.specs.declared.Either.{Either}
 use Rattle.mbus_either.specs.Interfaces.{findEither}
@@ -32,27 +32,27 @@ use Rattle.bundle_adding.specs.declared.Added.{Added}
 use Rattle.bundle_adding.specs.Adding.{addOf}
 use Rattle.bundle_adding.specs.Adding as adding
 use Rattle.bundle_adding.specs.Shown.{Adds}
-use Rattle.listing_text.specs.declared.Listed.{Listed}
-use Rattle.listing_text.specs.Listings.{listingOf}
-use Rattle.listing_text.specs.Shown.{listedIn, Lists}
+use Rattle.run_listing.specs.declared.Listed.{Listed}
+use Rattle.run_listing.specs.Listings.{listingOf}
+use Rattle.run_listing.specs.Shown.{listedIn, Lists}
 use Rattle.host_words.specs.Saying.{fitted, numberOf, Says}
 use Rattle.host_words.specs.Saying as saying
 use Rattle.exchange_steps.specs.declared.Exchange.{Exchange}
 use Rattle.host_exchange.specs.Calls as exchanges
 use Rattle.meter_steps.specs.Meters.{Deed}
 use Rattle.host_meter.specs.Calls as meters
-use Rattle.mbus_whole.specs.declared.HowLong.{HowLong}
-use Rattle.mbus_whole.specs.declared.HowLong.the-variants.{NotYet, NoLine}
+use Rattle.mbus_length.specs.declared.HowLong.{HowLong}
+use Rattle.mbus_length.specs.declared.HowLong.the-variants.{NotYet, NoLine}
 use Rattle.host_capture.specs.Calls.{lengthNumber, lengthLeft, TellsLength}
 use Rattle.host_bundle.specs.Lent.{Gives, leftIn}
 use Rattle.host_bundle.specs.Bundled.{AddsIn, ListsIn}
 use Rattle.host_bundle.specs.Salvaging.{salvageFor, SalvagesIn}
 use Rattle.host_sweep.specs.Sweeping.{SweepsIn}
-use Rattle.picture_text.specs.declared.Drawn.{Drawn}
-use Rattle.picture_text.specs.Pictures.{pictureOf}
-use Rattle.picture_text.specs.Shown.{drawnIn, Draws}
+use Rattle.run_picture.specs.declared.Drawn.{Drawn}
+use Rattle.run_picture.specs.Pictures.{pictureOf}
+use Rattle.run_picture.specs.Shown.{drawnIn, Draws}
 use Rattle.host_picture.specs.Pictured.{DrawsIn}
-use Rattle.verdict_rows.specs.declared.Verdict.{Verdict}
+use Rattle.run_verdicts.specs.declared.Verdict.{Verdict}
 use Rattle.host_verdicts.specs.Told.{recordsTold, GivesVerdicts}
 
 -- The number alone, and what was lent as it was.

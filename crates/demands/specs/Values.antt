@@ -9,10 +9,10 @@ use Rattle.mbus_rules.specs.declared.Value.the-variants.{Number, Time}
 use Rattle.mbus_rules.specs.declared.Entry.{Entry}
 use Rattle.mbus_rules.specs.declared.Header.{Header}
 use Rattle.mbus_rules.specs.declared.Telegram.{Telegram}
-use Rattle.mbus_rules.specs.Lists.{any, total}
-use Rattle.mbus_rules.specs.Characters.{odd, byteOf, carrier}
-use Rattle.mbus_rules.specs.Answers.{reads, refusal}
-use Rattle.mbus_rules.specs.Digits.{digitsOf}
+use Rattle.base_rules.specs.Lists.{any, total}
+use Rattle.base_characters.specs.Characters.{odd, byteOf, carrier}
+use Rattle.base_rules.specs.Answers.{reads, refusal}
+use Rattle.base_digits.specs.Digits.{digitsOf}
 use Rattle.mbus_rules.specs.Signs.{minus}
 use Rattle.mbus_rules.specs.Moments.{wrongMoment}
 use Rattle.mbus_rules.specs.Headers.{wrongHeader}
@@ -21,7 +21,7 @@ use Rattle.mbus_rules.specs.Entries.{readEntries}
 use Rattle.mbus_rules.specs.Telegrams.{ack, readOf, enterOf, leaveOf, dataOf}
 use Rattle.mbus_rules.specs.Lines.{readBody, readLine}
 use Rattle.mbus_rules.specs.Writing.{lineOf}
-use Rattle.mbus_rules.specs.Flips.{flipBit, flips}
+use Rattle.base_characters.specs.Flips.{flipBit, flips}
 use Rattle.mbus_rules.specs.FourFlips.{dataLine, four}
 use Rattle.bench_indication.specs.Errors.{errorOf, indicationOf}
 use Rattle.exchange_steps.specs.declared.Cause.the-variants.{Silent}

@@ -5,9 +5,9 @@ use mathlib.Core.List.{List, [], _∷_, _++_}
 use mathlib.Core.Path.{_≡_, ap, _∙_}
 use borrow.Author.Tests.{lt-ltb}
 use lib.ListN.{length, getD}
-use Rattle.mbus_rules.specs.Answers.{reads}
-use Rattle.mbus_rules.specs.Bytes.{Bytes}
-use Rattle.mbus_rules.specs.Host.{chars}
+use Rattle.base_rules.specs.Answers.{reads}
+use Rattle.base_rules.specs.Bytes.{Bytes}
+use Rattle.base_characters.specs.Characters.{chars}
 use Rattle.mbus_rules.specs.declared.Request.{Request}
 use Rattle.mbus_rules.specs.declared.View.the-variants.{Asks}
 use Rattle.bench_clock.specs.Wakes.{isWake}
@@ -17,17 +17,17 @@ use Rattle.bundle_check.specs.Bundles.{contentsOf, checkOf}
 use Rattle.bundle_check.specs.Records.{Recorded}
 use Rattle.bundle_columns.specs.Columns.{columnsOf}
 use Rattle.bundle_columns.specs.Record.{columnsBytes}
-use Rattle.replay_counting.specs.Counting.{isSent, rowView, looked, sendEnd, keptIf, numbersOf}
-use Rattle.replay_counting.specs.Exchanges.{rowClock}
-use Rattle.verdict_rows.specs.declared.Verdict.the-variants.{Wake, First, Resend, LeftOver, Late, Second, WrongKind, Unasked}
-use Rattle.verdict_rows.specs.Verdicts.{verdictAfter, benchOf, verdictsOf}
-use Rattle.verdict_rows.specs.Answering.{verdictsIn, verdictsKept}
-use Rattle.verdict_rows.specs.Words.{verdictBehind, stretchOf, heardBehind, isCounts, asksRead}
-use Rattle.verdict_rows.specs.Example.{fourReads}
-use Rattle.verdict_rows.proofs.Laws.AsBefore as before
-use Rattle.verdict_rows.proofs.Laws.Example as example
-use Rattle.verdict_rows.proofs.Laws.Meaning as meaning
-use Rattle.verdict_rows.proofs.Laws.Telling as telling
+use Rattle.run_counting.specs.Counting.{isSent, rowView, looked, sendEnd, keptIf, numbersOf}
+use Rattle.run_counting.specs.Exchanges.{rowClock}
+use Rattle.run_verdicts.specs.declared.Verdict.the-variants.{Wake, First, Resend, LeftOver, Late, Second, WrongKind, Unasked}
+use Rattle.run_verdicts.specs.Verdicts.{verdictAfter, benchOf, verdictsOf}
+use Rattle.run_verdicts.specs.Answering.{verdictsIn, verdictsKept}
+use Rattle.run_verdicts.specs.Words.{verdictBehind, stretchOf, heardBehind, isCounts, asksRead}
+use Rattle.run_verdicts.specs.Example.{fourReads}
+use Rattle.run_verdicts.proofs.Laws.AsBefore as before
+use Rattle.run_verdicts.proofs.Laws.Example as example
+use Rattle.run_verdicts.proofs.Laws.Meaning as meaning
+use Rattle.run_verdicts.proofs.Laws.Telling as telling
 use Rattle.demands.specs.Bundle.{byte-at}
 
 -- ---- every row has exactly one verdict

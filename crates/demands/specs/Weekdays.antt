@@ -13,10 +13,10 @@ use Rattle.mbus_rules.specs.declared.Moment.{Moment}
 use Rattle.mbus_rules.specs.declared.Value.the-variants.{Time}
 use Rattle.mbus_rules.specs.declared.Entry.{Entry}
 use Rattle.mbus_rules.specs.declared.Telegram.{Telegram}
-use Rattle.mbus_rules.specs.Lists.{any, total}
-use Rattle.mbus_rules.specs.Characters.{odd, carrier}
-use Rattle.mbus_rules.specs.Answers.{reads}
-use Rattle.mbus_rules.specs.Digits.{digitsOf}
+use Rattle.base_rules.specs.Lists.{any, total}
+use Rattle.base_characters.specs.Characters.{odd, carrier}
+use Rattle.base_rules.specs.Answers.{reads}
+use Rattle.base_digits.specs.Digits.{digitsOf}
 use Rattle.mbus_rules.specs.Signs.{minus}
 use Rattle.mbus_rules.specs.Moments.{momentOf, dateExists, timeExists, weekdayExists, wrongMoment}
 use Rattle.mbus_rules.specs.Headers.{wrongHeader}
@@ -28,8 +28,8 @@ use Rattle.mbus_rules.specs.Writing.{wrongValue, wrongEntry, wrongData, wrongFo
 use Rattle.mbus_rules.specs.FourFlips.{dataBytes}
 use Rattle.mbus_rules.proofs.Laws.LineLaws.{GoodData, good-data}
 use Rattle.mbus_rules.proofs.Laws.MomentLaws.{weekday-unasked}
-use Rattle.mbus_rules.proofs.Laws.Tests.{neither, none-at}
-use Rattle.mbus_rules.proofs.Laws.TestLaws.{none}
+use Rattle.base_rules.proofs.Laws.Tests.{neither, none-at}
+use Rattle.base_rules.proofs.Laws.TestLaws.{none}
 use Rattle.demands.specs.Values.{Hold, exampleHeader, exampleEntries}
 
 -- ---- reading

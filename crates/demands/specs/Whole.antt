@@ -7,12 +7,12 @@ use lib.Count.{onesIn}
 use lib.ListN.{length, length-append}
 use lib.Seq.{take-append-seam}
 use native.Mathlib.Omega.{arith}
-use Rattle.mbus_rules.specs.Lists.{at, any}
-use Rattle.mbus_rules.specs.Characters.{odd, byteOf}
+use Rattle.base_rules.specs.Lists.{at, any}
+use Rattle.base_characters.specs.Characters.{odd, byteOf}
 use Rattle.mbus_rules.specs.Lines.{Accepted}
-use Rattle.mbus_whole.specs.declared.HowLong.the-variants.{Known, NotYet, NoLine}
-use Rattle.mbus_whole.specs.Wholes.{lineLength, Agree}
-use Rattle.mbus_whole.proofs.Laws.Meaning
+use Rattle.mbus_length.specs.declared.HowLong.the-variants.{Known, NotYet, NoLine}
+use Rattle.mbus_length.specs.Wholes.{lineLength, Agree}
+use Rattle.mbus_length.proofs.Laws.Meaning
 
 -- Every accepted line that begins with these characters, or that they begin with, has the length that is told.
 pub length-is-right : (first line : List ℕ) (n : ℕ) → lineLength first ≡ Known n → Agree first line → Accepted line → length line ≡ n

@@ -9,10 +9,10 @@ use lib.Count.{onesIn}
 use lib.Dec.{lit<, lit≤}
 use Rattle.bench_clock.specs.declared.Clock.{Clock}
 use Rattle.mbus_rules.specs.declared.Request.the-variants.{Enter}
-use Rattle.mbus_rules.specs.Answers.{within}
-use Rattle.mbus_rules.specs.Lists.{any, total}
-use Rattle.mbus_rules.specs.Characters.{odd, carrier}
-use Rattle.mbus_rules.specs.Flips.{flipBit, flips, outside, repeated}
+use Rattle.base_rules.specs.Answers.{within}
+use Rattle.base_rules.specs.Lists.{any, total}
+use Rattle.base_characters.specs.Characters.{odd, carrier}
+use Rattle.base_characters.specs.Flips.{flipBit, flips, outside, repeated}
 use Rattle.mbus_rules.specs.Lines.{readBody, readLine}
 use Rattle.mbus_rules.specs.Telegrams.{ack}
 use Rattle.mbus_rules.specs.Views.{viewed}
@@ -27,8 +27,7 @@ use Rattle.meter_steps.specs.declared.Mode.{Mode}
 use Rattle.meter_steps.specs.declared.Mode.the-variants.{Use, Verifying}
 use Rattle.meter_steps.specs.Meters.{Deed, says, zeros, withMode, instructedAt}
 use Rattle.meter_steps.specs.Histories.{isEnter, isLeave, instructs}
-use Rattle.both_ends.specs.Line.{Ends, ownEnds}
-use Rattle.both_ends.specs.Line.{happens, happened, alone}
+use Rattle.both_ends.specs.Line.{Ends, ownEnds, happens, happened, alone}
 use Rattle.both_ends.specs.Hypotheses.{UpToThree}
 use Rattle.both_ends.specs.Statements.{Entering, Leaving}
 use Rattle.exchange_steps.specs.Values.{clockAt}

@@ -6,8 +6,8 @@ use lib.Dec.{eqb, ltb, leb}
 use lib.ListN.{take, drop, replicate}
 use Rattle.mbus_rules.specs.declared.Request.{Request}
 use Rattle.mbus_rules.specs.declared.Request.the-variants.{Read, Enter, Leave}
-use Rattle.mbus_rules.specs.Answers.{Answer, reads, refusal, refuse, within, follow}
-use Rattle.mbus_rules.specs.Lists.{at}
+use Rattle.base_rules.specs.Answers.{Answer, reads, refusal, refuse, within, follow}
+use Rattle.base_rules.specs.Lists.{at}
 use Rattle.exchange_steps.specs.declared.Cause.{Cause}
 use Rattle.exchange_steps.specs.declared.Cause.the-variants.{Silent, Damaged, WrongKind}
 use Rattle.exchange_steps.specs.declared.State.{State}
@@ -16,10 +16,10 @@ use Rattle.exchange_steps.specs.declared.Exchange.{Exchange}
 use Rattle.exchange_steps.specs.declared.Bench.{Bench}
 use Rattle.exchange_steps.specs.declared.Bench.the-variants.{Idle, Busy}
 use Rattle.exchange_steps.specs.Steps.{mostSends, past}
-use Rattle.bytes_lent.specs.Same.{same}
-use Rattle.bytes_numbers.specs.Numbers.{number}
-use Rattle.bytes_numbers.specs.Records.{recordOf}
-use Rattle.host_records.specs.Recorded.{noRecord, recorded}
+use Rattle.base_lent.specs.Same.{same}
+use Rattle.base_numbers.specs.Numbers.{number}
+use Rattle.base_numbers.specs.Records.{recordOf}
+use Rattle.base_lent.specs.Recorded.{noRecord, recorded}
 use Rattle.exchange_record.specs.declared.Taken.{Taken}
 use Rattle.exchange_record.specs.declared.Taken.the-variants.{Is, Refused}
 

@@ -1,7 +1,7 @@
 // The exchange of document 01: a request, at most three sends of it, and how it ends; and one after another, as 2026-09 of document 02 has it.
 ghost use mathlib.Core.Bool.{cond};
 ghost use mathlib.Core.Path.{_≡_};
-ghost use Rattle.mbus_rules.specs.Answers.{reads};
+ghost use Rattle.base_rules.specs.Answers.{reads};
 ghost use Rattle.mbus_rules.specs.Lines.{readLine};
 ghost use Rattle.mbus_rules.specs.Telegrams.{blank};
 ghost use Rattle.mbus_rules.specs.Views.{viewed};
@@ -11,7 +11,7 @@ use bench_clock::Clock;
 use mbus_reading::read_line;
 use mbus_reading::view_of;
 use mbus_rules::Kind;
-use mbus_rules::Outcome;
+use base_rules::Outcome;
 use mbus_rules::Reading;
 use mbus_rules::Request;
 use mbus_rules::Telegram;

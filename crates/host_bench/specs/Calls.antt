@@ -2,9 +2,9 @@
 use Prim.Native.Nat.{ℕ}
 use mathlib.Core.List.{List}
 use lib.IntN.{ℤ}
-use Rattle.mbus_rules.specs.Answers.{Answer}
+use Rattle.base_rules.specs.Answers.{Answer}
 use Rattle.bench_indication.specs.Errors.{indicationOf}
-use Rattle.bytes_lent.specs.Lent.{needs}
+use Rattle.base_lent.specs.Lent.{needs}
 
 -- The error of indication: 21, then 60 to 62.
 abbrev pub errorFor : ℕ → ℕ → ℕ → ℕ → List ℤ → Answer ℤ

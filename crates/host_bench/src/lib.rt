@@ -3,7 +3,7 @@ ghost use mathlib.Core.Path.{_≡_};
 ghost use mathlib.Core.List.{[], _∷_};
 ghost use Rattle.bench_clock.specs.Gaps.{gapOf};
 ghost use Rattle.bench_clock.specs.Wakes.{wakeOf, wakeLine};
-ghost use Rattle.bytes_lent.specs.Lent.{told, done, Leaves};
+ghost use Rattle.base_lent.specs.Lent.{told, done, Leaves};
 ghost use Rattle.host_bench.specs.Calls.{errorFor};
 use bench_clock::Clock;
 use bench_clock::Gap;

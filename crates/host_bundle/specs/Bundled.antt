@@ -5,8 +5,8 @@ use mathlib.Core.Path.{_≡_}
 use Rattle.bundle_check.specs.Records.{Recorded}
 use Rattle.bundle_adding.specs.Adding.{addOf}
 use Rattle.bundle_adding.specs.Adding as adding
-use Rattle.listing_text.specs.Listings.{listingOf}
-use Rattle.listing_text.specs.Shown as listing
+use Rattle.run_listing.specs.Listings.{listingOf}
+use Rattle.run_listing.specs.Shown as listing
 use Rattle.host_bundle.specs.Lent.{Gives}
 
 -- Adding: how many bytes the bundle then fills, and what the buffer then holds.

@@ -1,8 +1,8 @@
 -- What a function for C leaves in the place that was lent for a number.
 use Prim.Native.Nat.{ℕ}
 use mathlib.Core.Path.{_≡_}
-use Rattle.mbus_rules.specs.Answers.{Answer, reads, refusal}
-use Rattle.bytes_lent.specs.Lent.{told, done}
+use Rattle.base_rules.specs.Answers.{Answer, reads, refusal}
+use Rattle.base_lent.specs.Lent.{told, done}
 
 -- The place holds the number; a refusal leaves it as it was.
 abbrev pub leftIn : ℕ → Answer ℕ → ℕ

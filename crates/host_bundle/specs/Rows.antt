@@ -2,9 +2,9 @@
 use Prim.Native.Nat.{ℕ}
 use mathlib.Core.List.{List, [], _∷_, _++_}
 use lib.ListN.{length}
-use Rattle.mbus_rules.specs.Answers.{Answer, reads, refusal, follow}
-use Rattle.bytes_numbers.specs.Numbers.{bytesOf}
-use Rattle.bytes_lent.specs.Lent.{done, needs, Leaves}
+use Rattle.base_rules.specs.Answers.{Answer, reads, refusal, follow}
+use Rattle.base_numbers.specs.Numbers.{bytesOf}
+use Rattle.base_lent.specs.Lent.{done, needs, Leaves}
 use Rattle.bundle_rows.specs.declared.Row.{Row}
 use Rattle.bundle_check.specs.declared.rows.RowFound.{RowFound}
 use Rattle.bundle_check.specs.declared.rows.RowFound.the-variants.{Fields, Refused}

@@ -2,9 +2,9 @@
 use Prim.Native.Nat.{ℕ}
 use mathlib.Core.List.{List, [], _∷_}
 use mathlib.Core.Path.{_≡_}
-use Rattle.mbus_rules.specs.Answers.{Answer}
-use Rattle.bytes_lent.specs.Lent.{stored, done, needs, Leaves}
-use Rattle.bytes_numbers.specs.Records.{wordsOf}
+use Rattle.base_rules.specs.Answers.{Answer}
+use Rattle.base_lent.specs.Lent.{stored, done, needs, Leaves}
+use Rattle.base_numbers.specs.Records.{wordsOf}
 use Rattle.bundle_salvage.specs.declared.Salvaged.{Salvaged}
 use Rattle.bundle_salvage.specs.Salvaging.{salvageInto, newBundle}
 

@@ -1,5 +1,5 @@
 // The contents of a run bundle in columns (2026-10 of document 02), for the bench host.
-ghost use Rattle.bytes_lent.specs.Lent.{done, Leaves};
+ghost use Rattle.base_lent.specs.Lent.{done, Leaves};
 ghost use Rattle.bundle_columns.specs.Lookups.{nextKept};
 ghost use Rattle.bundle_columns.specs.Record.{columnsBytes};
 ghost use Rattle.bundle_columns.specs.Shown.{columnsInto};

@@ -10,8 +10,8 @@ use bundle_adding::add;
 use bundle_check::Checked;
 use bundle_check::check;
 use bundle_check::rows::row;
-use listing_text::Listed;
-use listing_text::list;
+use run_listing::Listed;
+use run_listing::list;
 
 pub mod contents;
 mod record;

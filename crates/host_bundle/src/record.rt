@@ -1,11 +1,11 @@
 // A row as a record for C.
 ghost use mathlib.Core.Path.{_≡_};
-ghost use Rattle.bytes_lent.specs.Lent.{needs};
+ghost use Rattle.base_lent.specs.Lent.{needs};
 ghost use Rattle.host_bundle.specs.Rows.{rowRecord, rowFound, GivesRow};
 use bundle_check::rows::RowFound;
 use bundle_rows::Row;
-use bytes_lent::store;
-use bytes_numbers::bytes_of;
+use base_lent::store;
+use base_numbers::bytes_of;
 
 // The bytes of a row's record.
 pub(crate) const ROW_BYTES: usize = 12;

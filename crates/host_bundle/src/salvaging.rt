@@ -2,7 +2,7 @@
 ghost use Rattle.host_bundle.specs.Salvaging.{SalvagesIn};
 use bundle_salvage::SalvageTold;
 use bundle_salvage::salvage;
-use bytes_numbers::put_record;
+use base_numbers::put_record;
 
 // 0, the new bundle, and what is told of it; or 256 plus 21, 30 to 33 or 38.
 #[no_mangle]

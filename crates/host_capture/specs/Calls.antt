@@ -2,12 +2,12 @@
 use Prim.Native.Nat.{ℕ, _+_}
 use mathlib.Core.List.{List, [], _∷_}
 use mathlib.Core.Path.{_≡_}
-use Rattle.mbus_rules.specs.Answers.{Answer}
-use Rattle.mbus_whole.specs.declared.HowLong.{HowLong}
-use Rattle.mbus_whole.specs.declared.HowLong.the-variants.{Known, NotYet, NoLine}
+use Rattle.base_rules.specs.Answers.{Answer}
+use Rattle.mbus_length.specs.declared.HowLong.{HowLong}
+use Rattle.mbus_length.specs.declared.HowLong.the-variants.{Known, NotYet, NoLine}
 use Rattle.mbus_after.specs.After.{TimedSpot, findAfter}
-use Rattle.bytes_numbers.specs.Records.{wordsOf}
-use Rattle.bytes_lent.specs.Lent.{done, placed, Leaves}
+use Rattle.base_numbers.specs.Records.{wordsOf}
+use Rattle.base_lent.specs.Lent.{done, placed, Leaves}
 
 -- 0 where the length is known, 1 where it is not yet, or 256 plus 18
 abbrev pub lengthNumber : HowLong → ℕ

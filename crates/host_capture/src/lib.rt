@@ -2,15 +2,15 @@
 ghost use mathlib.Core.Path.{_≡_};
 ghost use lib.Dec.{ltb};
 ghost use lib.ListN;
-ghost use Rattle.bytes_lent.specs.Copying.{copied};
-ghost use Rattle.mbus_whole.specs.Wholes.{lineLength};
+ghost use Rattle.base_lent.specs.Copying.{copied};
+ghost use Rattle.mbus_length.specs.Wholes.{lineLength};
 ghost use Rattle.mbus_after.specs.After.{timedAt};
 ghost use Rattle.host_capture.specs.Calls.{TellsLength, timedBytes, FindsAfter};
-use bytes_numbers::put_record;
+use base_numbers::put_record;
 use mbus_after::FoundAfter;
 use mbus_after::find_line_after;
-use mbus_whole::HowLong;
-use mbus_whole::line_length;
+use mbus_length::HowLong;
+use mbus_length::line_length;
 
 // 0 and how many characters the accepted line has that begins with these; 1 where it is not yet known; or 256 plus 18.
 #[no_mangle]

@@ -3,13 +3,13 @@ use Prim.Native.Nat.{ℕ}
 use mathlib.Core.List.{List}
 use lib.ListN.{length}
 use Rattle.mbus_rules.specs.declared.Entry.{Entry}
-use Rattle.mbus_rules.specs.Answers.{Answer, follow}
-use Rattle.bytes_lent.specs.Lent.{needs, placed}
+use Rattle.base_rules.specs.Answers.{Answer, follow}
+use Rattle.base_lent.specs.Lent.{needs, placed}
 use Rattle.cjt_rules.specs.declared.CjtTelegram.{CjtTelegram}
 use Rattle.cjt_rules.specs.CjtLines.{readCjtLine}
 use Rattle.cjt_rules.specs.CjtWriting.{writeCjtLine}
 use Rattle.cjt_energy.specs.Energies.{entryFor}
-use Rattle.host_cjt_records.specs.CjtRecords.{cjtSize, cjtFrom}
+use Rattle.cjt_records.specs.CjtRecords.{cjtSize, cjtFrom}
 
 -- Reading: 1 to 3, 80 to 85, then 21.
 abbrev pub readCjtFor : List ℕ → List ℕ → Answer CjtTelegram

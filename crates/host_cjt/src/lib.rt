@@ -1,18 +1,18 @@
 // CJ/T 188 lines and energies for C: include/skarrowith.h says how.
 ghost use lib.ListN.{length};
-ghost use Rattle.bytes_lent.specs.Lent.{done, Leaves};
+ghost use Rattle.base_lent.specs.Lent.{done, Leaves};
 ghost use Rattle.cjt_rules.specs.CjtWriting.{writeCjtLine};
-ghost use Rattle.host_records.specs.Telegrams.{entryBytes};
+ghost use Rattle.mbus_records.specs.Telegrams.{entryBytes};
 ghost use Rattle.host_cjt.specs.CjtCalls.{writeCjtFor, entryCjtFor};
-use bytes_lent::lay;
+use base_lent::lay;
 use cjt_energy::Converted;
 use cjt_energy::entry_for;
 use cjt_rules::CjtReading;
 use cjt_rules::CjtTelegram;
 use cjt_writing::write_line;
-use host_cjt_records::cjt_from;
-use host_records::telegrams::entry_bytes;
-use mbus_writing::Written;
+use cjt_records::cjt_from;
+use mbus_records::telegrams::entry_bytes;
+use base_characters::carrying::Written;
 
 pub mod reading;
 

@@ -1,16 +1,16 @@
 // CJ/T 188 lines that are received, checked and read for C.
 ghost use mathlib.Core.Path.{_≡_};
-ghost use Rattle.bytes_lent.specs.Lent.{Leaves};
+ghost use Rattle.base_lent.specs.Lent.{Leaves};
 ghost use Rattle.cjt_rules.specs.CjtHost.{cjtKindNumber, cjtHostNumber};
-ghost use Rattle.host_cjt_records.specs.CjtRecords.{cjtBytes};
+ghost use Rattle.cjt_records.specs.CjtRecords.{cjtBytes};
 ghost use Rattle.host_cjt.specs.CjtCalls.{readCjtFor};
-use bytes_lent::store;
+use base_lent::store;
 use cjt_reading::pairs::outline_of;
 use cjt_reading::read_line;
 use cjt_rules::CjtReading;
 use cjt_rules::CjtTelegram;
 use cjt_rules::CjtView;
-use host_cjt_records::cjt_bytes;
+use cjt_records::cjt_bytes;
 
 // The host's number of a telegram.
 fn kind_number(telegram: CjtTelegram) -> u32

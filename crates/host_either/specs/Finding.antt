@@ -1,11 +1,11 @@
 -- 02, 2026-01, for C: what the search of both captures answers, and what it leaves.
 use Prim.Native.Nat.{ℕ}
 use mathlib.Core.List.{List}
-use Rattle.mbus_rules.specs.Answers.{Answer}
+use Rattle.base_rules.specs.Answers.{Answer}
 use Rattle.mbus_either.specs.declared.Interface.{Interface}
 use Rattle.mbus_either.specs.declared.Interface.the-variants.{Mbus, Optical}
 use Rattle.mbus_either.specs.Interfaces.{LiveLine, findEither}
-use Rattle.bytes_lent.specs.Lent.{placed, Leaves}
+use Rattle.base_lent.specs.Lent.{placed, Leaves}
 use Rattle.host_search.specs.Finding.{spotBytes}
 
 -- The answer says which capture, 1 for M-Bus and 2 for optical.

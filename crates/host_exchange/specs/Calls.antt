@@ -4,16 +4,16 @@ use mathlib.Core.Bool.{cond}
 use mathlib.Core.List.{List, [], _∷_}
 use mathlib.Core.Path.{_≡_}
 use Rattle.mbus_rules.specs.declared.Telegram.{Telegram}
-use Rattle.mbus_rules.specs.Answers.{Answer, reads, refusal, follow}
+use Rattle.base_rules.specs.Answers.{Answer, reads, refusal, follow}
 use Rattle.mbus_rules.specs.Telegrams.{bare}
 use Rattle.exchange_steps.specs.declared.Exchange.{Exchange}
 use Rattle.exchange_steps.specs.declared.Stepped.{Stepped}
 use Rattle.exchange_steps.specs.declared.Stepped.the-variants.{To, Refused}
 use Rattle.exchange_steps.specs.Steps.{isWell}
 use Rattle.exchange_steps.specs.Histories.{Step, sendEnded, heard, tick, answer}
-use Rattle.bytes_lent.specs.Lent.{Leaves, stored, needs}
+use Rattle.base_lent.specs.Lent.{Leaves, stored, needs}
 use Rattle.mbus_telegrams.specs.Kinds.{kindIn}
-use Rattle.host_records.specs.Telegrams.{telegramSize, telegramBytes}
+use Rattle.mbus_records.specs.Telegrams.{telegramSize, telegramBytes}
 use Rattle.exchange_record.specs.Exchanges.{stateNumber, exchangeBytes, benchFrom}
 
 -- ---- what each call answers

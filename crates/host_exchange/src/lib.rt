@@ -6,13 +6,13 @@ ghost use Rattle.mbus_rules.specs.Telegrams.{shown};
 ghost use Rattle.exchange_steps.specs.Histories.{answer, heard};
 ghost use Rattle.host_exchange.specs.Calls.{Answers, HearsReply, answerOf, sendEndedFor, tickFor, heardFor};
 use bench_clock::Clock;
-use bytes_lent::store;
+use base_lent::store;
 use exchange_record::Taken;
 use exchange_record::bench_from;
 use exchange_record::exchange_bytes;
 use exchange_steps::Bench;
 use exchange_steps::Stepped;
-use host_records::telegrams::telegram_bytes;
+use mbus_records::telegrams::telegram_bytes;
 use mbus_telegrams::bare;
 use mbus_telegrams::kinds::kind_in;
 

@@ -3,14 +3,14 @@ use Prim.Native.Nat.{ℕ}
 use mathlib.Core.List.{List}
 use lib.ListN.{length}
 use Rattle.mbus_rules.specs.declared.Telegram.{Telegram}
-use Rattle.mbus_rules.specs.Answers.{Answer, follow}
+use Rattle.base_rules.specs.Answers.{Answer, follow}
 use Rattle.mbus_rules.specs.Host.{kindNumber}
 use Rattle.mbus_rules.specs.Lines.{readLine}
 use Rattle.mbus_rules.specs.Telegrams.{bare}
 use Rattle.mbus_rules.specs.Writing.{writeLine}
-use Rattle.bytes_lent.specs.Lent.{placed}
+use Rattle.base_lent.specs.Lent.{placed}
 use Rattle.mbus_telegrams.specs.Kinds.{kindIn}
-use Rattle.host_records.specs.Telegrams.{telegramSize, telegramFrom}
+use Rattle.mbus_records.specs.Telegrams.{telegramSize, telegramFrom}
 
 -- ---- what each call answers
 

@@ -1,19 +1,19 @@
 // Lines for C, read into a telegram's record and written from it: include/skarrowith.h says how.
 ghost use lib.ListN.{length};
 ghost use Rattle.mbus_rules.specs.Writing.{writeLine};
-ghost use Rattle.bytes_lent.specs.Lent.{Leaves};
-ghost use Rattle.host_records.specs.Telegrams.{telegramBytes};
+ghost use Rattle.base_lent.specs.Lent.{Leaves};
+ghost use Rattle.mbus_records.specs.Telegrams.{telegramBytes};
 ghost use Rattle.host_lines.specs.Calls.{readFor, kindOf, writeFor, requestFor};
-use bytes_lent::store;
-use host_records::telegrams::telegram_bytes;
-use host_records::telegrams::telegram_from;
+use base_lent::store;
+use mbus_records::telegrams::telegram_bytes;
+use mbus_records::telegrams::telegram_from;
 use mbus_reading::read_line;
-use mbus_rules::Outcome;
+use base_rules::Outcome;
 use mbus_rules::Telegram;
 use mbus_telegrams::kinds::kind_in;
 use mbus_telegrams::kinds::kind_number;
 use mbus_telegrams::plain;
-use mbus_writing::Written;
+use base_characters::carrying::Written;
 use mbus_writing::write_line;
 
 // Reads a line into a telegram's record, and answers its kind.

@@ -3,10 +3,10 @@ use Prim.Native.Nat.{ℕ}
 use mathlib.Core.List.{List, [], _∷_, _++_}
 use lib.Dec.{eqb}
 use lib.IntN.{ℤ}
-use Rattle.mbus_rules.specs.Answers.{Answer, reads, refuse}
-use Rattle.mbus_rules.specs.Binary.{binaryBytes}
+use Rattle.base_rules.specs.Answers.{Answer, reads, refuse}
+use Rattle.base_numbers.specs.TwosComplement.{binaryBytes}
 use Rattle.mbus_rules.specs.Quantities.{quantityOf, unitOf, powerOf, unknown}
-use Rattle.bytes_lent.specs.Lent.{placed}
+use Rattle.base_lent.specs.Lent.{placed}
 
 -- What a unit byte means: a value's last digit is ten to the power, in the unit. The power of a point in time is 0.
 pub record Meaning : Type 0 where

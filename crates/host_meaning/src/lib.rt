@@ -2,11 +2,11 @@
 ghost use mathlib.Core.Path.{_≡_};
 ghost use mathlib.Core.List.{[], _∷_};
 ghost use lib.IntN.{subℕ};
-ghost use Rattle.bytes_lent.specs.Lent.{done, Leaves};
-ghost use Rattle.mbus_rules.specs.Binary.{binaryBytes};
+ghost use Rattle.base_lent.specs.Lent.{done, Leaves};
+ghost use Rattle.base_numbers.specs.TwosComplement.{binaryBytes};
 ghost use Rattle.mbus_rules.specs.Quantities.{rowOf, powerOf};
 ghost use Rattle.host_meaning.specs.Meanings.{meaningBytes, meaningFor};
-use bytes_lent::store;
+use base_lent::store;
 use mbus_rules::UnitRow;
 use mbus_telegrams::table::UNKNOWN;
 use mbus_telegrams::table::row_of;

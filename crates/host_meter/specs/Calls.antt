@@ -3,14 +3,14 @@ use Prim.Native.Nat.{ℕ}
 use mathlib.Core.List.{List, []}
 use mathlib.Core.Path.{_≡_}
 use Rattle.bench_clock.specs.declared.Clock.{Clock}
-use Rattle.mbus_rules.specs.Answers.{Answer, follow}
+use Rattle.base_rules.specs.Answers.{Answer, follow}
 use Rattle.mbus_rules.specs.Host.{kindNumber}
 use Rattle.meter_steps.specs.declared.Meter.{Meter}
 use Rattle.meter_steps.specs.Meters.{Said, silence, says, Deed, setUp, heardAt, measuredAt}
 use Rattle.meter_record.specs.Leaving.{leaves}
 use Rattle.meter_record.specs.MeterRecords.{meterSize, meterBytes, meterFrom}
-use Rattle.bytes_lent.specs.Lent.{stored, needs, done, Leaves}
-use Rattle.host_records.specs.Telegrams.{telegramSize, telegramBytes, telegramFrom}
+use Rattle.base_lent.specs.Lent.{stored, needs, done, Leaves}
+use Rattle.mbus_records.specs.Telegrams.{telegramSize, telegramBytes, telegramFrom}
 
 -- ---- what each call answers
 

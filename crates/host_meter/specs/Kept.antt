@@ -2,18 +2,18 @@
 use Prim.Native.Nat.{ℕ, _+_}
 use mathlib.Core.List.{List}
 use mathlib.Core.Path.{_≡_}
-use Rattle.mbus_rules.specs.declared.Outcome.{Outcome}
-use Rattle.mbus_rules.specs.declared.Outcome.the-variants as outcomes
+use Rattle.base_rules.specs.declared.Outcome.{Outcome}
+use Rattle.base_rules.specs.declared.Outcome.the-variants as outcomes
 use Rattle.mbus_rules.specs.declared.Telegram.{Telegram}
-use Rattle.mbus_rules.specs.Answers.{Answer, reads, refusal}
+use Rattle.base_rules.specs.Answers.{Answer, reads, refusal}
 use Rattle.mbus_rules.specs.Host.{kindNumber}
 use Rattle.meter_steps.specs.declared.Meter.{Meter}
 use Rattle.meter_steps.specs.declared.Reply.{Reply}
 use Rattle.meter_steps.specs.declared.Reply.the-variants.{Silence, Says, Refused}
 use Rattle.meter_steps.specs.declared.Step.{Step}
 use Rattle.meter_record.specs.MeterRecords.{meterBytes}
-use Rattle.bytes_lent.specs.Lent.{stored}
-use Rattle.host_records.specs.Telegrams.{telegramBytes}
+use Rattle.base_lent.specs.Lent.{stored}
+use Rattle.mbus_records.specs.Telegrams.{telegramBytes}
 
 -- ---- by the program's cases
 

@@ -1,7 +1,7 @@
 // The picture of a run for the bench host, a C program: include/skarrowith.h says how it is called.
 ghost use Rattle.host_picture.specs.Pictured.{DrawsIn};
-use picture_text::Drawn;
-use picture_text::draw;
+use run_picture::Drawn;
+use run_picture::draw;
 
 // 0, the picture in the first places and how many bytes it has, or 256 plus 30 to 37 or 21.
 #[no_mangle]

@@ -3,10 +3,10 @@ use Prim.Native.Nat.{ℕ}
 use mathlib.Core.List.{List}
 use mathlib.Core.Path.{_≡_}
 use lib.ListN.{length}
-use Rattle.mbus_rules.specs.Answers.{within}
-use Rattle.bytes_lent.specs.Lent.{stored}
+use Rattle.base_rules.specs.Answers.{within}
+use Rattle.base_lent.specs.Lent.{stored}
 use Rattle.host_bundle.specs.Lent.{Gives}
-use Rattle.verdict_repeats.specs.Repeats.{earlierInto}
+use Rattle.run_repeats.specs.Repeats.{earlierInto}
 
 -- How many rows there are, and the number for each in the first places and nothing beyond.
 pub record RepeatsIn (b rows : List ℕ) (count r : ℕ) (rows' : List ℕ) (count' : ℕ) : Type 0 where

@@ -1,7 +1,7 @@
 // Rows of a run bundle that repeat a reading, for the bench host, a C program: include/skarrowith.h says how the function is called.
 ghost use Rattle.host_repeats.specs.Repeating.{RepeatsIn};
 use bundle_check::Checked;
-use verdict_repeats::earlier_rows;
+use run_repeats::earlier_rows;
 
 // 0, for each row 0 or 1 + the lowest earlier row with its reading, and the count of rows; or 256 plus 30 to 37 or 21.
 #[no_mangle]

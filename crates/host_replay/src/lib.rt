@@ -1,9 +1,9 @@
 // The replay of a run bundle for the bench host, a C program: include/skarrowith.h says how its function is called.
 ghost use mathlib.Core.List.{[], _∷_};
-ghost use Rattle.bytes_lent.specs.Lent.{done, Leaves};
+ghost use Rattle.base_lent.specs.Lent.{done, Leaves};
 ghost use Rattle.host_replay.specs.Calls.{replayFor};
-use replay_error::Replayed;
-use replay_error::replay;
+use run_replay::Replayed;
+use run_replay::replay;
 
 // The error by C.1 in tenths of a percent.
 #[no_mangle]

@@ -2,10 +2,10 @@
 use Prim.Native.Nat.{ℕ}
 use mathlib.Core.List.{List, [], _∷_}
 use lib.ListN.{length}
-use Rattle.mbus_rules.specs.Answers.{Answer}
+use Rattle.base_rules.specs.Answers.{Answer}
 use Rattle.mbus_search.specs.Searching.{Spot, findIn}
-use Rattle.bytes_numbers.specs.Records.{wordsOf}
-use Rattle.bytes_lent.specs.Lent.{done, placed, Leaves}
+use Rattle.base_numbers.specs.Records.{wordsOf}
+use Rattle.base_lent.specs.Lent.{done, placed, Leaves}
 
 -- The record of a place: two numbers of eight bytes.
 abbrev pub spotBytes : Spot → List ℕ

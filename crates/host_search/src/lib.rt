@@ -2,10 +2,10 @@
 ghost use mathlib.Core.Path.{_≡_};
 ghost use lib.Dec.{ltb};
 ghost use lib.ListN;
-ghost use Rattle.bytes_lent.specs.Copying.{copied};
+ghost use Rattle.base_lent.specs.Copying.{copied};
 ghost use Rattle.mbus_search.specs.Searching.{spotAt};
 ghost use Rattle.host_search.specs.Finding.{spotBytes, Finds};
-use bytes_numbers::put_record;
+use base_numbers::put_record;
 use mbus_search::Found;
 use mbus_search::find_line;
 

@@ -3,7 +3,7 @@ use Prim.Native.Nat.{ℕ}
 use mathlib.Core.List.{List}
 use mathlib.Core.Path.{_≡_}
 use lib.ListN.{length}
-use Rattle.bytes_lent.specs.Copying.{laid}
+use Rattle.base_lent.specs.Copying.{laid}
 use Rattle.serial_marks.specs.Unmarking.{unmarkedIn}
 
 -- 0; the characters in the first places and nothing beyond; how many bytes were used, and how many characters made

@@ -1,9 +1,9 @@
 -- A verdict as a record for C: the fields of struct skarrowith_row_verdict, numbers low byte first.
 use Prim.Native.Nat.{ℕ}
 use mathlib.Core.List.{List, _++_}
-use Rattle.bytes_numbers.specs.Numbers.{bytesOf}
-use Rattle.verdict_rows.specs.declared.Verdict.{Verdict}
-use Rattle.verdict_rows.specs.declared.Verdict.the-variants.{Wake, First, Resend, Refused, Counts, LeftOver, Late, Second, Damaged, WrongKind, Unasked}
+use Rattle.base_numbers.specs.Numbers.{bytesOf}
+use Rattle.run_verdicts.specs.declared.Verdict.{Verdict}
+use Rattle.run_verdicts.specs.declared.Verdict.the-variants.{Wake, First, Resend, Refused, Counts, LeftOver, Late, Second, Damaged, WrongKind, Unasked}
 
 -- the number of each verdict
 abbrev pub verdictNumber : Verdict → ℕ

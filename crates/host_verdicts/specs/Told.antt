@@ -4,18 +4,18 @@ use mathlib.Core.List.{List, map}
 use mathlib.Core.Path.{_≡_}
 use lib.Dec.{leb}
 use lib.ListN.{length, getD, take}
-use Rattle.mbus_rules.specs.Answers.{Answer, reads, refusal, refuse, within, follow}
-use Rattle.mbus_rules.specs.declared.Outcome.{Outcome}
-use Rattle.mbus_rules.specs.declared.Outcome.the-variants.{Accepted, Refused}
-use Rattle.bytes_lent.specs.Copying.{laid}
-use Rattle.bytes_lent.specs.Lent.{done, needs, Leaves}
-use Rattle.bytes_lent.specs.Pieces.{pieces}
+use Rattle.base_rules.specs.Answers.{Answer, reads, refusal, refuse, within, follow}
+use Rattle.base_rules.specs.declared.Outcome.{Outcome}
+use Rattle.base_rules.specs.declared.Outcome.the-variants.{Accepted, Refused}
+use Rattle.base_lent.specs.Copying.{laid}
+use Rattle.base_lent.specs.Lent.{done, needs, Leaves}
+use Rattle.base_lent.specs.Pieces.{pieces}
 use Rattle.bundle_rows.specs.Rows.{mostRows}
 use Rattle.host_bundle.specs.Lent.{leftIn}
-use Rattle.verdict_rows.specs.declared.Verdict.{Verdict}
-use Rattle.verdict_rows.specs.declared.Verdict.the-variants.{Unasked}
-use Rattle.verdict_rows.specs.declared.Ruling.{Ruling}
-use Rattle.verdict_rows.specs.declared.Verdicts.{Verdicts}
+use Rattle.run_verdicts.specs.declared.Verdict.{Verdict}
+use Rattle.run_verdicts.specs.declared.Verdict.the-variants.{Unasked}
+use Rattle.run_verdicts.specs.declared.Ruling.{Ruling}
+use Rattle.run_verdicts.specs.declared.Verdicts.{Verdicts}
 use Rattle.host_verdicts.specs.declared.VerdictFound.{VerdictFound}
 use Rattle.host_verdicts.specs.declared.VerdictFound.the-variants as found
 use Rattle.host_verdicts.specs.Records.{verdictRecord}

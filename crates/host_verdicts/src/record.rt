@@ -1,8 +1,8 @@
 // A verdict as a record for C.
 ghost use mathlib.Core.Path.{_≡_};
 ghost use Rattle.host_verdicts.specs.Records.{verdictNumber, byNumber, verdictRecord};
-use bytes_numbers::bytes_of;
-use verdict_rows::Verdict;
+use base_numbers::bytes_of;
+use run_verdicts::Verdict;
 
 // The bytes of a verdict's record.
 pub(crate) const VERDICT_BYTES: usize = 4;

@@ -1,5 +1,4 @@
 -- The words of documents 01 and 02 for each refusal number.
-pub mod Words
 pub mod Refusals
 pub mod Saying
 pub mod Rows

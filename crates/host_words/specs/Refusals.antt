@@ -4,8 +4,8 @@ use Prim.Native.String.{String}
 use mathlib.Core.Bool.{cond}
 use mathlib.Core.List.{List, [], _∷_}
 use lib.Dec.{eqb, ltb}
-use Rattle.mbus_rules.specs.Answers.{Answer, reads, refusal}
-use Rattle.host_words.specs.Words.{text}
+use Rattle.base_rules.specs.Answers.{Answer, reads, refusal}
+use Rattle.text_filling.specs.Texts.{text}
 
 -- a number and its words
 pub record Row : Type 0 where

@@ -4,7 +4,7 @@ use mathlib.Core.Bool.{cond}
 use mathlib.Core.List.{List, [], _∷_}
 use lib.Dec.{eqb}
 use lib.ListN.{length}
-use Rattle.mbus_rules.specs.Answers.{Answer, reads, refuse}
+use Rattle.base_rules.specs.Answers.{Answer, reads, refuse}
 
 -- the text from row n on
 unfoldable pub rowsFrom : ℕ → List ℕ → List ℕ

@@ -4,7 +4,7 @@ use mathlib.Core.List.{List, [], _∷_, _++_}
 use mathlib.Core.Path.{_≡_}
 use lib.Dec.{ltb}
 use lib.ListN.{length, drop}
-use Rattle.mbus_rules.specs.Answers.{Answer, reads, refusal, refuse, follow}
+use Rattle.base_rules.specs.Answers.{Answer, reads, refusal, refuse, follow}
 
 -- the words as they are written: a zero byte ends them, as C ends a text
 abbrev pub zeroEnded : List ℕ → List ℕ

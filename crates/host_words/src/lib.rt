@@ -2,7 +2,7 @@
 ghost use mathlib.Core.Path.{_≡_};
 ghost use Prim.Native.Nat.{_<_, _≤_};
 ghost use lib.ListN.{length, take, drop};
-ghost use Rattle.mbus_rules.specs.Answers.{reads};
+ghost use Rattle.base_rules.specs.Answers.{reads};
 ghost use Rattle.host_words.specs.Refusals.{textOf, numberAsked};
 ghost use Rattle.host_words.specs.Saying.{Says};
 ghost use Rattle.host_words.specs.Rows.{rowsFrom, firstRow, rowOfWords};

@@ -1,7 +1,7 @@
 // Reads a run bundle from standard input and prints its listing (document 01, "The run bundle").
 use libc::STDIN_FILENO;
 use libc::STDOUT_FILENO;
-use listing_text::Listed;
+use run_listing::Listed;
 
 // Writes the first bytes of a text.
 fn print(text: &[u8], size: usize) {

@@ -5,8 +5,8 @@ use mathlib.Core.Bool.{Bool, cond, _&&_}
 use mathlib.Core.List.{List, [], _∷_}
 use lib.Dec.{ltb, leb}
 use lib.ListN.{length, drop}
-use Rattle.mbus_rules.specs.Answers.{Answer, reads, refusal}
-use Rattle.mbus_rules.specs.Lists.{at}
+use Rattle.base_rules.specs.Answers.{Answer, reads, refusal}
+use Rattle.base_rules.specs.Lists.{at}
 use Rattle.mbus_search.specs.Searching.{Begins, Spot, lengthHere, findIn, movedBy}
 use Rattle.mbus_after.specs.declared.FoundAfter.{FoundAfter}
 use Rattle.mbus_after.specs.declared.FoundAfter.the-variants.{At, Refused}

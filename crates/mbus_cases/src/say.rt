@@ -6,7 +6,7 @@ use mbus_rules::Entry;
 use mbus_rules::Header;
 use mbus_rules::Kind;
 use mbus_rules::Moment;
-use mbus_rules::Outcome;
+use base_rules::Outcome;
 use mbus_rules::Reading;
 use mbus_rules::Telegram;
 use mbus_rules::Value;

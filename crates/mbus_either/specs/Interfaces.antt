@@ -2,7 +2,7 @@
 -- has one. The order is by interface, never by place.
 use Prim.Native.Nat.{ℕ}
 use mathlib.Core.List.{List}
-use Rattle.mbus_rules.specs.Answers.{Answer, reads, refusal, within}
+use Rattle.base_rules.specs.Answers.{Answer, reads, refusal, within}
 use Rattle.mbus_search.specs.Searching.{Spot, findIn}
 use Rattle.mbus_either.specs.declared.Interface.{Interface}
 use Rattle.mbus_either.specs.declared.Interface.the-variants.{Mbus, Optical}

@@ -4,7 +4,7 @@ use mathlib.Core.List.{List}
 use mathlib.Core.Path.{_≡_}
 use lib.ListN.{take, drop}
 use denote.Ref.{RefT, now, ptr}
-use Rattle.mbus_rules.specs.Answers.{Answer, reads, refusal}
+use Rattle.base_rules.specs.Answers.{Answer, reads, refusal}
 use Rattle.mbus_search.specs.Searching.{Spot, spotAt}
 use Rattle.mbus_either.specs.declared.Interface.{Interface}
 use Rattle.mbus_either.specs.declared.Interface.the-variants.{Mbus, Optical}

@@ -7,10 +7,10 @@ use lib.ListN.{length, getD}
 use Rattle.mbus_rules.specs.declared.Value.{Value}
 use Rattle.mbus_rules.specs.declared.Value.the-variants.{Number, Time, Binary}
 use Rattle.mbus_rules.specs.declared.Entry.{Entry}
-use Rattle.mbus_rules.specs.Lists.{at}
-use Rattle.mbus_rules.specs.Answers.{Answer, reads, refusal, refuse, within, follow}
+use Rattle.base_rules.specs.Lists.{at}
+use Rattle.base_rules.specs.Answers.{Answer, reads, refusal, refuse, within, follow}
 use Rattle.mbus_rules.specs.Quantities.{quantityOf, widthOf, isTime}
-use Rattle.mbus_rules.specs.Binary.{binaryOf}
+use Rattle.base_numbers.specs.TwosComplement.{binaryOf}
 use Rattle.mbus_rules.specs.Moments.{wrongMoment, momentOf}
 use Rattle.mbus_rules.specs.Entries.{mayFall, valueBytes, valueOf, unfit, wrongBinary, wrongNumber}
 use Rattle.mbus_fields.specs.declared.digits.Signed.{Signed}

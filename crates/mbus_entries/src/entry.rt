@@ -4,7 +4,7 @@ ghost use mathlib.Core.Bool.{not, _&&_, _||_};
 ghost use Prim.Native.Nat.{_≤_, _<_};
 ghost use lib.ListN.{length};
 ghost use Rattle.mbus_rules.specs.Entries.{mayFall};
-ghost use Rattle.mbus_rules.specs.Lists.{at};
+ghost use Rattle.base_rules.specs.Lists.{at};
 ghost use Rattle.mbus_entries.specs.Trying.{Long, Led, numbered, lowValued, digitsValued, valuedShown, withValue, tried, triedShown, nextOf};
 use mbus_fields::binary::coded_of;
 use mbus_fields::digits::Signed;

@@ -8,7 +8,7 @@ ghost use Rattle.mbus_entries.specs.Walking.{entriesShown, unmarked, out
 use crate::entry::Tried;
 use crate::entry::next_entry;
 use mbus_rules::Entry;
-use mbus_rules::Outcome;
+use base_rules::Outcome;
 use mbus_telegrams::blank_entry;
 use mbus_telegrams::table::any_missing;
 

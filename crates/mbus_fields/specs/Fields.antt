@@ -5,22 +5,18 @@ use mathlib.Core.List.{List}
 use lib.Dec.{ltb, leb, eqb}
 use lib.IntN.{pos, negℤ}
 use lib.ListN.{length, take, drop}
-use Rattle.mbus_rules.specs.Lists.{any}
-use Rattle.mbus_rules.specs.Digits.{overNine, digitsOf}
+use Rattle.base_rules.specs.Lists.{any}
+use Rattle.base_digits.specs.Digits.{overNine, packedOf}
 use Rattle.mbus_rules.specs.Signs.{minus, signedOf, wrongSigned}
-use Rattle.mbus_rules.specs.Binary.{negative, binaryOf}
+use Rattle.base_numbers.specs.TwosComplement.{negative, binaryOf}
 use Rattle.mbus_rules.specs.Moments.{wrongMoment, momentOf}
 use Rattle.mbus_rules.specs.Quantities.{isPacked, isBinary, widthOf, time, unknown}
-use Rattle.bytes_numbers.specs.Numbers.{number, bytesOf}
-use Rattle.mbus_fields.specs.declared.digits.Packed.{Packed}
+use Rattle.base_numbers.specs.Numbers.{number, bytesOf}
+use Rattle.base_digits.specs.declared.Packed.{Packed}
 use Rattle.mbus_fields.specs.declared.digits.Signed.{Signed}
 use Rattle.mbus_fields.specs.declared.digits.Wide.{Wide}
 use Rattle.mbus_fields.specs.declared.binary.Coded.{Coded}
 use Rattle.mbus_fields.specs.declared.moments.Timed.{Timed}
-
--- 01, "Header" and "Entry": packed BCD, low byte first.
-abbrev pub packedOf : List ℕ → Packed
-packedOf b = record { wrong = any overNine b; count = digitsOf b }
 
 -- 02, 2026-07: the same with a sign.
 abbrev pub signedIn : List ℕ → Signed

@@ -3,13 +3,13 @@ ghost use mathlib.Core.Path.{_≡_};
 ghost use mathlib.Core.Bool.{cond};
 ghost use Prim.Native.Nat.{_+_, _-_, _^_, _≤_, min};
 ghost use lib.ListN.{take};
-ghost use Rattle.mbus_rules.specs.Binary.{fitsBinary};
+ghost use Rattle.base_numbers.specs.TwosComplement.{fitsBinary};
 ghost use Rattle.mbus_fields.specs.Fields.{codedOf};
 use crate::digits::is_below_zero;
 use crate::digits::mark_of;
 use crate::digits::size_of;
-use bytes_numbers::number_at;
-use bytes_numbers::signed::count_of;
+use base_numbers::number_at;
+use base_numbers::signed::count_of;
 
 // What the bytes hold in binary: the highest bit is set, and the number that they are.
 pub struct Coded {

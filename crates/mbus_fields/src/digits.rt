@@ -1,22 +1,15 @@
-// Packed digits.
+// Packed digits with a sign, and the value that a structure says.
 ghost use mathlib.Core.Path.{_≡_};
 ghost use mathlib.Core.Bool.{cond};
 ghost use Prim.Native.Nat.{_-_, _^_, _<_, _≤_, min};
 ghost use lib.Dec.{leb};
 ghost use lib.IntN.{pos, negℤ, natAbs};
-ghost use Rattle.mbus_rules.specs.Signs.{belowZero};
-ghost use Rattle.mbus_rules.specs.Lists.{any};
-ghost use Rattle.mbus_rules.specs.Digits.{overNine, digitsOf};
-ghost use Rattle.bytes_numbers.specs.Numbers.{bytesOf};
-ghost use Rattle.mbus_fields.specs.Fields.{packedOf, markOf, signOn, markedIn, signedBy, wideBy, wideOf};
-use bytes_numbers::number_at;
+ghost use Rattle.base_numbers.specs.TwosComplement.{belowZero};
+ghost use Rattle.mbus_fields.specs.Fields.{markOf, signOn, markedIn, signedBy, wideBy, wideOf};
+use base_digits::Packed;
+use base_digits::packed_in;
+use base_numbers::number_at;
 use mbus_telegrams::table::structure_of;
-
-// What packed digits hold: a digit is over nine, and the number that they are.
-pub struct Packed {
-    pub wrong: bool,
-    pub count: u64,
-}
 
 // What packed digits with a sign hold: the rule is broken, F stands in the highest place, and the number that they are.
 pub struct Signed {
@@ -29,25 +22,6 @@ pub struct Signed {
 pub struct Wide {
     pub width: usize,
     pub word: u64,
-}
-
-// The 4 and the 2 of each digit, and its 8.
-const SIXES: u64 = 0x6666_6666_6666_6666;
-
-const EIGHTS: u64 = 0x8888_8888_8888_8888;
-
-// The high half of each byte, of every two bytes and of every four.
-const TENS: u64 = 0xF0F0_F0F0_F0F0_F0F0;
-
-const HUNDREDS: u64 = 0xFF00_FF00_FF00_FF00;
-
-const TEN_THOUSANDS: u64 = 0xFFFF_0000_FFFF_0000;
-
-// A digit of the eight bytes is over nine: its 8 is set, and its 4 or its 2, to which 6 more make an 8.
-fn over_nine(word: u64) -> bool
-    ensures { λ r. ⌜ r ≡ any overNine (bytesOf 8 word) ⌝ }
-{
-    0 < word & ((word & SIXES) + SIXES) & EIGHTS
 }
 
 // The value of so many bytes that stands behind structure and unit, if it is not past the end.
@@ -92,26 +66,6 @@ pub fn digits_at(structure: u8, rest: &[u8]) -> Wide
         return named_at(rest, row.1);
     }
     Wide { width: 0, word: 0 }
-}
-
-// The number whose digits the eight bytes are. Digits are joined by twos, fours and eights in the whole word at once: of each 16 in the
-// high half 6 is taken off, which leaves 10, of each 256 156, of each 65536 55536.
-fn count_of(word: u64) -> u64
-    ensures { λ r. ⌜ r ≡ digitsOf (bytesOf 8 word) ⌝ }
-{
-    let twos = word - 6 * ((word & TENS) / 16);
-    let fours = twos - 156 * ((twos & HUNDREDS) / 256);
-    let eights = fours - 55536 * ((fours & TEN_THOUSANDS) / 65536);
-    eights % 4294967296 + 100000000 * (eights / 4294967296)
-}
-
-// What the eight bytes of a word hold.
-pub fn packed_in(word: u64) -> Packed
-    ensures { λ r. ⌜ r ≡ packedOf (bytesOf 8 word) ⌝ }
-{
-    let wrong = over_nine(word);
-    let count = count_of(word);
-    Packed { wrong, count }
 }
 
 // F in the highest place of so many bytes, at most eight, and 1 of none, which no word of none reaches.

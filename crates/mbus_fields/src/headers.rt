@@ -2,11 +2,11 @@
 ghost use mathlib.Core.Path.{_≡_};
 ghost use lib.ListN.{take};
 ghost use Rattle.mbus_rules.specs.Headers.{headerOf, makerNamed, makerOf, heatMeter, wrongHeader};
-ghost use Rattle.mbus_fields.specs.Fields.{packedOf};
+ghost use Rattle.base_digits.specs.Digits.{packedOf};
 use crate::digits::Packed;
 use crate::digits::packed_in;
-use bytes_numbers::byte_at;
-use bytes_numbers::number_at;
+use base_numbers::byte_at;
+use base_numbers::number_at;
 use mbus_rules::Header;
 
 // The meter number, the first four bytes.

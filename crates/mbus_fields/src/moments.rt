@@ -1,9 +1,11 @@
 // The point in time.
 ghost use mathlib.Core.Path.{_≡_};
 ghost use Prim.Native.Nat.{_+_};
-ghost use Rattle.mbus_rules.specs.Moments.{momentOf, spareBits, daysIn, dateExists, timeExists, weekdayExists};
+ghost use Rattle.mbus_rules.specs.Moments.{momentOf, spareBits, dateExists, timeExists, weekdayExists};
+ghost use Rattle.base_calendar.specs.Months.{daysIn};
 ghost use Rattle.mbus_fields.specs.Fields.{timedOf};
-use bytes_numbers::byte_at;
+use base_calendar::days_of;
+use base_numbers::byte_at;
 use mbus_rules::Moment;
 
 // What the bytes of a point in time hold: the rule is broken, and the fields.
@@ -43,19 +45,7 @@ pub fn spare_bits(value: &[u8]) -> bool
     (63 < second) | (63 < minute) | (0 < last)
 }
 
-// The days of a month, by the Gregorian calendar.
-pub fn days_of(year: u16, month: u8) -> u8
-    ensures { λ r. ⌜ r ≡ daysIn year month ⌝ }
-{
-    let leap = (year % 4 == 0) & (!(year % 100 == 0) | (year % 400 == 0));
-    if month == 2 {
-        return if leap { 29 } else { 28 };
-    }
-    let short = (month == 4) | (month == 6) | (month == 9) | (month == 11);
-    if short { 30 } else { 31 }
-}
-
-// The same where year 0 is 2000.
+// The days of a month where year 0 is 2000.
 pub fn days_in(year: u8, month: u8) -> u8
     ensures { λ r. ⌜ r ≡ daysIn (2000 + year) month ⌝ }
 {

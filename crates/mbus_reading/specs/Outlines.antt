@@ -3,7 +3,7 @@ use Prim.Native.Nat.{ℕ}
 use mathlib.Core.List.{List, []}
 use lib.ListN.{drop}
 use Rattle.mbus_rules.specs.declared.Entry.{Entry}
-use Rattle.mbus_rules.specs.Answers.{Answer, refuse}
+use Rattle.base_rules.specs.Answers.{Answer, refuse}
 use Rattle.mbus_rules.specs.Entries.{readEntries}
 use Rattle.mbus_rules.specs.Headers.{wrongHeader}
 

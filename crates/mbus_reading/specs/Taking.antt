@@ -4,11 +4,11 @@ use mathlib.Core.Bool.{cond}
 use mathlib.Core.List.{List, [], _∷_, map}
 use mathlib.Core.Path.{_≡_}
 use lib.ListN.{length, take}
-use Rattle.mbus_rules.specs.declared.Outcome.{Outcome}
-use Rattle.mbus_rules.specs.declared.Outcome.the-variants.{Accepted, Refused}
-use Rattle.mbus_rules.specs.Lists.{total}
-use Rattle.mbus_rules.specs.Characters.{byteOf}
-use Rattle.mbus_rules.specs.Answers.{refusal}
+use Rattle.base_rules.specs.declared.Outcome.{Outcome}
+use Rattle.base_rules.specs.declared.Outcome.the-variants.{Accepted, Refused}
+use Rattle.base_rules.specs.Lists.{total}
+use Rattle.base_characters.specs.Characters.{byteOf}
+use Rattle.base_rules.specs.Answers.{refusal}
 use Rattle.mbus_rules.specs.Lines.{wrongStart, readBody, readFrame, readLine}
 
 -- what is then known: by what it is refused; or that only the rules on bytes are left, and the bytes, in the first places, and their sum

@@ -2,7 +2,7 @@
 ghost use mathlib.Core.Path.{_≡_};
 ghost use Prim.Native.Nat.{_≤_};
 ghost use lib.ListN.{length};
-ghost use Rattle.mbus_rules.specs.Answers.{reads};
+ghost use Rattle.base_rules.specs.Answers.{reads};
 ghost use Rattle.mbus_rules.specs.Lines.{readBody, readData};
 ghost use Rattle.mbus_rules.specs.Telegrams.{shown};
 ghost use Rattle.mbus_rules.specs.Views.{viewed};
@@ -14,7 +14,7 @@ use mbus_entries::read_entries;
 use mbus_fields::headers::header_of;
 use mbus_fields::headers::wrong_header;
 use mbus_rules::Kind;
-use mbus_rules::Outcome;
+use base_rules::Outcome;
 use mbus_rules::Reading;
 use mbus_rules::Request;
 use mbus_rules::Telegram;

@@ -3,11 +3,11 @@ ghost use mathlib.Core.Bool.{cond};
 ghost use mathlib.Core.List.{[], _∷_};
 ghost use mathlib.Core.Path.{_≡_};
 ghost use lib.Dec.{eqb};
-ghost use Rattle.mbus_rules.specs.declared.Outcome.the-variants.{Refused};
-ghost use Rattle.bytes_lent.specs.Copying.{copied};
+ghost use Rattle.base_rules.specs.declared.Outcome.the-variants.{Refused};
+ghost use Rattle.base_lent.specs.Copying.{copied};
 ghost use Rattle.mbus_reading.specs.Taking.{farBy};
-use bytes_lent::lay;
-use mbus_rules::Outcome;
+use base_lent::lay;
+use base_rules::Outcome;
 use mbus_shape::wrong_start;
 
 // No line that 5 leaves has more characters.

@@ -1,26 +1,10 @@
 -- What follows from the definitions, invariants of loops among it.
-pub mod Answers
-pub mod Tests
-pub mod ListLaws
-pub mod AnswerLaws
-pub mod Telegrams
 pub mod Chain
 pub mod Views
-pub mod CharacterLaws
-pub mod Folding
-pub mod FlipLaws
-pub mod Codes
-pub mod Closing
 pub mod Frames
 pub mod LineCode
 pub mod FourFlips
-pub mod TestLaws
-pub mod ByteLaws
-pub mod DigitLaws
-pub mod Negation
 pub mod SignLaws
-pub mod NumberLaws
-pub mod BinaryLaws
 pub mod MomentLaws
 pub mod HeaderLaws
 pub mod RowLaws

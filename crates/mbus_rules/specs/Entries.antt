@@ -8,10 +8,10 @@ use Rattle.mbus_rules.specs.declared.Value.{Value}
 use Rattle.mbus_rules.specs.declared.Value.the-variants.{Number, Time, Binary}
 use Rattle.mbus_rules.specs.declared.Entry.{Entry}
 use Rattle.mbus_rules.specs.declared.UnitRow.{UnitRow}
-use Rattle.mbus_rules.specs.Lists.{at, any}
-use Rattle.mbus_rules.specs.Answers.{Answer, reads, refuse}
+use Rattle.base_rules.specs.Lists.{at, any}
+use Rattle.base_rules.specs.Answers.{Answer, reads, refuse}
 use Rattle.mbus_rules.specs.Signs.{minus, signedOf, wrongSigned}
-use Rattle.mbus_rules.specs.Binary.{negative, binaryOf}
+use Rattle.base_numbers.specs.TwosComplement.{negative, binaryOf}
 use Rattle.mbus_rules.specs.Moments.{momentOf, wrongMoment}
 use Rattle.mbus_rules.specs.Quantities.{table, rowOf, quantityOf, widthOf, paired, isTime, isBinary}
 

@@ -1,8 +1,8 @@
 -- Demand 3 is sharp: four flips can pass (01, value 11).
 use Prim.Native.Nat.{ℕ}
 use mathlib.Core.List.{List, [], _∷_, map}
-use Rattle.mbus_rules.specs.Characters.{carrier}
-use Rattle.mbus_rules.specs.Flips.{Place}
+use Rattle.base_characters.specs.Characters.{carrier}
+use Rattle.base_characters.specs.Flips.{Place}
 
 -- 000's data example (5.4.3)
 abbrev pub dataBytes : List ℕ

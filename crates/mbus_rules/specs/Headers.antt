@@ -5,8 +5,8 @@ use mathlib.Core.List.{List}
 use lib.Dec.{ltb, leb, eqb}
 use lib.ListN.{take}
 use Rattle.mbus_rules.specs.declared.Header.{Header}
-use Rattle.mbus_rules.specs.Lists.{at, any}
-use Rattle.mbus_rules.specs.Digits.{overNine, digitsOf}
+use Rattle.base_rules.specs.Lists.{at, any}
+use Rattle.base_digits.specs.Digits.{overNine, digitsOf}
 
 -- Maker, 2 bytes low first.
 abbrev pub makerOf : List ℕ → ℕ

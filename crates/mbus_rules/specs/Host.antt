@@ -1,20 +1,15 @@
 -- 01, "The bench host": line checking on bytes, two per character, low byte first.
-use Prim.Native.Nat.{ℕ, _+_, _*_, _%_}
+use Prim.Native.Nat.{ℕ, _+_, _%_}
 use mathlib.Core.Bool.{cond}
-use mathlib.Core.List.{List, [], _∷_}
+use mathlib.Core.List.{List}
 use lib.Dec.{eqb}
 use lib.ListN.{length}
 use Rattle.mbus_rules.specs.declared.Kind.{Kind}
 use Rattle.mbus_rules.specs.declared.Kind.the-variants.{Ack, Read, Enter, Leave, Data}
 use Rattle.mbus_rules.specs.declared.Telegram.{Telegram}
-use Rattle.mbus_rules.specs.Answers.{Answer, reads, refusal}
+use Rattle.base_rules.specs.Answers.{Answer, reads, refusal}
 use Rattle.mbus_rules.specs.Lines.{readLine}
-
--- Two bytes per character, low byte first.
-unfoldable pub chars : List ℕ → List ℕ
-chars [] = []
-chars (low ∷ []) = []
-chars (low ∷ high ∷ b) = (low + 256 * high) ∷ chars b
+use Rattle.base_characters.specs.Characters.{chars}
 
 -- The answer is 1 ack, 2 read, 3 enter, 4 leave, 5 data,
 abbrev pub kindNumber : Kind → ℕ

@@ -1,11 +1,5 @@
 -- What document 01 says of a line: one module for each paragraph, in 01's order.
-pub mod Lists
-pub mod Characters
-pub mod Answers
-pub mod Digits
 pub mod Signs
-pub mod Numbers
-pub mod Binary
 pub mod Moments
 pub mod Headers
 pub mod Quantities
@@ -18,10 +12,7 @@ pub mod Host
 -- The chain before 02, 2026-05.
 pub mod Fifteen
 -- Demand 3: flipped bits, beginnings and cuts.
-pub mod Flips
-pub mod Each
 pub mod FourFlips
 -- What the types of fields see to.
-pub mod Bytes
 pub mod HeaderSizes
 pub mod TelegramSizes

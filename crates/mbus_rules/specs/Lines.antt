@@ -6,9 +6,9 @@ use mathlib.Core.Path.{_≡_}
 use lib.Dec.{ltb, leb, eqb}
 use lib.ListN.{length, take, drop}
 use Rattle.mbus_rules.specs.declared.Telegram.{Telegram}
-use Rattle.mbus_rules.specs.Lists.{at, any, total}
-use Rattle.mbus_rules.specs.Characters.{over, odd, byteOf}
-use Rattle.mbus_rules.specs.Answers.{Answer, reads, refuse, within}
+use Rattle.base_rules.specs.Lists.{at, any, total}
+use Rattle.base_characters.specs.Characters.{over, odd, byteOf}
+use Rattle.base_rules.specs.Answers.{Answer, reads, refuse, within}
 use Rattle.mbus_rules.specs.Headers.{headerOf, wrongHeader}
 use Rattle.mbus_rules.specs.Entries.{readEntries}
 use Rattle.mbus_rules.specs.Telegrams.{ack, readOf, enterOf, leaveOf, dataOf}

@@ -1,10 +1,11 @@
 -- 01, "Time, 6 bytes", with the weekday of 02, 2026-03.
 use Prim.Native.Nat.{ℕ, _+_, _*_, _/_, _%_}
-use mathlib.Core.Bool.{Bool, cond, not, _&&_, _||_}
+use mathlib.Core.Bool.{Bool, not, _&&_, _||_}
 use mathlib.Core.List.{List}
-use lib.Dec.{ltb, leb, eqb}
+use lib.Dec.{ltb, leb}
 use Rattle.mbus_rules.specs.declared.Moment.{Moment}
-use Rattle.mbus_rules.specs.Lists.{at}
+use Rattle.base_rules.specs.Lists.{at}
+use Rattle.base_calendar.specs.Months.{daysIn}
 
 -- Byte 1 second in bits 0–5; byte 2 minute in bits 0–5; byte 3 hour in bits 0–4; byte 4 day in bits 0–4 and the low three
 -- bits of the year in bits 5–7; byte 5 month in bits 0–3 and the high four bits of the year in bits 4–7.
@@ -23,19 +24,6 @@ momentOf b = record {
 -- Byte 6 zero. The remaining spare bits stay zero (02, 2026-03): this is the test that one of them is not.
 abbrev pub spareBits : List ℕ → Bool
 spareBits b = ltb 63 (at b 0) || ltb 63 (at b 1) || ltb 0 (at b 5)
-
--- The Gregorian calendar: every fourth year is a leap year, of the full hundreds only every fourth.
-abbrev pub leap : ℕ → Bool
-leap y = eqb (y % 4) 0 && (not (eqb (y % 100) 0) || eqb (y % 400) 0)
-
-abbrev pub february : ℕ → ℕ
-february y = cond (leap y) 29 28
-
-abbrev pub shortMonth : ℕ → Bool
-shortMonth month = eqb month 4 || eqb month 6 || eqb month 9 || eqb month 11
-
-abbrev pub daysIn : ℕ → ℕ → ℕ
-daysIn y month = cond (eqb month 2) (february y) (cond (shortMonth month) 30 31)
 
 -- The date must exist in the Gregorian calendar; year 0 to 99 means 2000 to 2099.
 abbrev pub dateExists : Moment → Bool

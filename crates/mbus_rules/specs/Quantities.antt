@@ -2,10 +2,11 @@
 use Prim.Native.Nat.{ℕ, _%_}
 use mathlib.Core.Bool.{Bool, true, false, cond, _&&_, _||_}
 use mathlib.Core.List.{List, [], _∷_}
-use lib.Dec.{ltb, leb, eqb}
+use lib.Dec.{ltb, eqb}
 use lib.IntN.{ℤ, subℕ}
 use Rattle.mbus_rules.specs.declared.UnitRow.{UnitRow}
 use Rattle.mbus_rules.specs.declared.StructureRow.{StructureRow}
+use Rattle.base_rules.specs.Lists.{between}
 
 -- the quantities in the table's order, and a number for a unit byte that is in no row
 abbrev pub energy : ℕ
@@ -87,9 +88,6 @@ noRow = (0, 0, unknown, noUnit, none, 0, false, false)
 abbrev pub firstWith : {A : Type 0} → A → (A → Bool) → List A → A
 firstWith none test [] = none
 firstWith none test (r ∷ rs) = cond (test r) r (firstWith none test rs)
-
-abbrev pub between : ℕ → ℕ → ℕ → Bool
-between low high u = leb low u && leb u high
 
 abbrev pub hasUnit : ℕ → UnitRow → Bool
 hasUnit u r = between (r .0) (r .1) u

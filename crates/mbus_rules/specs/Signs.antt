@@ -1,11 +1,11 @@
 -- 02, 2026-07: packed digits with a sign. F in the highest place means minus, the remaining digits are the size.
 use Prim.Native.Nat.{ℕ, suc, _+_, _*_, _/_, _%_, _^_}
-use mathlib.Core.Bool.{Bool, true, false, cond, _||_}
+use mathlib.Core.Bool.{Bool, false, cond, _||_}
 use mathlib.Core.List.{List, [], _∷_}
 use lib.Dec.{ltb, eqb}
 use lib.IntN.{ℤ, pos, negsuc, negℤ}
-use Rattle.mbus_rules.specs.Lists.{any}
-use Rattle.mbus_rules.specs.Digits.{overNine, digitsOf, packed}
+use Rattle.base_rules.specs.Lists.{any}
+use Rattle.base_digits.specs.Digits.{overNine, digitsOf, packed}
 
 -- F stands in the highest place, which is in the last byte
 unfoldable pub minus : List ℕ → Bool
@@ -37,15 +37,6 @@ wrongSigned b = cond (minus b) (any overNine (sizeBytes b) || eqb (digitsOf (siz
 abbrev pub signedBytes : ℕ → ℤ → List ℕ
 signedBytes width (pos n) = packed width n
 signedBytes width (negsuc n) = marked (packed width (suc n))
-
--- it is below zero
-abbrev pub belowZero : ℤ → Bool
-belowZero (pos n) = false
-belowZero (negsuc n) = true
-
-abbrev pub isZero : ℤ → Bool
-isZero (pos n) = eqb n 0
-isZero (negsuc n) = false
 
 -- it fits: 2w digits, and one less beside a sign
 abbrev pub fitsSigned : ℕ → ℤ → Bool

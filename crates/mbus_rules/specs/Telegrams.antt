@@ -10,10 +10,9 @@ use Rattle.mbus_rules.specs.declared.Value.the-variants.{Number}
 use Rattle.mbus_rules.specs.declared.Entry.{Entry}
 use Rattle.mbus_rules.specs.declared.Header.{Header}
 use Rattle.mbus_rules.specs.declared.Telegram.{Telegram}
-use Rattle.mbus_rules.specs.declared.Outcome.{Outcome}
-use Rattle.mbus_rules.specs.declared.Outcome.the-variants.{Accepted, Refused}
+use Rattle.base_rules.specs.declared.Outcome.the-variants.{Accepted, Refused}
 use Rattle.mbus_rules.specs.declared.Reading.{Reading}
-use Rattle.mbus_rules.specs.Answers.{Answer, reads, refusal}
+use Rattle.base_rules.specs.Answers.{Answer, reads, refusal}
 
 abbrev pub blankEntry : Entry
 blankEntry = record { structure = 0; unit = 0; value = Number (record { count = pos 0 }) }
@@ -50,11 +49,6 @@ dataOf a h done = record {
 -- The blank telegram, which stands beside a refusal.
 abbrev pub blank : Telegram
 blank = ack
-
--- The program's answer where only the number of a refusal is asked: accepted, or the number.
-abbrev pub outcomeShown : Answer (Unit {0}) → Outcome
-outcomeShown (refusal n) = Refused n
-outcomeShown (reads u) = Accepted
 
 -- The program's answer for each answer of reading: the number alone, or the telegram.
 abbrev pub shown : Answer Telegram → Reading

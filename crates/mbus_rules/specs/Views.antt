@@ -2,13 +2,13 @@
 use Prim.Native.Nat.{ℕ}
 use Rattle.mbus_rules.specs.declared.Kind.{Kind}
 use Rattle.mbus_rules.specs.declared.Kind.the-variants as kinds
-use Rattle.mbus_rules.specs.declared.Outcome.{Outcome}
-use Rattle.mbus_rules.specs.declared.Outcome.the-variants as outcomes
+use Rattle.base_rules.specs.declared.Outcome.{Outcome}
+use Rattle.base_rules.specs.declared.Outcome.the-variants as outcomes
 use Rattle.mbus_rules.specs.declared.Request.the-variants.{Read, Enter, Leave}
 use Rattle.mbus_rules.specs.declared.View.{View}
 use Rattle.mbus_rules.specs.declared.View.the-variants.{Refused, Ack, Asks, Data}
 use Rattle.mbus_rules.specs.declared.Telegram.{Telegram}
-use Rattle.mbus_rules.specs.Answers.{Answer, reads, refusal}
+use Rattle.base_rules.specs.Answers.{Answer, reads, refusal}
 
 -- The view of a telegram, by its kind.
 abbrev pub viewOf : Kind → ℕ → ℕ → View

@@ -12,17 +12,18 @@ use Rattle.mbus_rules.specs.declared.Value.the-variants.{Number, Time, B
 use Rattle.mbus_rules.specs.declared.Entry.{Entry}
 use Rattle.mbus_rules.specs.declared.Header.{Header}
 use Rattle.mbus_rules.specs.declared.Telegram.{Telegram}
-use Rattle.mbus_rules.specs.Lists.{any, total}
-use Rattle.mbus_rules.specs.Characters.{carrier}
-use Rattle.mbus_rules.specs.Answers.{Answer, reads, refuse}
-use Rattle.mbus_rules.specs.Digits.{packed}
-use Rattle.mbus_rules.specs.Signs.{signedBytes, fitsSigned, belowZero, isZero}
-use Rattle.mbus_rules.specs.Binary.{binaryBytes, fitsBinary}
+use Rattle.base_rules.specs.Lists.{any}
+use Rattle.base_characters.specs.Characters.{carrier}
+use Rattle.base_rules.specs.Answers.{Answer, reads, refuse}
+use Rattle.base_digits.specs.Digits.{packed}
+use Rattle.mbus_rules.specs.Signs.{signedBytes, fitsSigned}
+use Rattle.base_numbers.specs.TwosComplement.{belowZero, isZero, binaryBytes, fitsBinary}
 use Rattle.mbus_rules.specs.Moments.{dateExists, timeExists, weekdayExists}
 use Rattle.mbus_rules.specs.Headers.{makerNamed, heatMeter}
 use Rattle.mbus_rules.specs.Quantities.{quantityOf, widthOf, paired, isTime, isBinary}
 use Rattle.mbus_rules.specs.Entries.{mayFall, seen, missing}
 use Rattle.mbus_rules.specs.Lines.{isMethod}
+use Rattle.base_characters.specs.Closing.{closed}
 
 -- ---- the bytes of each part
 
@@ -48,10 +49,6 @@ bytesOfHeader h =
     ++ (h .maker % 256 ∷ h .maker / 256 ∷ h .version ∷ h .«meter_type» ∷ h .access ∷ h .status ∷ 0 ∷ 0 ∷ [])
 
 -- ---- the line
-
--- the sum of the bytes from C up to before CS, and the end
-abbrev pub closed : List ℕ → List ℕ
-closed f = f ++ (total f % 256 ∷ 0x16 ∷ [])
 
 abbrev pub shortFrame : List ℕ → List ℕ
 shortFrame f = 0x10 ∷ closed f

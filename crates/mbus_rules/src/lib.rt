@@ -1,4 +1,5 @@
 // What document 01 says of a line: here the types, in specs/ the definitions and the laws about them.
+use base_rules::Outcome;
 
 // The five telegrams.
 pub enum Kind {
@@ -76,12 +77,6 @@ pub struct Telegram {
     pub header: Header,
     pub count: usize,
     pub entries: [Entry; 7],
-}
-
-// What became of a line: accepted, or refused by a number.
-pub enum Outcome {
-    Accepted,
-    Refused(u16),
 }
 
 // The answer of reading. Where the outcome is a refusal, the telegram is blank.

@@ -4,7 +4,7 @@ use mathlib.Core.Bool.{Bool, _&&_, _||_}
 use mathlib.Core.List.{List}
 use lib.Dec.{eqb, ltb, leb}
 use lib.ListN.{length}
-use Rattle.mbus_rules.specs.Lists.{at}
+use Rattle.base_rules.specs.Lists.{at}
 
 -- so many are there, and the last of them is 16; one is an ack, which does not end so
 abbrev pub endsIn : ℕ → List ℕ → Bool

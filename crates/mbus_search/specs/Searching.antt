@@ -5,7 +5,7 @@ use mathlib.Core.Bool.{Bool, true, false, cond}
 use mathlib.Core.List.{List, [], _∷_}
 use mathlib.Core.Path.{_≡_}
 use lib.ListN.{length, take, drop}
-use Rattle.mbus_rules.specs.Answers.{Answer, reads, refusal}
+use Rattle.base_rules.specs.Answers.{Answer, reads, refusal}
 use Rattle.mbus_rules.specs.Lines.{readLine}
 use Rattle.mbus_search.specs.declared.Found.{Found}
 use Rattle.mbus_search.specs.declared.Found.the-variants.{At, Refused}

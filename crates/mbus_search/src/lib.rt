@@ -2,12 +2,12 @@
 ghost use mathlib.Core.List.{map};
 ghost use mathlib.Core.Path.{_≡_};
 ghost use Rattle.mbus_search.specs.Searching.{accepts, findIn, foundShown};
-ghost use Rattle.mbus_rules.specs.Characters.{byteOf};
+ghost use Rattle.base_characters.specs.Characters.{byteOf};
 ghost use Rattle.mbus_rules.specs.Lines.{readBody};
 ghost use Rattle.mbus_shape.specs.Shapes.{frameBy};
 ghost use Rattle.mbus_search.specs.Ending.{endsIn};
-use mbus_characters::counts_odd;
-use mbus_characters::line::low_at;
+use base_characters::counts_odd;
+use base_characters::line::low_at;
 use mbus_reading::body::outline_in;
 use mbus_reading::taking::MOST;
 use mbus_rules::View;

@@ -4,7 +4,7 @@ use mathlib.Core.Bool.{Bool, cond, not, _&&_, _||_}
 use mathlib.Core.List.{List}
 use lib.Dec.{eqb, ltb}
 use lib.ListN.{length}
-use Rattle.mbus_rules.specs.Lists.{at}
+use Rattle.base_rules.specs.Lists.{at}
 use Rattle.mbus_rules.specs.Lines.{isAck, isShort, isLong, wrongStart}
 
 -- 5: the count is 1 after E5, 5 after 10, second byte + 6 after 68.

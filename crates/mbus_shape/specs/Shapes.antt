@@ -8,8 +8,8 @@ use Rattle.mbus_rules.specs.declared.Kind.the-variants.{Data}
 use Rattle.mbus_rules.specs.declared.Request.{Request}
 use Rattle.mbus_rules.specs.declared.Request.the-variants.{Read, Enter, Leave}
 use Rattle.mbus_rules.specs.declared.Telegram.{Telegram}
-use Rattle.mbus_rules.specs.Lists.{at}
-use Rattle.mbus_rules.specs.Answers.{Answer, reads, refuse}
+use Rattle.base_rules.specs.Lists.{at}
+use Rattle.base_rules.specs.Answers.{Answer, reads, refuse}
 use Rattle.mbus_rules.specs.Telegrams.{bare, ack, readOf, enterOf, leaveOf}
 use Rattle.mbus_rules.specs.Lines.{field, isAck, isShort, isLong, isCommand, isData, readShort, commandOf}
 use Rattle.mbus_rules.specs.Lines.{wrongStart, wrongCount, wrongLengths, wrongEnd, wrongSum}

@@ -3,13 +3,13 @@ ghost use mathlib.Core.Path.{_≡_};
 ghost use mathlib.Core.List.{map};
 ghost use Prim.Native.Nat.{_<_};
 ghost use lib.ListN.{length};
-ghost use Rattle.mbus_rules.specs.Lists.{at};
-ghost use Rattle.mbus_rules.specs.Characters.{byteOf};
+ghost use Rattle.base_rules.specs.Lists.{at};
+ghost use Rattle.base_characters.specs.Characters.{byteOf};
 ghost use Rattle.mbus_shape.specs.First.{leftBy};
 use super::ACK;
 use super::LONG;
 use super::SHORT;
-use mbus_characters::line::low_at;
+use base_characters::line::low_at;
 
 // After 68, where the fourth byte is still to come.
 fn left_early(first: &[u16]) -> usize

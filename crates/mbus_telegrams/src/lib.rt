@@ -1,14 +1,14 @@
 // The five telegrams: those without header and entries, their methods and the address of all, the host's numbers of their kinds, and the
 // numbers of quantities and structures.
 ghost use mathlib.Core.Path.{_≡_};
-ghost use Rattle.mbus_rules.specs.Answers.{reads, refusal};
+ghost use Rattle.base_rules.specs.Answers.{reads, refusal};
 ghost use Rattle.mbus_rules.specs.Lines.{isMethod};
 ghost use Rattle.mbus_rules.specs.Telegrams.{bare, blankEntry, shown};
 use mbus_rules::Decimal;
 use mbus_rules::Entry;
 use mbus_rules::Header;
 use mbus_rules::Kind;
-use mbus_rules::Outcome;
+use base_rules::Outcome;
 use mbus_rules::Reading;
 use mbus_rules::Telegram;
 use mbus_rules::Value;

@@ -2,7 +2,7 @@
 use mathlib.Core.Bool.{Bool, _||_}
 use mathlib.Core.List.{List, []}
 use Rattle.mbus_rules.specs.declared.Entry.{Entry}
-use Rattle.mbus_rules.specs.Lists.{any}
+use Rattle.base_rules.specs.Lists.{any}
 use Rattle.mbus_rules.specs.Entries.{missing}
 use Rattle.mbus_rules.specs.Writing.{wrongEntry, repeats}
 

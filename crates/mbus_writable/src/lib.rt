@@ -2,7 +2,7 @@
 ghost use mathlib.Core.Path.{_≡_};
 ghost use lib.ListN.{take, drop};
 ghost use Prim.Native.Nat.{_^_, _≤_};
-ghost use Rattle.mbus_rules.specs.Lists.{any};
+ghost use Rattle.base_rules.specs.Lists.{any};
 ghost use mathlib.Core.Bool.{not};
 ghost use Rattle.mbus_rules.specs.Quantities.{widthOf};
 ghost use Rattle.mbus_rules.specs.Signs.{fitsSigned};

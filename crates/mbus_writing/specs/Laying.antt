@@ -6,15 +6,15 @@ use mathlib.Core.Path.{_≡_}
 use lib.Dec.{leb}
 use lib.IntN.{ℤ, natAbs}
 use lib.ListN.{length, take, drop, set}
-use Rattle.bytes_lent.specs.Copying.{laid}
+use Rattle.base_lent.specs.Copying.{laid}
 use Rattle.mbus_rules.specs.declared.Value.{Value}
 use Rattle.mbus_rules.specs.declared.Value.the-variants.{Number, Time, Binary}
 use Rattle.mbus_rules.specs.declared.Entry.{Entry}
 use Rattle.mbus_rules.specs.declared.Telegram.{Telegram}
-use Rattle.mbus_rules.specs.Lists.{at, any, total}
-use Rattle.mbus_rules.specs.Digits.{packed}
-use Rattle.mbus_rules.specs.Signs.{belowZero, fitsSigned}
-use Rattle.mbus_rules.specs.Binary.{binaryBytes}
+use Rattle.base_rules.specs.Lists.{at, any, total}
+use Rattle.base_digits.specs.Digits.{packed}
+use Rattle.base_numbers.specs.TwosComplement.{belowZero, binaryBytes}
+use Rattle.mbus_rules.specs.Signs.{fitsSigned}
 use Rattle.mbus_rules.specs.Moments.{dateExists, timeExists, weekdayExists}
 use Rattle.mbus_rules.specs.Writing.{momentBytes, bytesOfEntry, bytesOfEntries, longest, wrongEntry, wrongData}
 

@@ -1,24 +1,22 @@
 // The bytes of a telegram, without parity.
 ghost use mathlib.Core.Path.{_≡_};
 ghost use mathlib.Core.Bool.{true, false};
-ghost use mathlib.Core.List.{[], _∷_, _++_, map};
+ghost use mathlib.Core.List.{[], _∷_, _++_};
 ghost use Prim.Native.Nat.{_+_, _*_, _/_, _%_, _≤_};
-ghost use lib.ListN.{length, take, drop};
-ghost use Rattle.mbus_rules.specs.Characters.{carrier};
-ghost use Rattle.mbus_rules.specs.Digits.{packed};
+ghost use lib.ListN.{length, take};
+ghost use Rattle.base_digits.specs.Digits.{packed};
 ghost use Rattle.mbus_rules.specs.Signs.{fitsSigned};
-ghost use Rattle.mbus_rules.specs.Binary.{binaryBytes};
+ghost use Rattle.base_numbers.specs.TwosComplement.{binaryBytes};
 ghost use Rattle.mbus_rules.specs.Quantities.{widthOf};
 ghost use Rattle.mbus_rules.specs.Moments.{dateExists, timeExists, weekdayExists};
 ghost use Rattle.mbus_rules.specs.Writing.{momentBytes, bytesOfHeader, shortFrame, longFrame, bytesOfKind, longest, unwritable};
-ghost use Rattle.bytes_lent.specs.Copying.{laid};
 ghost use Rattle.mbus_writing.specs.Laying.{signedSix, eightBytes, exists, EntryFits, EntryLaid, EntriesFit, EntriesLaid};
 ghost use Rattle.mbus_writing.specs.Laying.{FrameClosed, BytesLaid, DataFits};
-use crate::digits::two_digits;
-use bytes_lent::lay;
-use bytes_numbers::bytes_of;
-use bytes_numbers::signed::word_of;
-use mbus_characters::sum_of;
+use base_digits::two_digits;
+use base_lent::lay;
+use base_numbers::bytes_of;
+use base_numbers::signed::word_of;
+use base_characters::sum_of;
 use mbus_fields::digits::is_below_zero;
 use mbus_fields::digits::size_of;
 use mbus_fields::quantities::width_of;
@@ -226,28 +224,5 @@ pub(crate) fn put_bytes(t: Telegram, bytes: &mut [u8]) -> usize
         Kind::Enter => put_command(t.address, t.method, bytes),
         Kind::Leave => put_command(t.address, 0, bytes),
         Kind::Data => put_data(t, bytes),
-    }
-}
-
-// The character that carries a byte. The bits are folded onto the lowest one.
-fn carrier_of(byte: u8) -> u16
-    ensures { λ r. ⌜ r ≡ carrier byte ⌝ }
-{
-    let b = byte as u16;
-    let four = b ^ (b / 16);
-    let two = four ^ (four / 4);
-    let one = two ^ (two / 2);
-    256 * (one % 2) + b
-}
-
-// The characters that carry the bytes, in the first places.
-pub(crate) fn carry(bytes: &[u8], out: &mut [u16])
-    requires { ⌜ length (now bytes) ≤ length (now out) ⌝ }
-    ensures { λ _. ⌜ now (out .exit) ≡ laid (now (out .entry)) 0 (map carrier (now (bytes .entry))) ⌝ }
-{
-    let mut place = 0;
-    while place < bytes.len() {
-        out[place] = carrier_of(bytes[place]);
-        place += 1;
     }
 }

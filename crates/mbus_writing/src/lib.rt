@@ -1,22 +1,16 @@
 // Line writing.
 mod bytes;
-pub mod digits;
 
-ghost use lib.ListN.{length};
-ghost use Rattle.mbus_writing.specs.Answering.{WritesLine, Writes, carriedIn};
-use bytes::carry;
+ghost use Rattle.mbus_writing.specs.Answering.{WritesLine};
+ghost use Rattle.base_characters.specs.Carrying.{Writes};
+use base_characters::carrying::Written;
+use base_characters::carrying::write_bytes;
 use bytes::put_bytes;
 use mbus_rules::Telegram;
 use mbus_writable::is_unwritable;
 
 // The characters of the longest line.
 pub const LONGEST: usize = 89;
-
-// The characters written, or the number of a refusal.
-pub enum Written {
-    Length(usize),
-    Refused(u16),
-}
 
 // Writes the line of a telegram into the first places and nothing beyond. Where no accepted line reads as the telegram
 // that is 20, where there are fewer places than characters 21, and all places stay as they were.
@@ -34,16 +28,4 @@ pub fn write_line(telegram: Telegram, out: &mut [u16]) -> Written
     }
     carry(&bytes[..count], out);
     Written::Length(count)
-}
-
-// Writes the characters that carry the bytes into the first places and nothing beyond. Where there are fewer places that is 21, and all
-// places stay as they were.
-pub fn write_bytes(bytes: &[u8], out: &mut [u16]) -> Written
-    ensures { λ r. ⌜ Writes (carriedIn (now (bytes .entry)) (length (now (out .entry)))) (now (out .entry)) (now (out .exit)) r ⌝ }
-{
-    if out.len() < bytes.len() {
-        return Written::Refused(21);
-    }
-    carry(bytes, out);
-    Written::Length(bytes.len())
 }

@@ -6,19 +6,19 @@ use lib.Dec.{ltb, eqb}
 use lib.ListN.{take, drop}
 use Rattle.bench_clock.specs.Times.{due, earlier}
 use Rattle.mbus_rules.specs.declared.Telegram.{Telegram}
-use Rattle.mbus_rules.specs.Answers.{Answer, reads, refuse, follow}
+use Rattle.base_rules.specs.Answers.{Answer, reads, refuse, follow}
 use Rattle.mbus_rules.specs.Lines.{isMethod}
-use Rattle.mbus_rules.specs.Lists.{at}
-use Rattle.bytes_numbers.specs.Numbers.{number, bytesOf}
-use Rattle.bytes_numbers.specs.Records.{recordOf}
+use Rattle.base_rules.specs.Lists.{at}
+use Rattle.base_numbers.specs.Numbers.{number, bytesOf}
+use Rattle.base_numbers.specs.Records.{recordOf}
 use Rattle.meter_steps.specs.declared.Core.{Core}
 use Rattle.meter_steps.specs.declared.Meter.{Meter}
 use Rattle.meter_steps.specs.declared.Mode.{Mode}
 use Rattle.meter_steps.specs.declared.Mode.the-variants.{Use, Verifying}
 use Rattle.meter_steps.specs.Meters.{zeros}
-use Rattle.host_records.specs.Recorded.{noRecord}
-use Rattle.bytes_lent.specs.Same.{same}
-use Rattle.host_records.specs.Telegrams.{telegramBytes, telegramFrom}
+use Rattle.base_lent.specs.Recorded.{noRecord}
+use Rattle.base_lent.specs.Same.{same}
+use Rattle.mbus_records.specs.Telegrams.{telegramBytes, telegramFrom}
 use Rattle.meter_template.specs.declared.Pair.{Pair}
 use Rattle.meter_template.specs.Templates.{unfitTemplate, pairIn, totalMost}
 

@@ -5,7 +5,7 @@ ghost use Rattle.meter_steps.specs.Meters.{begunMeter, setUp, heardAt, m
 use bench_clock::Clock;
 use instructions::acknowledgement;
 use mbus_reading::outline_of;
-use mbus_rules::Outcome;
+use base_rules::Outcome;
 use mbus_rules::Telegram;
 use meter_template::Pair;
 use meter_template::Sum;

@@ -11,8 +11,8 @@ use Rattle.mbus_rules.specs.declared.Value.the-variants.{Number, Time, Binary}
 use Rattle.mbus_rules.specs.declared.Entry.{Entry}
 use Rattle.mbus_rules.specs.declared.Header.{Header}
 use Rattle.mbus_rules.specs.declared.Telegram.{Telegram}
-use Rattle.mbus_rules.specs.Answers.{Answer, reads, refusal, refuse}
-use Rattle.mbus_rules.specs.Lists.{any}
+use Rattle.base_rules.specs.Answers.{Answer, reads, refusal, refuse}
+use Rattle.base_rules.specs.Lists.{any}
 use Rattle.mbus_rules.specs.Quantities.{quantityOf, volume, energy}
 use Rattle.mbus_rules.specs.Writing.{unwritable}
 use Rattle.meter_template.specs.declared.Pair.{Pair}

@@ -5,8 +5,8 @@ use mathlib.Core.List.{List, [], _∷_}
 use mathlib.Core.Logic.{_⊎_}
 use mathlib.Core.Path.{_≡_}
 use lib.Dec.{eqb}
-use Rattle.mbus_rules.specs.Characters.{byteOf, odd, carrier}
-use Rattle.mbus_rules.specs.Flips.{flipBit}
+use Rattle.base_characters.specs.Characters.{byteOf, odd, carrier}
+use Rattle.base_characters.specs.Flips.{flipBit}
 
 -- "The way erroneous bytes are marked is with two preceding bytes, \377 and \0."
 -- "A valid byte \377 is passed to the program as two bytes, \377 \377." Every other byte is passed as itself.

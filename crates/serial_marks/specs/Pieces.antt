@@ -2,7 +2,7 @@
 use Prim.Native.Nat.{ℕ}
 use mathlib.Core.List.{List, [], _∷_, _++_}
 use lib.ListN.{drop}
-use Rattle.bytes_lent.specs.Pieces.{pieces}
+use Rattle.base_lent.specs.Pieces.{pieces}
 use Rattle.serial_marks.specs.Unmarking.{unmarkedIn}
 
 -- what one call of read(2) gives, and for how many characters there is room

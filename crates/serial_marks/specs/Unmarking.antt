@@ -5,8 +5,8 @@ use mathlib.Core.List.{List, [], _∷_}
 use mathlib.Core.Path.{_≡_}
 use lib.Dec.{eqb}
 use lib.ListN.{length, drop}
-use Rattle.mbus_rules.specs.Characters.{carrier}
-use Rattle.bytes_lent.specs.Copying.{laid}
+use Rattle.base_characters.specs.Characters.{carrier}
+use Rattle.base_lent.specs.Copying.{laid}
 use Rattle.serial_marks.specs.Marks.{wronged}
 use Rattle.serial_marks.specs.declared.First.{First}
 use Rattle.serial_marks.specs.declared.First.the-variants.{Finished, Unfinished}

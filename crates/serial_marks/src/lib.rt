@@ -2,7 +2,7 @@
 // came with wrong parity; what it hands over is taken apart again into characters with the parity bit as it was received.
 ghost use mathlib.Core.Path.{_≡_};
 ghost use lib.ListN.{drop};
-ghost use Rattle.mbus_rules.specs.Characters.{carrier};
+ghost use Rattle.base_characters.specs.Characters.{carrier};
 ghost use Rattle.serial_marks.specs.Marks.{wronged};
 ghost use Rattle.serial_marks.specs.Unmarking.{first, afterMark, afterZero, Unmarks};
 

@@ -2,3 +2,4 @@
 pub mod Decimals
 pub mod Holes
 pub mod Putting
+pub mod Texts

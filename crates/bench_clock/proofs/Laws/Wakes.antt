@@ -2,7 +2,7 @@
 use Prim.Native.Nat.{ℕ, _%_}
 use mathlib.Core.Path.{_≡_, refl}
 use lib.Count.{onesIn}
-use Rattle.mbus_rules.specs.Answers.{Answer, reads, refusal}
+use Rattle.base_rules.specs.Answers.{Answer, reads, refusal}
 use Rattle.bench_clock.specs.Wakes.{wakeCharacter, shownWake}
 
 -- Laws: the nine bits of the wake-up's character have even parity; no two answers have one case.

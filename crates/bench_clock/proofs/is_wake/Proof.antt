@@ -3,9 +3,9 @@ use borrow.Author.Needs.{needs}
 use Prim.Native.Nat.{_-_}
 use native.Mathlib.Omega.{arith}
 use denote.Ref.{now}
-use Rattle.mbus_rules.specs.Host.{chars}
-use Rattle.mbus_rules.proofs.Laws.ListLaws.{Gathered, gathered-none}
-use Rattle.mbus_characters.proofs.Laws.PairLaws.{length-characters, characters-next, characters-all}
+use Rattle.base_characters.specs.Characters.{chars}
+use Rattle.base_rules.proofs.Laws.ListLaws.{Gathered, gathered-none}
+use Rattle.base_characters.proofs.Laws.PairLaws.{length-characters, characters-next, characters-all}
 use Rattle.bench_clock.specs.Wakes.{noWake, isWake}
 use Rattle.bench_clock.proofs.is_wake.Statement.{statement}
 use Rattle.bench_clock.proofs.is_wake.Tie as tie

@@ -7,7 +7,7 @@ use native.Mathlib.Omega.{arith}
 use lib.Dec.{ltb}
 use borrow.Author.Tests.{ltb-false}
 use lib.IntN.{ℤ, pos, negℤ, _-ℤ_, _*ℤ_}
-use Rattle.mbus_rules.specs.Answers.{Answer, reads, refusal}
+use Rattle.base_rules.specs.Answers.{Answer, reads, refusal}
 use Rattle.bench_indication.proofs.Laws.Integers.{difference, difference-neg, times-neg}
 use Rattle.bench_indication.specs.Rounding.{nearest, Nearest}
 use Rattle.bench_indication.proofs.Laws.Rounding.{rounded-neg, rounded-nearest}

@@ -8,8 +8,8 @@ use native.Mathlib.Omega.{arith}
 use borrow.Author.Tests.{ltb-false, le-ltb}
 use lib.Dec.{ltb}
 use lib.ListN.{getD}
-use Rattle.mbus_rules.proofs.Laws.Tests.{neither, passed}
-use Rattle.mbus_rules.specs.Answers.{Answer, reads, refusal}
+use Rattle.base_rules.proofs.Laws.Tests.{neither, passed}
+use Rattle.base_rules.specs.Answers.{Answer, reads, refusal}
 use Rattle.bench_resistance.specs.Resistances.{storedFor, card, line, resistance, highest, offCard, hundredthsMost, temperatureOf}
 use Rattle.bench_resistance.specs.Resistances.{shownResistance, shownTemperature}
 use Rattle.bench_resistance.proofs.Laws.Card.{card-read}

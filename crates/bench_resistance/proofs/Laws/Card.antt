@@ -8,7 +8,7 @@ use native.Mathlib.Omega.{arith}
 use borrow.Author.Tests.{ltb-true}
 use lib.Dec.{ltb}
 use lib.ListN.{getD}
-use Rattle.mbus_rules.proofs.Laws.Tests.{below}
+use Rattle.base_rules.proofs.Laws.Tests.{below}
 use Rattle.bench_indication.specs.Rounding.{NearestUp}
 use Rattle.bench_indication.proofs.Laws.Rounding.{nearest-up}
 use Rattle.bench_resistance.specs.Resistances.{hundredthsMost, exact, partsOfOne, storedFor, storedFrom, card}

@@ -7,7 +7,7 @@ use native.Mathlib.Decide.{decLt}
 use native.Mathlib.Omega.{arith}
 use borrow.Author.Tests.{leb-true, leb-false}
 use lib.Dec.{leb}
-use Rattle.mbus_rules.proofs.Laws.Tests.{by-test}
+use Rattle.base_rules.proofs.Laws.Tests.{by-test}
 use Rattle.bench_resistance.specs.Resistances.{resistance, highest, hundredthsMost}
 use Rattle.bench_resistance.proofs.Laws.Lines.{resistance-climbs}
 

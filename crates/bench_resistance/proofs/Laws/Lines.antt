@@ -9,7 +9,7 @@ use native.Mathlib.Decide.{decLt}
 use native.Mathlib.Omega.{arith}
 use borrow.Author.Tests.{ltb-true}
 use lib.Dec.{ltb}
-use Rattle.mbus_rules.proofs.Laws.Tests.{below}
+use Rattle.base_rules.proofs.Laws.Tests.{below}
 use Rattle.bench_indication.specs.Rounding.{apart}
 use Rattle.bench_resistance.specs.Resistances.{exact, partsOfOne, storedFor, line, resistance, hundredthsMost}
 

@@ -11,9 +11,9 @@ use Rattle.mbus_rules.specs.declared.Request.{Request}
 use Rattle.mbus_rules.specs.declared.Request.the-variants.{Read, Enter, Leave}
 use Rattle.mbus_rules.specs.declared.Telegram.{Telegram}
 use Rattle.mbus_rules.specs.declared.View.the-variants as views
-use Rattle.mbus_rules.specs.Answers.{Answer, reads, refusal}
-use Rattle.mbus_rules.specs.Flips.{Place, flips}
-use Rattle.mbus_rules.specs.Lists.{any}
+use Rattle.base_rules.specs.Answers.{Answer, reads, refusal}
+use Rattle.base_characters.specs.Flips.{Place, flips}
+use Rattle.base_rules.specs.Lists.{any}
 use Rattle.mbus_rules.specs.Lines.{readLine, isMethod}
 use Rattle.mbus_rules.specs.Telegrams.{enterOf, leaveOf}
 use Rattle.mbus_rules.specs.Views.{viewed}
@@ -21,7 +21,7 @@ use Rattle.mbus_rules.specs.Writing.{unwritable}
 use Rattle.mbus_rules.proofs.Laws.LineCode.{accepted-is-sent}
 use Rattle.mbus_rules.proofs.Laws.LineLaws.{bare-sized}
 use Rattle.mbus_rules.proofs.Laws.RoundTrip.{write-then-read}
-use Rattle.mbus_rules.proofs.Laws.Tests.{by-test}
+use Rattle.base_rules.proofs.Laws.Tests.{by-test}
 use Rattle.mbus_shape.specs.Shapes.{askedOf}
 use Rattle.meter_steps.specs.declared.Meter.{Meter}
 use Rattle.meter_steps.specs.Meters.{quiet, returned, addressed, instructed}

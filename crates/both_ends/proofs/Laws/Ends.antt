@@ -14,10 +14,10 @@ use Rattle.bench_clock.proofs.Laws.Times.{le-late}
 use Rattle.mbus_rules.specs.declared.Request.{Request}
 use Rattle.mbus_rules.specs.declared.Request.the-variants.{Read, Enter, Leave}
 use Rattle.mbus_rules.specs.declared.View.the-variants as views
-use Rattle.mbus_rules.specs.Answers.{Answer, reads}
-use Rattle.mbus_rules.specs.Characters.{odd, carrier}
-use Rattle.mbus_rules.specs.Flips.{Place, flips}
-use Rattle.mbus_rules.specs.Lists.{any}
+use Rattle.base_rules.specs.Answers.{Answer, reads}
+use Rattle.base_characters.specs.Characters.{odd, carrier}
+use Rattle.base_characters.specs.Flips.{Place, flips}
+use Rattle.base_rules.specs.Lists.{any}
 use Rattle.mbus_rules.specs.Lines.{readBody, readLine}
 use Rattle.mbus_rules.specs.Telegrams.{ack}
 use Rattle.mbus_rules.specs.Writing.{lineOf}

@@ -9,8 +9,8 @@ use Rattle.bench_clock.specs.Times.{returnTime, due}
 use Rattle.bench_clock.proofs.Laws.Times.{lt-due, due-later}
 use Rattle.mbus_rules.specs.declared.Request.{Request}
 use Rattle.mbus_rules.specs.declared.Request.the-variants.{Read, Enter, Leave}
-use Rattle.mbus_rules.specs.Answers.{Answer, reads, refuse}
-use Rattle.mbus_rules.proofs.Laws.Tests.{by-test}
+use Rattle.base_rules.specs.Answers.{Answer, reads, refuse}
+use Rattle.base_rules.proofs.Laws.Tests.{by-test}
 use Rattle.meter_template.specs.declared.Pair.{Pair}
 use Rattle.meter_template.specs.Templates.{overflows, plus}
 use Rattle.meter_steps.specs.declared.Core.{Core}

@@ -13,10 +13,10 @@ use Rattle.bench_clock.specs.Times.{returnTime}
 use Rattle.mbus_rules.specs.declared.Request.{Request}
 use Rattle.mbus_rules.specs.declared.Request.the-variants.{Read, Enter, Leave}
 use Rattle.mbus_rules.specs.declared.View.the-variants as views
-use Rattle.mbus_rules.specs.Answers.{Answer, reads, refusal}
+use Rattle.base_rules.specs.Answers.{Answer, reads, refusal}
 use Rattle.mbus_rules.specs.Views.{viewed}
 use Rattle.mbus_shape.specs.Shapes.{askedOf}
-use Rattle.mbus_rules.specs.Flips.{Place, flips}
+use Rattle.base_characters.specs.Flips.{Place, flips}
 use Rattle.exchange_steps.specs.declared.Exchange.{Exchange}
 use Rattle.exchange_steps.specs.declared.State.{State}
 use Rattle.exchange_steps.specs.declared.Bench.the-variants.{Busy}

@@ -5,9 +5,9 @@ use mathlib.Core.Logic.{inr}
 use mathlib.Core.Path.{refl, ap}
 use lib.Count.{onesIn}
 use lib.Dec.{lit≤}
-use Rattle.mbus_rules.specs.Lists.{any, total}
-use Rattle.mbus_rules.specs.Characters.{odd, carrier}
-use Rattle.mbus_rules.specs.Flips.{flipBit, flips}
+use Rattle.base_rules.specs.Lists.{any, total}
+use Rattle.base_characters.specs.Characters.{odd, carrier}
+use Rattle.base_characters.specs.Flips.{flipBit, flips}
 use Rattle.mbus_rules.specs.Lines.{readBody, readLine}
 use Rattle.mbus_rules.specs.Writing.{lineOf}
 use Rattle.exchange_steps.specs.Steps.{isWell}

@@ -7,11 +7,10 @@ use native.Mathlib.Omega.{arith}
 use borrow.Author.Tests.{le-ltb, leb-false, ltb-false}
 use lib.Dec.{ltb, leb}
 use lib.ListN.{length, getD, take, drop}
-use Rattle.mbus_rules.specs.Answers.{reads, refusal}
-use Rattle.mbus_rules.specs.Characters.{over}
-use Rattle.mbus_rules.specs.Host.{chars}
-use Rattle.mbus_rules.specs.Lists.{any}
-use Rattle.mbus_rules.proofs.Laws.TestLaws.{none}
+use Rattle.base_rules.specs.Answers.{reads, refusal}
+use Rattle.base_characters.specs.Characters.{over, chars}
+use Rattle.base_rules.specs.Lists.{any}
+use Rattle.base_rules.proofs.Laws.TestLaws.{none}
 use Rattle.bundle_rows.proofs.Laws.RowLaws.{length-rows}
 use Rattle.bundle_rows.specs.Rows.{mostRows, rowsOf, blankRow, uncheckedRow}
 use Rattle.bundle_rows.specs.declared.Row.{Row}

@@ -8,14 +8,13 @@ use borrow.Author.Tests.{ltb-false}
 use lib.Dec.{ltb}
 use lib.ListN.{length, getD, take, drop, length-append, List·getD-append}
 use lib.Seq.{take-at, length-take-le, getD-at}
-use Rattle.mbus_rules.proofs.Laws.AnswerLaws.{reads-same}
-use Rattle.mbus_rules.specs.Answers.{Answer, reads, refusal, refuse, follow}
-use Rattle.mbus_rules.specs.Characters.{over}
-use Rattle.mbus_rules.specs.Host.{chars}
-use Rattle.mbus_rules.specs.Lists.{any}
-use Rattle.mbus_rules.proofs.Laws.TestLaws.{not-refused, all-passed}
-use Rattle.bytes_numbers.specs.Numbers.{number}
-use Rattle.bytes_numbers.proofs.Laws.NumberLaws.{Bytes}
+use Rattle.base_rules.proofs.Laws.AnswerLaws.{reads-same}
+use Rattle.base_rules.specs.Answers.{Answer, reads, refusal, refuse, follow}
+use Rattle.base_characters.specs.Characters.{over, chars}
+use Rattle.base_rules.specs.Lists.{any}
+use Rattle.base_rules.proofs.Laws.TestLaws.{not-refused, all-passed}
+use Rattle.base_numbers.specs.Numbers.{number}
+use Rattle.base_numbers.proofs.Laws.NumberLaws.{Bytes}
 use Rattle.bundle_rows.specs.Lists.{All}
 use Rattle.bundle_rows.proofs.Laws.Lists.{all-append, bytes-take}
 use Rattle.bundle_rows.specs.Rows.{mostRows, rowsOf, firstOffset}

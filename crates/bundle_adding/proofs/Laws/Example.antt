@@ -3,12 +3,12 @@ use Prim.Native.Nat.{ℕ}
 use mathlib.Core.List.{List, [], _∷_, _++_}
 use mathlib.Core.Path.{_≡_, refl}
 use lib.ListN.{replicate}
-use Rattle.mbus_rules.specs.Lists.{any}
-use Rattle.mbus_rules.specs.Answers.{reads, refusal}
-use Rattle.bytes_numbers.specs.Numbers.{number, bytesOf}
+use Rattle.base_rules.specs.Lists.{any}
+use Rattle.base_rules.specs.Answers.{reads, refusal}
+use Rattle.base_numbers.specs.Numbers.{number, bytesOf}
 use Rattle.bundle_check.specs.Walks.{someWrong, endOf}
 use Rattle.bundle_rows.specs.Rows.{rowsOf, bytesOfRows}
-use Rattle.mbus_rules.specs.Host.{chars}
+use Rattle.base_characters.specs.Characters.{chars}
 use Rattle.bundle_check.specs.Bundles.{checkOf}
 use Rattle.bundle_check.specs.Records.{recordsIn, rowsFor, bodiesFor}
 use Rattle.bundle_check.specs.Example.{sixteen}

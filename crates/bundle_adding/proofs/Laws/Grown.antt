@@ -5,9 +5,9 @@ use mathlib.Core.Path.{_≡_, sym, ap, _∙_}
 use native.Mathlib.Omega.{arith}
 use lib.ListN.{length, take, drop, length-append}
 use lib.Seq.{length-take-le, slice, drop-at, take-append-le, take-take}
-use Rattle.mbus_rules.specs.Answers.{reads}
-use Rattle.bytes_numbers.specs.Numbers.{bytesOf}
-use Rattle.bytes_lent.specs.Copying.{laid}
+use Rattle.base_rules.specs.Answers.{reads}
+use Rattle.base_numbers.specs.Numbers.{bytesOf}
+use Rattle.base_lent.specs.Copying.{laid}
 use Rattle.bundle_rows.proofs.Laws.RowLaws.{rows-bytes-append, one-row, rows-same}
 use Rattle.bundle_rows.specs.Rows.{mostRows, rowsOf, firstOffset, bytesOfRow, bytesOfRows}
 use Rattle.bundle_check.proofs.Laws.Accepted.{SoundBundle, accepted-sound}

@@ -7,11 +7,11 @@ use native.Mathlib.Omega.{arith}
 use lib.ListN.{length, getD, take, drop, set, length-set, length-append, length-drop, take-append-drop, List·getD-append, drop-of-length-le}
 use lib.Seq.{slice, slice-empty, slice-cons, take-suc, set-at, length-take-le, getD-take, append-snoc}
 use lib.Seq.{take-at, drop-at, drop-drop, drop-cons, length-slice}
-use Rattle.bytes_lent.specs.Copying.{copied}
-use Rattle.bytes_lent.proofs.Laws.Copying.{copied-fits}
+use Rattle.base_lent.specs.Copying.{copied}
+use Rattle.base_lent.proofs.Laws.Copying.{copied-fits}
 use Rattle.bundle_rows.specs.declared.Row.{Row}
-use Rattle.bytes_numbers.specs.Numbers.{bytesOf}
-use Rattle.bytes_numbers.proofs.Laws.Numbers.{length-bytes}
+use Rattle.base_numbers.specs.Numbers.{bytesOf}
+use Rattle.base_numbers.proofs.Laws.Numbers.{length-bytes}
 use Rattle.bundle_rows.specs.Rows.{mostRows, rowOf, rowsOf, firstOffset, blankRow, uncheckedRow, bytesOfRow, bytesOfRows}
 use Rattle.bundle_rows.proofs.Laws.RowLaws.{length-rows, row-at, row-in, length-row, length-rows-bytes}
 use Rattle.bundle_check.specs.Bundles.{mostBytes}

@@ -6,7 +6,7 @@ use borrow.Author.Tests.{ltb-false}
 use denote.Ref.{now}
 use lib.ListN.{length, take}
 use lib.Seq.{length-take-le}
-use Rattle.mbus_rules.specs.Answers.{reads, refusal}
+use Rattle.base_rules.specs.Answers.{reads, refusal}
 use Rattle.bundle_check.specs.Bundles.{checkOf}
 use Rattle.bundle_check.proofs.Laws.Shown.{shownChecked-same}
 use Rattle.bundle_check.specs.Records.{Recorded}

@@ -8,18 +8,17 @@ use borrow.Author.Tests.{ltb-false, le-ltb}
 use lib.Dec.{ltb}
 use lib.ListN.{length, getD, take, drop}
 use lib.Seq.{drop-drop}
-use Rattle.mbus_rules.specs.Lists.{any}
-use Rattle.mbus_rules.specs.Characters.{over}
-use Rattle.mbus_rules.specs.Answers.{reads}
-use Rattle.mbus_rules.proofs.Laws.AnswerLaws.{reads-same}
-use Rattle.mbus_rules.proofs.Laws.TestLaws.{all-passed, all-passing}
+use Rattle.base_rules.specs.Lists.{any}
+use Rattle.base_characters.specs.Characters.{over, chars}
+use Rattle.base_rules.specs.Answers.{reads}
+use Rattle.base_rules.proofs.Laws.AnswerLaws.{reads-same}
+use Rattle.base_rules.proofs.Laws.TestLaws.{all-passed, all-passing}
 use Rattle.bundle_check.proofs.Laws.Walks.{none-wrong}
 use Rattle.bundle_check.specs.Walks.{endOf}
 use Rattle.bundle_rows.specs.Rows.{mostRows, rowOf, firstOffset, blankRow, uncheckedRow}
 use Rattle.bundle_rows.proofs.Laws.RowLaws.{length-rows, row-at, row-in}
 use Rattle.bundle_check.specs.RowRules.{wrongRows, nextOffset, wrongPlace, wrongPlaces, bodiesEnd}
 use Rattle.bundle_check.proofs.Laws.RowRules.{place-right}
-use Rattle.mbus_rules.specs.Host.{chars}
 use Rattle.bundle_check.specs.Bundles.{mostBytes, countOf, contentsOf, bodiesOf, checkOf}
 
 -- none of the refusals applies

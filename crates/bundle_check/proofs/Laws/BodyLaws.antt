@@ -6,8 +6,8 @@ use mathlib.Core.Path.{_≡_, refl, sym, ap, _∙_}
 use native.Mathlib.Omega.{arith}
 use lib.Dec.{ltb}
 use lib.ListN.{length, getD, take, drop, List·getD-map}
-use Rattle.mbus_rules.specs.Answers.{Answer, reads, within}
-use Rattle.mbus_rules.proofs.Laws.Tests.{neither}
+use Rattle.base_rules.specs.Answers.{Answer, reads, within}
+use Rattle.base_rules.proofs.Laws.Tests.{neither}
 use Rattle.bundle_rows.specs.Fields.{wrongField}
 use Rattle.bundle_rows.proofs.Laws.RowLaws.{length-rows, InRange, field-right}
 use Rattle.bundle_rows.specs.Rows.{mostRows, blankRow, uncheckedRow}

@@ -1,11 +1,11 @@
 -- Laws of `specs/Example`.
 use mathlib.Core.Path.{_≡_, refl}
-use Rattle.mbus_rules.specs.Lists.{any}
-use Rattle.mbus_rules.specs.Answers.{reads}
-use Rattle.bytes_numbers.specs.Numbers.{number}
+use Rattle.base_rules.specs.Lists.{any}
+use Rattle.base_rules.specs.Answers.{reads}
+use Rattle.base_numbers.specs.Numbers.{number}
 use Rattle.bundle_check.specs.Walks.{someWrong, endOf}
 use Rattle.bundle_rows.specs.Rows.{rowsOf}
-use Rattle.mbus_rules.specs.Host.{chars}
+use Rattle.base_characters.specs.Characters.{chars}
 use Rattle.bundle_check.specs.Bundles.{checkOf}
 use Rattle.bundle_check.specs.Example.{sixteen}
 

@@ -7,8 +7,8 @@ use native.Mathlib.Omega.{arith}
 use borrow.Author.Tests.{lt-leb, le-leb, leb-false}
 use lib.Dec.{leb}
 use lib.ListN.{length, getD}
-use Rattle.mbus_rules.specs.Answers.{Answer, reads, refusal, refuse, within, follow}
-use Rattle.mbus_rules.proofs.Laws.TestLaws.{not-refused}
+use Rattle.base_rules.specs.Answers.{Answer, reads, refusal, refuse, within, follow}
+use Rattle.base_rules.proofs.Laws.TestLaws.{not-refused}
 use Rattle.bundle_rows.specs.declared.Row.{Row}
 use Rattle.bundle_rows.specs.Rows.{blankRow, uncheckedRow}
 use Rattle.bundle_check.specs.Bundles.{contentsOf, checkOf}

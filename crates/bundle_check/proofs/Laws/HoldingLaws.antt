@@ -7,8 +7,8 @@ use native.Mathlib.Nat.{le-refl}
 use native.Mathlib.Omega.{arith}
 use lib.ListN.{length, take, drop, take-append-drop, length-drop}
 use lib.Seq.{drop-drop, length-take-le}
-use Rattle.mbus_rules.specs.Lists.{at}
-use Rattle.bytes_numbers.proofs.Laws.NumberLaws.{Bytes}
+use Rattle.base_rules.specs.Lists.{at}
+use Rattle.base_numbers.proofs.Laws.NumberLaws.{Bytes}
 use Rattle.bundle_rows.specs.Lists.{All}
 use Rattle.bundle_rows.proofs.Laws.Lists.{bytes-drop}
 use Rattle.bundle_rows.proofs.Laws.RowLaws.{length-rows, bytes-taken, rows-whole, times-of}

@@ -6,9 +6,9 @@ use mathlib.Core.Path.{_≡_, sym}
 use borrow.Author.Tests.{ltb-false}
 use lib.Dec.{ltb}
 use lib.ListN.{length}
-use Rattle.mbus_rules.specs.Answers.{Answer, reads, refusal}
-use Rattle.mbus_rules.proofs.Laws.AnswerLaws.{reads-same}
-use Rattle.mbus_rules.proofs.Laws.TestLaws.{refusals, not-refused, all-passed, all-passing}
+use Rattle.base_rules.specs.Answers.{Answer, reads, refusal}
+use Rattle.base_rules.proofs.Laws.AnswerLaws.{reads-same}
+use Rattle.base_rules.proofs.Laws.TestLaws.{refusals, not-refused, all-passed, all-passing}
 use Rattle.bundle_rows.specs.Rows.{mostRows, firstOffset}
 use Rattle.bundle_check.specs.Bundles.{mostBytes, countOf, opened}
 

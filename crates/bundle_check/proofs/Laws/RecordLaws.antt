@@ -9,16 +9,15 @@ use borrow.Author.Tests.{le-ltb, eq-eqb}
 use lib.ListN.{length, drop, length-append}
 use lib.Seq.{drop-drop, take-at, drop-at, take-append-seam, drop-append-seam}
 use lib.Dec.{ltb}
-use Rattle.mbus_rules.specs.Characters.{over}
-use Rattle.mbus_rules.specs.Host.{chars}
-use Rattle.mbus_rules.specs.Lists.{any}
-use Rattle.mbus_rules.specs.Answers.{reads}
-use Rattle.mbus_rules.proofs.Laws.Tests.{neither}
-use Rattle.bytes_numbers.specs.Numbers.{number, bytesOf}
-use Rattle.bytes_numbers.proofs.Laws.Numbers.{length-bytes, number-bytes}
+use Rattle.base_characters.specs.Characters.{over, chars}
+use Rattle.base_rules.specs.Lists.{any}
+use Rattle.base_rules.specs.Answers.{reads}
+use Rattle.base_rules.proofs.Laws.Tests.{neither}
+use Rattle.base_numbers.specs.Numbers.{number, bytesOf}
+use Rattle.base_numbers.proofs.Laws.Numbers.{length-bytes, number-bytes}
 use Rattle.bundle_rows.specs.Lists.{All}
 use Rattle.bundle_rows.proofs.Laws.Lists.{all-append}
-use Rattle.mbus_rules.proofs.Laws.ListLaws.{any-append}
+use Rattle.base_rules.proofs.Laws.ListLaws.{any-append}
 use Rattle.bundle_rows.proofs.Laws.RowLaws.{Fitting, rows-back, length-rows-bytes, field-right}
 use Rattle.bundle_rows.specs.Rows.{mostRows, rowsOf, firstOffset, bytesOfRows}
 use Rattle.bundle_rows.specs.declared.Row.{Row}

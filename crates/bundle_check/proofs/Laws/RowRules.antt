@@ -8,7 +8,7 @@ use borrow.Author.Tests.{ltb-false}
 use lib.Dec.{ltb, eqb}
 use lib.ListN.{drop}
 use lib.Seq.{drop-drop}
-use Rattle.mbus_rules.proofs.Laws.Tests.{neither, not-different}
+use Rattle.base_rules.proofs.Laws.Tests.{neither, not-different}
 use Rattle.bundle_rows.specs.declared.Row.{Row}
 use Rattle.bundle_rows.specs.Rows.{rowOf, rowsOf, blankRow}
 use Rattle.bundle_rows.proofs.Laws.RowLaws.{length-rows, row-at}

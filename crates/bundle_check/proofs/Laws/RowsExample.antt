@@ -1,10 +1,10 @@
 -- 01, "The run bundle": the row of its example.
 use mathlib.Core.List.{[], _∷_}
 use mathlib.Core.Path.{_≡_, refl}
-use Rattle.mbus_rules.specs.Lists.{any}
-use Rattle.mbus_rules.specs.Answers.{reads, refusal}
-use Rattle.mbus_rules.specs.Host.{chars}
-use Rattle.bytes_numbers.specs.Numbers.{number}
+use Rattle.base_rules.specs.Lists.{any}
+use Rattle.base_rules.specs.Answers.{reads, refusal}
+use Rattle.base_characters.specs.Characters.{chars}
+use Rattle.base_numbers.specs.Numbers.{number}
 use Rattle.bundle_check.specs.Walks.{someWrong, endOf}
 use Rattle.bundle_rows.specs.Rows.{rowsOf}
 use Rattle.bundle_check.specs.Bundles.{checkOf}

@@ -1,6 +1,6 @@
 -- Laws of `specs/RowsShown`.
 use mathlib.Core.Path.{_≡_}
-use Rattle.mbus_rules.specs.Answers.{Answer, reads, refusal}
+use Rattle.base_rules.specs.Answers.{Answer, reads, refusal}
 use Rattle.bundle_rows.specs.declared.Row.{Row}
 use Rattle.bundle_check.specs.Handing.{BodyPlace}
 use Rattle.bundle_check.specs.RowsShown.{shownRow, shownBody}

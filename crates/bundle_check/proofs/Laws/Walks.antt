@@ -8,7 +8,7 @@ use native.Mathlib.Numerals.{add-one}
 use native.Mathlib.Omega.{arith}
 use lib.ListN.{length, getD, take, drop, drop-of-length-le}
 use lib.Seq.{drop-cons}
-use Rattle.mbus_rules.proofs.Laws.Tests.{neither}
+use Rattle.base_rules.proofs.Laws.Tests.{neither}
 use Rattle.bundle_check.specs.Walks.{someWrong, endOf}
 
 -- Laws: where no element fails, each passes in the state that the ones before it left.

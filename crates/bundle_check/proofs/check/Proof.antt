@@ -4,7 +4,7 @@ use Prim.Native.Nat.{ℕ}
 use mathlib.Core.Path.{_≡_, sym, ap, _∙_}
 use denote.Ref.{now}
 use native.Mathlib.Omega.{arith}
-use Rattle.mbus_rules.specs.Answers.{reads, refusal}
+use Rattle.base_rules.specs.Answers.{reads, refusal}
 use Rattle.bundle_check.specs.Bundles.{countOf, opened, checkRows, checkOf}
 use Rattle.bundle_check.specs.Shown.{shownChecked}
 use Rattle.bundle_check.proofs.Laws.Opened.{opened-whole, opened-next, opened-refused}

@@ -8,10 +8,9 @@ use denote.Ref.{now}
 use lib.Dec.{ltb}
 use lib.ListN.{length, drop, length-drop}
 use lib.Seq.{take-all}
-use Rattle.mbus_rules.specs.Lists.{any}
-use Rattle.mbus_rules.specs.Characters.{over}
-use Rattle.mbus_rules.specs.Answers.{reads, refuse}
-use Rattle.mbus_rules.specs.Host.{chars}
+use Rattle.base_rules.specs.Lists.{any}
+use Rattle.base_characters.specs.Characters.{over, chars}
+use Rattle.base_rules.specs.Answers.{reads, refuse}
 use Rattle.bundle_check.specs.Bundles.{checkRows}
 use Rattle.bundle_check.proofs.check_rows.Statement.{statement}
 use Rattle.bundle_check.proofs.check_rows.Tie as tie

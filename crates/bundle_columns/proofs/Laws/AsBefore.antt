@@ -9,12 +9,12 @@ use borrow.Author.Tests.{leb-true, leb-false}
 use lib.Dec.{leb}
 use lib.ListN.{length, getD, take, drop, replicate, length-map, length-drop}
 use lib.Seq.{take-at, getD-drop}
-use Rattle.mbus_rules.specs.Answers.{Answer, reads, refusal, refuse, within}
-use Rattle.mbus_rules.proofs.Laws.AnswerLaws.{reads-same}
-use Rattle.mbus_rules.proofs.Laws.ListLaws.{map-drop}
-use Rattle.mbus_rules.proofs.Laws.TestLaws.{not-refused}
-use Rattle.mbus_rules.proofs.Laws.Tests.{by-test, passed}
-use Rattle.bytes_numbers.proofs.Laws.NumberLaws.{Bytes}
+use Rattle.base_rules.specs.Answers.{Answer, reads, refusal, refuse, within}
+use Rattle.base_rules.proofs.Laws.AnswerLaws.{reads-same}
+use Rattle.base_rules.proofs.Laws.ListLaws.{map-drop}
+use Rattle.base_rules.proofs.Laws.TestLaws.{not-refused}
+use Rattle.base_rules.proofs.Laws.Tests.{by-test, passed}
+use Rattle.base_numbers.proofs.Laws.NumberLaws.{Bytes}
 use Rattle.bundle_rows.specs.Rows.{mostRows, blankRow}
 use Rattle.bundle_rows.specs.declared.Row.{Row}
 use Rattle.bundle_check.specs.Bundles.{contentsOf, countOf, checkOf}

@@ -6,11 +6,11 @@ use native.Mathlib.Nat.{not-suc-le-zero, pow-le-pow-right}
 use native.Mathlib.Omega.{arith}
 use lib.ListN.{length, take, drop, replicate, length-append, length-replicate, getD-replicate, List·getD-append}
 use lib.Seq.{drop-drop, getD-append-add}
-use Rattle.mbus_rules.specs.Lists.{at}
-use Rattle.bytes_lent.specs.Copying.{laid, copied}
-use Rattle.bytes_lent.proofs.Laws.PieceLaws.{Pieced, pieced-none, pieced-next}
-use Rattle.bytes_numbers.specs.Numbers.{number, bytesOf, Numbered}
-use Rattle.bytes_numbers.proofs.Laws.Numbers.{length-bytes}
+use Rattle.base_rules.specs.Lists.{at}
+use Rattle.base_lent.specs.Copying.{laid, copied}
+use Rattle.base_lent.proofs.Laws.PieceLaws.{Pieced, pieced-none, pieced-next}
+use Rattle.base_numbers.specs.Numbers.{number, bytesOf, Numbered}
+use Rattle.base_numbers.proofs.Laws.Numbers.{length-bytes}
 use Rattle.bundle_rows.specs.Rows.{mostRows, rowOf, rowsOf}
 use Rattle.bundle_rows.specs.declared.Row.{Row}
 use Rattle.bundle_rows.proofs.Laws.RowLaws.{length-rows}

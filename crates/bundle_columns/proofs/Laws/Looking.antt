@@ -9,12 +9,12 @@ use borrow.Author.Tests.{le-leb, lt-leb, ltb-false}
 use lib.Dec.{ltb, eqb}
 use lib.ListN.{length, take, drop, length-drop}
 use lib.Seq.{take-take}
-use Rattle.mbus_rules.specs.Answers.{Answer, reads, refusal, refuse}
-use Rattle.mbus_rules.proofs.Laws.AnswerLaws.{reads-same}
-use Rattle.mbus_rules.proofs.Laws.Tests.{neither, not-different}
-use Rattle.mbus_rules.proofs.Laws.TestLaws.{not-refused}
-use Rattle.bytes_numbers.specs.Numbers.{number}
-use Rattle.host_records.specs.Recorded.{noRecord}
+use Rattle.base_rules.specs.Answers.{Answer, reads, refusal, refuse}
+use Rattle.base_rules.proofs.Laws.AnswerLaws.{reads-same}
+use Rattle.base_rules.proofs.Laws.Tests.{neither, not-different}
+use Rattle.base_rules.proofs.Laws.TestLaws.{not-refused}
+use Rattle.base_numbers.specs.Numbers.{number}
+use Rattle.base_lent.specs.Recorded.{noRecord}
 use Rattle.bundle_rows.specs.Rows.{mostRows}
 use Rattle.bundle_check.specs.declared.Checked.{Checked}
 use Rattle.bundle_check.specs.declared.Checked.the-variants as checked

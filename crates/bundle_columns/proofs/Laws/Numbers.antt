@@ -6,9 +6,9 @@ use native.Mathlib.Nat.{not-suc-le-zero, mul-zero, mul-suc}
 use native.Mathlib.Omega.{arith}
 use lib.ListN.{take, drop}
 use lib.Seq.{drop-drop}
-use Rattle.mbus_rules.specs.Lists.{at}
-use Rattle.bytes_numbers.specs.Numbers.{number}
-use Rattle.bytes_numbers.proofs.Laws.Numbers.{number-at}
+use Rattle.base_rules.specs.Lists.{at}
+use Rattle.base_numbers.specs.Numbers.{number}
+use Rattle.base_numbers.proofs.Laws.Numbers.{number-at}
 use Rattle.bundle_rows.specs.Rows.{mostRows}
 use Rattle.bundle_rows.specs.declared.Row.{Row}
 use Rattle.bundle_columns.specs.Columns.{keptRow}

@@ -10,9 +10,9 @@ use borrow.Author.Tests.{le-leb}
 use lib.Dec.{leb}
 use lib.ListN.{length, getD, take, drop, length-drop, drop-of-length-le}
 use lib.Seq.{drop-cons, drop-drop}
-use Rattle.mbus_rules.specs.Lists.{any}
-use Rattle.mbus_rules.specs.Answers.{reads, refusal, refuse}
-use Rattle.mbus_rules.proofs.Laws.Tests.{neither}
+use Rattle.base_rules.specs.Lists.{any}
+use Rattle.base_rules.specs.Answers.{reads, refusal, refuse}
+use Rattle.base_rules.proofs.Laws.Tests.{neither}
 use Rattle.bundle_columns.specs.Lookups.{isPosition, inFront, firstFrom}
 use Rattle.bundle_columns.specs.Scanning.{Passed}
 

@@ -1,7 +1,7 @@
 -- Laws of `specs/Shown`.
 use Prim.Native.Nat.{ℕ}
 use mathlib.Core.Path.{_≡_}
-use Rattle.mbus_rules.specs.Answers.{Answer, reads, refusal}
+use Rattle.base_rules.specs.Answers.{Answer, reads, refusal}
 use Rattle.bundle_columns.specs.Shown.{shownNext}
 
 -- Laws: no two answers have one case.

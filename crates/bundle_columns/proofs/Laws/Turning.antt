@@ -8,12 +8,12 @@ use native.Mathlib.Omega.{arith}
 use borrow.Author.Tests.{ltb-false}
 use lib.Dec.{ltb}
 use lib.ListN.{length, getD, take, drop, length-append}
-use Rattle.mbus_rules.specs.Answers.{Answer, reads, refusal}
-use Rattle.bytes_lent.specs.Copying.{laid, copied}
-use Rattle.bytes_lent.proofs.Laws.Copying.{copied-fits}
-use Rattle.bytes_lent.proofs.Laws.PieceLaws.{Pieced, pieced-none, pieced-next, pieced-all, pieces-length}
-use Rattle.bytes_numbers.specs.Numbers.{bytesOf}
-use Rattle.bytes_numbers.proofs.Laws.Numbers.{length-bytes}
+use Rattle.base_rules.specs.Answers.{Answer, reads, refusal}
+use Rattle.base_lent.specs.Copying.{laid, copied}
+use Rattle.base_lent.proofs.Laws.Copying.{copied-fits}
+use Rattle.base_lent.proofs.Laws.PieceLaws.{Pieced, pieced-none, pieced-next, pieced-all, pieces-length}
+use Rattle.base_numbers.specs.Numbers.{bytesOf}
+use Rattle.base_numbers.proofs.Laws.Numbers.{length-bytes}
 use Rattle.bundle_rows.specs.Rows.{mostRows, firstOffset, blankRow, rowsOf, bytesOfRow, bytesOfRows}
 use Rattle.bundle_rows.specs.declared.Row.{Row}
 use Rattle.bundle_rows.proofs.Laws.Lists.{laid-two}

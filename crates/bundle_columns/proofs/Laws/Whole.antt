@@ -8,12 +8,12 @@ use native.Mathlib.Omega.{arith}
 use borrow.Author.Tests.{eq-eqb, le-ltb}
 use lib.ListN.{length, getD, take, drop, replicate, length-append, length-drop, length-map, length-replicate, take-append-drop, List·getD-append, List·getD-map}
 use lib.Seq.{ext-getD, drop-cons, drop-drop, drop-at, take-at, take-add}
-use Rattle.mbus_rules.specs.Lists.{at}
-use Rattle.mbus_rules.specs.Answers.{reads}
-use Rattle.bytes_lent.proofs.Laws.PieceLaws.{pieces-length}
-use Rattle.bytes_numbers.specs.Numbers.{number, bytesOf}
-use Rattle.bytes_numbers.proofs.Laws.Numbers.{length-bytes, number-bytes}
-use Rattle.bytes_numbers.proofs.Laws.NumberLaws.{Bytes, number-below}
+use Rattle.base_rules.specs.Lists.{at}
+use Rattle.base_rules.specs.Answers.{reads}
+use Rattle.base_lent.proofs.Laws.PieceLaws.{pieces-length}
+use Rattle.base_numbers.specs.Numbers.{number, bytesOf}
+use Rattle.base_numbers.proofs.Laws.Numbers.{length-bytes, number-bytes}
+use Rattle.base_numbers.proofs.Laws.NumberLaws.{Bytes, number-below}
 use Rattle.bundle_rows.specs.Lists.{All}
 use Rattle.bundle_rows.specs.Rows.{mostRows, rowOf, rowsOf, firstOffset, blankRow, bytesOfRows}
 use Rattle.bundle_rows.specs.declared.Row.{Row}

@@ -6,10 +6,10 @@ use native.Mathlib.Nat.{zero-add, add-sub-cancel-left}
 use native.Mathlib.Omega.{arith}
 use lib.ListN.{length, take, drop, set, length-take, length-drop, drop-of-length-le}
 use lib.Seq.{take-all, take-nil, take-at, getD-take}
-use Rattle.mbus_rules.specs.Lists.{at}
-use Rattle.mbus_rules.specs.Host.{chars}
-use Rattle.bytes_lent.proofs.Laws.Copying.{Copied, copied-none, copied-next, copied-length, copied-all}
-use Rattle.mbus_characters.proofs.Laws.PairLaws.{length-characters}
+use Rattle.base_rules.specs.Lists.{at}
+use Rattle.base_characters.specs.Characters.{chars}
+use Rattle.base_lent.proofs.Laws.Copying.{Copied, copied-none, copied-next, copied-length, copied-all}
+use Rattle.base_characters.proofs.Laws.PairLaws.{length-characters}
 use Rattle.bundle_rows.specs.Rows.{uncheckedRow, bodyIn, uncheckedCharacters, Puts}
 use Rattle.bundle_rows.specs.declared.Row.{Row}
 

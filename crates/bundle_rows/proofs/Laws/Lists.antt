@@ -6,9 +6,9 @@ use native.Mathlib.Nat.{sub-zero, suc-sub-suc, zero-sub}
 use native.Mathlib.Omega.{arith}
 use lib.ListN.{length, take, drop, length-append}
 use lib.Seq.{take-take, take-nil, getD-drop}
-use Rattle.bytes_lent.specs.Copying.{laid}
-use Rattle.bytes_lent.proofs.Laws.Copying.{laid-on}
-use Rattle.bytes_numbers.proofs.Laws.NumberLaws.{Bytes}
+use Rattle.base_lent.specs.Copying.{laid}
+use Rattle.base_lent.proofs.Laws.Copying.{laid-on}
+use Rattle.base_numbers.proofs.Laws.NumberLaws.{Bytes}
 use Rattle.bundle_rows.specs.Lists.{All}
 
 module _ {A : Type 0} where

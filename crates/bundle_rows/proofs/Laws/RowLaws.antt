@@ -9,12 +9,12 @@ use borrow.Author.Tests.{le-ltb, lt-leb, ltb-false, eqb-false}
 use lib.Dec.{ltb, eqb}
 use lib.ListN.{length, getD, take, drop, length-append, length-drop}
 use lib.Seq.{drop-drop, getD-drop, drop-cons, length-take-le, getD-take, drop-at, take-add}
-use Rattle.mbus_rules.specs.Lists.{at}
-use Rattle.mbus_rules.proofs.Laws.TestLaws.{none}
-use Rattle.bytes_lent.specs.Pieces.{pieces}
-use Rattle.bytes_numbers.specs.Numbers.{number, bytesOf}
-use Rattle.bytes_numbers.proofs.Laws.Numbers.{number-bytes}
-use Rattle.bytes_numbers.proofs.Laws.NumberLaws.{Bytes, number-below, bytes-read}
+use Rattle.base_rules.specs.Lists.{at}
+use Rattle.base_rules.proofs.Laws.TestLaws.{none}
+use Rattle.base_lent.specs.Pieces.{pieces}
+use Rattle.base_numbers.specs.Numbers.{number, bytesOf}
+use Rattle.base_numbers.proofs.Laws.Numbers.{number-bytes}
+use Rattle.base_numbers.proofs.Laws.NumberLaws.{Bytes, number-below, bytes-read}
 use Rattle.bundle_rows.specs.Fields.{wrongField}
 use Rattle.bundle_rows.specs.Lists.{All}
 use Rattle.bundle_rows.proofs.Laws.Lists.{bytes-drop, bytes-take, drop-take, window}

@@ -1,5 +1,5 @@
 -- `bundle_rows::row_bytes` meets its contract, byte by byte. Assumes nothing.
-use Rattle.bytes_numbers.specs.Numbers.{bytesOf}
+use Rattle.base_numbers.specs.Numbers.{bytesOf}
 use borrow.Author.Needs.{needs}
 use Rattle.bundle_rows.proofs.row_bytes.Statement.{statement}
 use Rattle.bundle_rows.proofs.row_bytes.Tie as tie

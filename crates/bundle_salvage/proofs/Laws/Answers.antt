@@ -6,9 +6,9 @@ use mathlib.Core.Path.{_≡_, refl, sym, ap, ap₂, _∙_}
 use native.Mathlib.Omega.{arith}
 use lib.Dec.{ltb}
 use lib.ListN.{length, take, drop}
-use Rattle.mbus_rules.specs.Answers.{Answer, reads, refusal}
-use Rattle.bytes_lent.specs.Copying.{laid}
-use Rattle.bytes_lent.specs.Lent.{stored}
+use Rattle.base_rules.specs.Answers.{Answer, reads, refusal}
+use Rattle.base_lent.specs.Copying.{laid}
+use Rattle.base_lent.specs.Lent.{stored}
 use Rattle.bundle_rows.specs.Rows.{mostRows, rowsOf, firstOffset}
 use Rattle.bundle_rows.proofs.Laws.RowLaws.{length-rows}
 use Rattle.bundle_check.specs.Bundles.{mostBytes, countOf, opened}

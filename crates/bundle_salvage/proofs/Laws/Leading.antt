@@ -10,11 +10,10 @@ use borrow.Author.Tests.{eq-eqb, ne-eqb, lt-ltb, le-ltb, eqb-true, eqb-false}
 use lib.Dec.{ltb, eqb}
 use lib.ListN.{length, getD, take, drop, length-drop, take-append-drop, drop-of-length-le}
 use lib.Seq.{drop-cons, drop-drop, length-take-le}
-use Rattle.mbus_rules.specs.Characters.{over}
-use Rattle.mbus_rules.specs.Host.{chars}
-use Rattle.mbus_rules.specs.Lists.{any}
-use Rattle.mbus_rules.proofs.Laws.Tests.{by-test, neither}
-use Rattle.mbus_rules.proofs.Laws.ListLaws.{any-append}
+use Rattle.base_characters.specs.Characters.{over, chars}
+use Rattle.base_rules.specs.Lists.{any}
+use Rattle.base_rules.proofs.Laws.Tests.{by-test, neither}
+use Rattle.base_rules.proofs.Laws.ListLaws.{any-append}
 use Rattle.bundle_rows.proofs.Laws.RowLaws.{length-rows, row-at, row-in, field-right}
 use Rattle.bundle_rows.specs.Fields.{wrongField}
 use Rattle.bundle_rows.specs.Rows.{mostRows, rowOf, rowsOf, firstOffset, blankRow, uncheckedRow, bodyIn}

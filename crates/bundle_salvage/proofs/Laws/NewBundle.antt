@@ -5,11 +5,11 @@ use mathlib.Core.Path.{_≡_, refl, sym, ap, ap₂, _∙_}
 use native.Mathlib.Omega.{arith}
 use lib.ListN.{length, getD, take, drop, length-append, length-drop, length-map, List·getD-map}
 use lib.Seq.{length-take-le}
-use Rattle.bytes_lent.specs.Copying.{laid, copied}
-use Rattle.bytes_lent.proofs.Laws.Copying.{copied-fits, laid-length}
-use Rattle.bytes_lent.proofs.Laws.PieceLaws.{Pieced, pieced-none, pieced-next, pieced-all}
-use Rattle.bytes_numbers.specs.Numbers.{bytesOf}
-use Rattle.bytes_numbers.proofs.Laws.Numbers.{length-bytes}
+use Rattle.base_lent.specs.Copying.{laid, copied}
+use Rattle.base_lent.proofs.Laws.Copying.{copied-fits, laid-length}
+use Rattle.base_lent.proofs.Laws.PieceLaws.{Pieced, pieced-none, pieced-next, pieced-all}
+use Rattle.base_numbers.specs.Numbers.{bytesOf}
+use Rattle.base_numbers.proofs.Laws.Numbers.{length-bytes}
 use Rattle.bundle_rows.specs.Rows.{mostRows, rowsOf, firstOffset, blankRow, uncheckedRow, bytesOfRow, bytesOfRows}
 use Rattle.bundle_rows.specs.declared.Row.{Row}
 use Rattle.bundle_rows.proofs.Laws.Lists.{laid-three}

@@ -8,11 +8,10 @@ use borrow.Author.Tests.{le-ltb}
 use lib.Dec.{ltb}
 use lib.ListN.{length, take, drop, length-take, length-drop}
 use lib.Seq.{take-all}
-use Rattle.mbus_rules.specs.Answers.{reads}
-use Rattle.mbus_rules.specs.Characters.{over}
-use Rattle.mbus_rules.specs.Host.{chars}
-use Rattle.mbus_rules.specs.Lists.{any}
-use Rattle.bytes_numbers.proofs.Laws.NumberLaws.{Bytes}
+use Rattle.base_rules.specs.Answers.{reads}
+use Rattle.base_characters.specs.Characters.{over, chars}
+use Rattle.base_rules.specs.Lists.{any}
+use Rattle.base_numbers.proofs.Laws.NumberLaws.{Bytes}
 use Rattle.bundle_rows.specs.Lists.{All}
 use Rattle.bundle_rows.specs.Rows.{mostRows, rowsOf, firstOffset}
 use Rattle.bundle_rows.specs.declared.Row.{Row}

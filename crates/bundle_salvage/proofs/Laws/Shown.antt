@@ -1,6 +1,6 @@
 -- Laws of `specs/Shown`.
 use mathlib.Core.Path.{_≡_}
-use Rattle.mbus_rules.specs.Answers.{Answer, reads, refusal}
+use Rattle.base_rules.specs.Answers.{Answer, reads, refusal}
 use Rattle.bundle_salvage.specs.declared.Salvaged.{Salvaged}
 use Rattle.bundle_salvage.specs.Shown.{shownSalvage}
 

@@ -10,7 +10,7 @@ use borrow.Author.Tests.{not-false, eqb-true, eqb-false, ne-eqb}
 use lib.Dec.{eqb}
 use lib.ListN.{length, getD, drop, drop-of-length-le}
 use lib.Seq.{drop-cons, drop-drop}
-use Rattle.mbus_rules.proofs.Laws.Tests.{not-different}
+use Rattle.base_rules.proofs.Laws.Tests.{not-different}
 use Rattle.bundle_rows.specs.Rows.{mostRows, rowOf, rowsOf, firstOffset, blankRow, uncheckedRow}
 use Rattle.bundle_rows.specs.declared.Row.{Row}
 use Rattle.bundle_rows.proofs.Laws.RowLaws.{length-rows, row-at, row-in}

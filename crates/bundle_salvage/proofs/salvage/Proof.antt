@@ -2,7 +2,7 @@
 use borrow.Author.Needs.{needs}
 use mathlib.Core.Path.{sym, _∙_}
 use denote.Ref.{now}
-use Rattle.mbus_rules.specs.Answers.{reads, refusal}
+use Rattle.base_rules.specs.Answers.{reads, refusal}
 use Rattle.bundle_check.specs.Bundles.{countOf, opened}
 use Rattle.bundle_check.proofs.Laws.Shown.{shownChecked-same}
 use Rattle.bundle_salvage.proofs.Laws.Answers.{salvage-refused}

@@ -7,9 +7,9 @@ use native.Mathlib.Numerals.{add-one}
 use native.Mathlib.Omega.{arith}
 use lib.ListN.{length, getD, take, drop, length-append, length-drop, drop-of-length-le}
 use lib.Seq.{drop-cons, length-take-le, take-append-le, drop-append-le}
-use Rattle.mbus_rules.specs.Answers.{reads}
-use Rattle.bytes_lent.specs.Copying.{laid}
-use Rattle.bytes_lent.proofs.Laws.Copying.{laid-none, laid-length, laid-on}
+use Rattle.base_rules.specs.Answers.{reads}
+use Rattle.base_lent.specs.Copying.{laid}
+use Rattle.base_lent.proofs.Laws.Copying.{laid-none, laid-length, laid-on}
 use Rattle.bundle_rows.specs.Rows.{mostRows, rowOf, rowsOf, firstOffset, blankRow, uncheckedRow, bodyIn}
 use Rattle.bundle_rows.specs.declared.Row.{Row}
 use Rattle.bundle_rows.proofs.Laws.RowLaws.{length-rows, row-in, rows-front}

@@ -5,8 +5,8 @@ use mathlib.Core.Path.{_≡_, sym, _∙_}
 use native.Mathlib.Omega.{arith}
 use borrow.Author.Tests.{eq-eqb, ne-eqb, eqb-true, not-true}
 use lib.Dec.{eqb}
-use Rattle.mbus_rules.specs.Host.{chars}
-use Rattle.mbus_rules.proofs.Laws.Tests.{by-test}
+use Rattle.base_characters.specs.Characters.{chars}
+use Rattle.base_rules.proofs.Laws.Tests.{by-test}
 use Rattle.bench_clock.specs.Wakes.{isWake}
 use Rattle.bundle_check.specs.Records.{Recorded}
 use Rattle.bundle_sweep.specs.Sweeping.{goes, removed}

@@ -5,8 +5,8 @@ use mathlib.Core.Path.{_≡_, sym, ap, ap₂, _∙_}
 use native.Mathlib.Omega.{arith}
 use lib.ListN.{length, take, drop, length-drop, take-append-drop}
 use lib.Seq.{take-at, drop-at, length-take-le, take-append-le, drop-append-le}
-use Rattle.bytes_lent.specs.Copying.{laid}
-use Rattle.bytes_lent.proofs.Laws.Copying.{laid-length, laid-on, laid-behind}
+use Rattle.base_lent.specs.Copying.{laid}
+use Rattle.base_lent.proofs.Laws.Copying.{laid-length, laid-on, laid-behind}
 
 module _ {A : Type 0} where
   -- what is laid in front of a list changes nothing of what stands behind

@@ -5,8 +5,8 @@ use mathlib.Core.Path.{_≡_, sym, ap, _∙_}
 use native.Mathlib.Omega.{arith}
 use lib.ListN.{length, getD, take, drop, set, length-drop}
 use lib.Seq.{getD-drop, getD-take, length-take-le, drop-paste}
-use Rattle.bytes_lent.specs.Copying.{laid}
-use Rattle.bytes_lent.proofs.Laws.Copying.{Copied, copied-none, copied-next, copied-length, copied-all}
+use Rattle.base_lent.specs.Copying.{laid}
+use Rattle.base_lent.proofs.Laws.Copying.{Copied, copied-none, copied-next, copied-length, copied-all}
 
 pub record Moving (d : List ℕ) (from to size i : ℕ) (now : List ℕ) : Type 0 where
   pub lower : to ≤ from

@@ -6,13 +6,13 @@ use mathlib.Core.Path.{_≡_, refl, sym, ap, ap₂, _∙_}
 use native.Mathlib.Omega.{arith}
 use lib.ListN.{length, take, drop, length-append, length-drop, length-map}
 use lib.Seq.{length-take-le, take-at, drop-at}
-use Rattle.mbus_rules.specs.Answers.{reads}
-use Rattle.mbus_rules.proofs.Laws.Tests.{by-test}
-use Rattle.bytes_lent.specs.Copying.{laid, copied}
-use Rattle.bytes_lent.specs.Pieces.{pieces}
-use Rattle.bytes_lent.proofs.Laws.Copying.{laid-length, laid-on, copied-fits}
-use Rattle.bytes_numbers.specs.Numbers.{bytesOf}
-use Rattle.bytes_numbers.proofs.Laws.Numbers.{length-bytes}
+use Rattle.base_rules.specs.Answers.{reads}
+use Rattle.base_rules.proofs.Laws.Tests.{by-test}
+use Rattle.base_lent.specs.Copying.{laid, copied}
+use Rattle.base_lent.specs.Pieces.{pieces}
+use Rattle.base_lent.proofs.Laws.Copying.{laid-length, laid-on, copied-fits}
+use Rattle.base_numbers.specs.Numbers.{bytesOf}
+use Rattle.base_numbers.proofs.Laws.Numbers.{length-bytes}
 use Rattle.bundle_rows.specs.Rows.{rowsOf, firstOffset, bytesOfRows, bodyIn}
 use Rattle.bundle_rows.specs.declared.Row.{Row}
 use Rattle.bundle_rows.proofs.Laws.RowLaws.{length-rows, length-rows-bytes, rows-front}

@@ -7,9 +7,9 @@ use native.Mathlib.Numerals.{add-one}
 use native.Mathlib.Omega.{arith}
 use lib.ListN.{length, getD, take, drop, length-append, length-drop, drop-of-length-le}
 use lib.Seq.{drop-cons, drop-drop, length-take-le}
-use Rattle.bytes_lent.specs.Copying.{laid, copied}
-use Rattle.bytes_lent.specs.Pieces.{pieces}
-use Rattle.bytes_lent.proofs.Laws.Copying.{laid-none, laid-length, laid-on, copied-fits}
+use Rattle.base_lent.specs.Copying.{laid, copied}
+use Rattle.base_lent.specs.Pieces.{pieces}
+use Rattle.base_lent.proofs.Laws.Copying.{laid-none, laid-length, laid-on, copied-fits}
 use Rattle.bundle_rows.specs.Rows.{rowOf, rowsOf, firstOffset, blankRow, uncheckedRow, bytesOfRow, bytesOfRows, bodyIn}
 use Rattle.bundle_rows.specs.declared.Row.{Row}
 use Rattle.bundle_rows.proofs.Laws.RowLaws.{length-rows, length-row, row-at, row-in, rows-same}

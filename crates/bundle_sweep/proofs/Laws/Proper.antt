@@ -8,18 +8,17 @@ use borrow.Author.Tests.{ltb-false, le-ltb}
 use lib.Dec.{ltb}
 use lib.ListN.{length, take, drop, take-append-drop}
 use lib.Seq.{take-at, drop-at, length-take-le}
-use Rattle.mbus_rules.specs.Answers.{Answer, reads, refusal, refuse, follow}
-use Rattle.mbus_rules.specs.Characters.{over}
-use Rattle.mbus_rules.specs.Host.{chars}
-use Rattle.mbus_rules.specs.Lists.{any}
-use Rattle.mbus_rules.proofs.Laws.AnswerLaws.{reads-same}
-use Rattle.mbus_rules.proofs.Laws.Tests.{by-test, neither, passed}
-use Rattle.mbus_rules.proofs.Laws.TestLaws.{not-refused}
-use Rattle.bytes_lent.proofs.Laws.Copying.{laid-length}
+use Rattle.base_rules.specs.Answers.{Answer, reads, refusal, refuse, follow}
+use Rattle.base_characters.specs.Characters.{over, chars}
+use Rattle.base_rules.specs.Lists.{any}
+use Rattle.base_rules.proofs.Laws.AnswerLaws.{reads-same}
+use Rattle.base_rules.proofs.Laws.Tests.{by-test, neither, passed}
+use Rattle.base_rules.proofs.Laws.TestLaws.{not-refused}
+use Rattle.base_lent.proofs.Laws.Copying.{laid-length}
 use Rattle.bundle_rows.specs.Fields.{wrongField}
 use Rattle.bundle_rows.specs.Lists.{All}
 use Rattle.bundle_rows.specs.Rows.{firstOffset}
-use Rattle.mbus_rules.proofs.Laws.ListLaws.{any-append}
+use Rattle.base_rules.proofs.Laws.ListLaws.{any-append}
 use Rattle.bundle_rows.proofs.Laws.RowLaws.{field-right}
 use Rattle.bundle_check.specs.Bundles.{contentsOf, checkOf}
 use Rattle.bundle_check.specs.Records.{Recorded, recordsOf, rowsFor, bodiesFor, bundleOf}

@@ -8,8 +8,8 @@ use borrow.Author.Tests.{le-ltb}
 use lib.Dec.{ltb}
 use lib.ListN.{length, take, drop, take-append-drop}
 use lib.Seq.{length-take-le}
-use Rattle.mbus_rules.specs.Answers.{Answer, reads, refusal}
-use Rattle.bytes_lent.specs.Copying.{laid}
+use Rattle.base_rules.specs.Answers.{Answer, reads, refusal}
+use Rattle.base_lent.specs.Copying.{laid}
 use Rattle.bundle_check.specs.Bundles.{checkOf}
 use Rattle.bundle_sweep.specs.declared.Swept.the-variants.{Filled, Refused}
 use Rattle.bundle_sweep.specs.Sweeping.{sweptBundle, sweepOf, bufferSwept}

@@ -10,12 +10,12 @@ use lib.Dec.{ltb, leb, eqb}
 use lib.IntN.{pos}
 use Rattle.mbus_rules.specs.declared.Entry.{Entry}
 use Rattle.mbus_rules.specs.declared.Value.the-variants.{Number}
-use Rattle.mbus_rules.specs.Answers.{Answer, reads, refusal, refuse}
+use Rattle.base_rules.specs.Answers.{Answer, reads, refusal, refuse}
 use Rattle.mbus_rules.specs.Quantities.{quantityOf, widthOf, paired, energy}
 use Rattle.mbus_rules.specs.Writing.{wrongEntry}
-use Rattle.mbus_rules.proofs.Laws.AnswerLaws.{reads-same}
-use Rattle.mbus_rules.proofs.Laws.Tests.{by-test, passed, below}
-use Rattle.mbus_rules.proofs.Laws.TestLaws.{none}
+use Rattle.base_rules.proofs.Laws.AnswerLaws.{reads-same}
+use Rattle.base_rules.proofs.Laws.Tests.{by-test, passed, below}
+use Rattle.base_rules.proofs.Laws.TestLaws.{none}
 use Rattle.bench_indication.specs.Rounding.{apart}
 use Rattle.cjt_rules.specs.declared.CjtAnswer.{CjtAnswer}
 use Rattle.cjt_rules.specs.declared.CjtQuantity.{CjtQuantity}

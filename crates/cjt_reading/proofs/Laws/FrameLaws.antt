@@ -8,9 +8,9 @@ use native.Mathlib.Omega.{arith}
 use borrow.Author.Tests.{eqb-true, eqb-false, eq-eqb, ne-eqb}
 use lib.Dec.{eqb}
 use lib.ListN.{length, take}
-use Rattle.mbus_rules.specs.Lists.{at, total}
-use Rattle.mbus_rules.proofs.Laws.Closing.{last-two}
-use Rattle.mbus_rules.proofs.Laws.Tests.{by-test}
+use Rattle.base_rules.specs.Lists.{at, total}
+use Rattle.base_characters.proofs.Laws.Closing.{last-two}
+use Rattle.base_rules.proofs.Laws.Tests.{by-test}
 use Rattle.cjt_rules.specs.CjtFrames.{asksLength, tellsLength, wrongFrame, wrongFrameSum}
 use Rattle.cjt_rules.proofs.Laws.FrameCode.{Shaped, shaped-by, shaped-counts}
 

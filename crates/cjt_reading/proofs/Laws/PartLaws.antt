@@ -9,15 +9,14 @@ use borrow.Author.Tests.{eq-eqb, ne-eqb}
 use lib.Dec.{eqb, lit<}
 use lib.ListN.{length, take, drop, length-take, length-drop, replicate}
 use lib.Seq.{getD-drop, getD-take, length-take-le, take-all}
-use Rattle.mbus_rules.specs.Lists.{at, any}
-use Rattle.mbus_rules.specs.Digits.{digitsOf}
-use Rattle.mbus_rules.proofs.Laws.ByteLaws.{bytes-each, byte-at, bytes-take}
-use Rattle.mbus_rules.proofs.Laws.Tests.{by-test}
-use Rattle.bytes_numbers.specs.Numbers.{number, bytesOf}
-use Rattle.bytes_numbers.proofs.Laws.NumberLaws.{bytes-read}
-use Rattle.mbus_fields.specs.declared.digits.Packed.{Packed}
-use Rattle.mbus_fields.specs.Fields.{packedOf}
-use Rattle.mbus_fields.proofs.Laws.GatherLaws.{word-packed, digits-most}
+use Rattle.base_rules.specs.Lists.{at, any}
+use Rattle.base_digits.specs.Digits.{digitsOf, packedOf}
+use Rattle.base_rules.proofs.Laws.ByteLaws.{bytes-each, byte-at, bytes-take}
+use Rattle.base_rules.proofs.Laws.Tests.{by-test}
+use Rattle.base_numbers.specs.Numbers.{number, bytesOf}
+use Rattle.base_numbers.proofs.Laws.NumberLaws.{bytes-read}
+use Rattle.base_digits.specs.declared.Packed.{Packed}
+use Rattle.base_digits.proofs.Laws.GatherLaws.{word-packed, digits-most}
 use Rattle.cjt_rules.specs.CjtAddresses.{partyBytes, allAA}
 use Rattle.cjt_rules.specs.CjtLines.{part}
 use Rattle.cjt_rules.proofs.Laws.BodyLaws.{all-aa}

@@ -9,8 +9,8 @@ use borrow.Author.Tests.{ne-eqb, ltb-true, ltb-false}
 use lib.Dec.{ltb}
 use lib.ListN.{length, drop, List·getD-eq-default}
 use lib.Seq.{drop-cons, getD-drop}
-use Rattle.mbus_rules.specs.Lists.{at, total}
-use Rattle.mbus_rules.proofs.Laws.Tests.{by-test}
+use Rattle.base_rules.specs.Lists.{at, total}
+use Rattle.base_rules.proofs.Laws.Tests.{by-test}
 use Rattle.cjt_rules.specs.CjtFrames.{pastFE}
 use Rattle.cjt_rules.proofs.Laws.FrontLaws.{past-nothing}
 use Rattle.cjt_reading.specs.CjtParts.{Skips}

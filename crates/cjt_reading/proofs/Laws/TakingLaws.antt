@@ -6,16 +6,15 @@ use mathlib.Core.Path.{_≡_, refl, sym, ap, _∙_}
 use native.Mathlib.Omega.{arith}
 use borrow.Author.Tests.{ne-eqb}
 use lib.ListN.{length, take, replicate, length-map, length-replicate}
-use Rattle.mbus_rules.specs.declared.Outcome.{Outcome}
-use Rattle.mbus_rules.specs.declared.Outcome.the-variants.{Accepted, Refused}
-use Rattle.mbus_rules.specs.Lists.{any, total}
-use Rattle.mbus_rules.specs.Characters.{over, odd, byteOf}
-use Rattle.mbus_rules.specs.Answers.{Answer, reads, refusal, refuse}
-use Rattle.mbus_rules.specs.Telegrams.{outcomeShown}
-use Rattle.bytes_lent.specs.Copying.{copied}
-use Rattle.mbus_characters.specs.declared.Gathering.{Gathering}
-use Rattle.mbus_characters.specs.Gathering.{sound, gathered}
-use Rattle.mbus_characters.proofs.Laws.GatherLaws.{sound-is, low-is, sum-is}
+use Rattle.base_rules.specs.declared.Outcome.{Outcome}
+use Rattle.base_rules.specs.declared.Outcome.the-variants.{Accepted, Refused}
+use Rattle.base_rules.specs.Lists.{any, total}
+use Rattle.base_characters.specs.Characters.{over, odd, byteOf}
+use Rattle.base_rules.specs.Answers.{Answer, reads, refusal, refuse, outcomeShown}
+use Rattle.base_lent.specs.Copying.{copied}
+use Rattle.base_characters.specs.declared.Gathering.{Gathering}
+use Rattle.base_characters.specs.Gathering.{sound, gathered}
+use Rattle.base_characters.proofs.Laws.GatherLaws.{sound-is, low-is, sum-is}
 use Rattle.cjt_rules.specs.declared.CjtTelegram.{CjtTelegram}
 use Rattle.cjt_rules.specs.CjtFrames.{pastFE}
 use Rattle.cjt_rules.specs.CjtViews.{cjtShown, cjtViewed}

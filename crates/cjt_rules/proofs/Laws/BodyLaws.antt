@@ -9,23 +9,22 @@ use borrow.Author.Tests.{eqb-true, eq-eqb, ne-eqb, lt-ltb, ltb-false, not-false}
 use lib.Dec.{eqb, ltb}
 use lib.ListN.{length, take, drop, replicate, length-drop}
 use lib.Seq.{length-take-le}
-use Rattle.mbus_rules.specs.Lists.{at, any}
-use Rattle.mbus_rules.specs.Bytes.{Bytes}
-use Rattle.mbus_rules.specs.Answers.{reads}
-use Rattle.mbus_rules.specs.Digits.{overNine, digitsOf, packed}
-use Rattle.mbus_rules.proofs.Laws.AnswerLaws.{reads-same}
-use Rattle.mbus_rules.proofs.Laws.ByteLaws.{byte-at, bytes-drop, spell}
-use Rattle.mbus_rules.proofs.Laws.DigitLaws.{packed-digits, digits-below}
-use Rattle.mbus_rules.proofs.Laws.Tests.{by-test, not-different, neither}
-use Rattle.mbus_rules.proofs.Laws.TestLaws.{none, all-passed}
+use Rattle.base_rules.specs.Lists.{at, any}
+use Rattle.base_rules.specs.Bytes.{Bytes}
+use Rattle.base_rules.specs.Answers.{reads}
+use Rattle.base_digits.specs.Digits.{overNine, digitsOf, packed}
+use Rattle.base_rules.proofs.Laws.AnswerLaws.{reads-same}
+use Rattle.base_rules.proofs.Laws.ByteLaws.{byte-at, bytes-drop, spell}
+use Rattle.base_digits.proofs.Laws.DigitLaws.{packed-digits, digits-below}
+use Rattle.base_rules.proofs.Laws.Tests.{by-test, not-different, neither}
+use Rattle.base_rules.proofs.Laws.TestLaws.{none, all-passed}
 use Rattle.cjt_rules.specs.declared.CjtTelegram.{CjtTelegram}
 use Rattle.cjt_rules.specs.declared.CjtTelegram.the-variants as telegrams
 use Rattle.cjt_rules.specs.CjtFrames.{asksLength, wrongFrame, wrongFrameSum}
 use Rattle.cjt_rules.specs.CjtAddresses.{heatType, partyBytes, partyOf, notAA, allAA, wrongParty}
 use Rattle.cjt_rules.specs.CjtUnits.{wrongUnits}
 use Rattle.cjt_rules.specs.CjtLines.{wrongMark, asksWith, listedBytes, tellsWith, wrongListed, readListed, readCjtFrame}
-use Rattle.cjt_rules.specs.CjtWriting.{bytesOfParty, frameOf, bytesOfTelegram, overFourteen, unwrittenParty}
-use Rattle.cjt_rules.specs.CjtWriting.{unwritten}
+use Rattle.cjt_rules.specs.CjtWriting.{bytesOfParty, frameOf, bytesOfTelegram, overFourteen, unwrittenParty, unwritten}
 use Rattle.cjt_rules.specs.CjtSizes.{CjtSized}
 use Rattle.cjt_rules.proofs.Laws.FrameCode.{Framed, framed-by}
 use Rattle.cjt_rules.proofs.Laws.FrameParts.{join, framed-is}

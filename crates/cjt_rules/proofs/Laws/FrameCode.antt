@@ -8,16 +8,16 @@ use mathlib.Core.Path.{_≡_, refl, sym, ap, _∙_}
 use borrow.Author.Tests.{eqb-true, not-false}
 use lib.Dec.{eqb, lit≤}
 use lib.ListN.{length, List·getD-append}
-use Rattle.mbus_rules.specs.Lists.{at, any}
-use Rattle.mbus_rules.specs.Characters.{over, odd, byteOf}
-use Rattle.mbus_rules.specs.Answers.{reads, refusal}
-use Rattle.mbus_rules.specs.Flips.{Place, flips, Places}
-use Rattle.mbus_rules.specs.Each.{Each}
-use Rattle.mbus_rules.proofs.Laws.Tests.{by-test, passed, not-different}
-use Rattle.mbus_rules.proofs.Laws.TestLaws.{none, all-passed}
-use Rattle.mbus_rules.proofs.Laws.Closing.{Closed, closed-byte, none-added}
-use Rattle.mbus_rules.proofs.Laws.Codes
-use Rattle.mbus_rules.proofs.Laws.Codes.{Sound, Code}
+use Rattle.base_rules.specs.Lists.{at, any}
+use Rattle.base_characters.specs.Characters.{over, odd, byteOf}
+use Rattle.base_rules.specs.Answers.{reads, refusal}
+use Rattle.base_characters.specs.Flips.{Place, flips, Places}
+use Rattle.base_rules.specs.Each.{Each}
+use Rattle.base_rules.proofs.Laws.Tests.{by-test, passed, not-different}
+use Rattle.base_rules.proofs.Laws.TestLaws.{none, all-passed}
+use Rattle.base_characters.proofs.Laws.Closing.{Closed, closed-byte, none-added}
+use Rattle.base_characters.proofs.Laws.Codes
+use Rattle.base_characters.proofs.Laws.Codes.{Sound, Code}
 use Rattle.cjt_rules.specs.declared.CjtTelegram.{CjtTelegram}
 use Rattle.cjt_rules.specs.CjtFrames.{pastFE, asksLength, tellsLength, wrongFrame, wrongFrameSum}
 use Rattle.cjt_rules.specs.CjtAddresses.{wrongParty}

@@ -5,11 +5,10 @@ use mathlib.Core.List.{List, [], _∷_, _++_}
 use mathlib.Core.Path.{_≡_, refl, sym, ap, ap₂, subst, _∙_}
 use lib.ListN.{length, take, drop, length-drop}
 use lib.Seq.{take-add, take-at, drop-drop, getD-append-add, length-take-le}
-use Rattle.mbus_rules.specs.Lists.{at, total}
-use Rattle.mbus_rules.specs.Writing.{closed}
-use Rattle.mbus_rules.proofs.Laws.ByteLaws.{spell, spell-whole}
-use Rattle.mbus_rules.proofs.Laws.Closing.{Closed}
-use Rattle.mbus_rules.proofs.Laws.FrameLaws.{closed-length, closed-read}
+use Rattle.base_rules.specs.Lists.{at, total}
+use Rattle.base_characters.specs.Closing.{closed}
+use Rattle.base_rules.proofs.Laws.ByteLaws.{spell, spell-whole}
+use Rattle.base_characters.proofs.Laws.Closing.{Closed, closed-length, closed-read}
 use Rattle.cjt_rules.specs.CjtAddresses.{partyBytes}
 use Rattle.cjt_rules.specs.CjtWriting.{frameOf}
 use Rattle.cjt_rules.proofs.Laws.FrameCode.{Framed}

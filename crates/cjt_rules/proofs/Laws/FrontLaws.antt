@@ -9,11 +9,11 @@ use borrow.Author.Tests.{ne-eqb, ltb-false}
 use lib.Dec.{eqb}
 use lib.Count.{onesIn}
 use lib.ListN.{length, replicate, length-append}
-use Rattle.mbus_rules.specs.Lists.{any}
-use Rattle.mbus_rules.specs.Characters.{over, odd, byteOf, carrier}
-use Rattle.mbus_rules.specs.Answers.{Answer, refuse}
-use Rattle.mbus_rules.proofs.Laws.Tests.{neither}
-use Rattle.mbus_rules.proofs.Laws.CharacterLaws.{carrier-byte}
+use Rattle.base_rules.specs.Lists.{any}
+use Rattle.base_characters.specs.Characters.{over, odd, byteOf, carrier}
+use Rattle.base_rules.specs.Answers.{Answer, refuse}
+use Rattle.base_rules.proofs.Laws.Tests.{neither}
+use Rattle.base_characters.proofs.Laws.CharacterLaws.{carrier-byte}
 use Rattle.cjt_rules.specs.CjtFrames.{pastFE}
 use Rattle.cjt_rules.specs.CjtLines.{readCjtFrame, readCjtLine}
 

@@ -8,15 +8,15 @@ use borrow.Author.Tests.{ltb-true, lt-ltb, leb-true, not-false}
 use lib.Dec.{ltb, leb}
 use lib.ListN.{length, drop, length-drop}
 use lib.Seq.{length-take-le}
-use Rattle.mbus_rules.specs.Lists.{at, any}
-use Rattle.mbus_rules.specs.Digits.{overNine, digitsOf, packed}
-use Rattle.mbus_rules.specs.Moments.{daysIn}
-use Rattle.mbus_rules.proofs.Laws.ByteLaws.{spell, spell-whole}
-use Rattle.mbus_rules.proofs.Laws.ListLaws.{any-append}
-use Rattle.mbus_rules.proofs.Laws.DigitLaws.{packed-digits, digits-below, digits-packed, packed-right}
-use Rattle.mbus_rules.proofs.Laws.MomentLaws.{days-below}
-use Rattle.mbus_rules.proofs.Laws.TestLaws.{none, every}
-use Rattle.mbus_rules.proofs.Laws.Tests.{none-at}
+use Rattle.base_rules.specs.Lists.{at, any}
+use Rattle.base_digits.specs.Digits.{overNine, digitsOf, packed}
+use Rattle.base_calendar.specs.Months.{daysIn}
+use Rattle.base_rules.proofs.Laws.ByteLaws.{spell, spell-whole}
+use Rattle.base_rules.proofs.Laws.ListLaws.{any-append}
+use Rattle.base_digits.proofs.Laws.DigitLaws.{packed-digits, digits-below, digits-packed, packed-right}
+use Rattle.base_calendar.proofs.Laws.Months.{days-below}
+use Rattle.base_rules.proofs.Laws.TestLaws.{none, every}
+use Rattle.base_rules.proofs.Laws.Tests.{none-at}
 use Rattle.cjt_rules.specs.declared.CjtClock.{CjtClock}
 use Rattle.cjt_rules.specs.declared.CjtQuantity.{CjtQuantity}
 use Rattle.cjt_rules.specs.declared.CjtAnswer.{CjtAnswer}

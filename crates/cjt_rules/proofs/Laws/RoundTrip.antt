@@ -10,14 +10,13 @@ use borrow.Author.Tests.{eqb-true, ne-eqb, le-ltb}
 use lib.Dec.{eqb}
 use lib.Count.{onesIn}
 use lib.ListN.{length, length-map}
-use Rattle.mbus_rules.specs.Lists.{at, any}
-use Rattle.mbus_rules.specs.Bytes.{Bytes}
-use Rattle.mbus_rules.specs.Characters.{over, odd, byteOf, carrier}
-use Rattle.mbus_rules.specs.Answers.{reads, refusal}
-use Rattle.mbus_rules.proofs.Laws.ByteLaws.{bytes-of}
-use Rattle.mbus_rules.proofs.Laws.LineLaws.{even-line, Carried, carried}
-use Rattle.mbus_rules.proofs.Laws.Tests.{by-test}
-use Rattle.mbus_rules.proofs.Laws.TestLaws.{all-passed, all-passing}
+use Rattle.base_rules.specs.Lists.{at, any}
+use Rattle.base_rules.specs.Bytes.{Bytes}
+use Rattle.base_characters.specs.Characters.{over, odd, byteOf, carrier}
+use Rattle.base_rules.specs.Answers.{reads, refusal}
+use Rattle.base_characters.proofs.Laws.CharacterLaws.{bytes-of, even-line, Carried, carried}
+use Rattle.base_rules.proofs.Laws.Tests.{by-test}
+use Rattle.base_rules.proofs.Laws.TestLaws.{all-passed, all-passing}
 use Rattle.cjt_rules.specs.declared.CjtRequest.{CjtRequest}
 use Rattle.cjt_rules.specs.declared.CjtAnswer.{CjtAnswer}
 use Rattle.cjt_rules.specs.declared.CjtTelegram.{CjtTelegram}

@@ -8,15 +8,15 @@ use borrow.Author.Tests.{eq-eqb, ne-eqb, ltb-true, le-leb, lt-leb, not-false}
 use lib.Dec.{eqb, lit<}
 use lib.ListN.{length, take, drop}
 use lib.Seq.{getD-drop, drop-drop}
-use Rattle.mbus_rules.specs.Lists.{at, any, total}
-use Rattle.mbus_rules.specs.Bytes.{Bytes}
-use Rattle.mbus_rules.specs.Answers.{Answer, reads, refuse}
-use Rattle.mbus_rules.specs.Digits.{overNine, digitsOf, packed}
-use Rattle.mbus_rules.specs.Writing.{closed}
-use Rattle.mbus_rules.proofs.Laws.ByteLaws.{bytes-append}
-use Rattle.mbus_rules.proofs.Laws.Closing.{Closed}
-use Rattle.mbus_rules.proofs.Laws.DigitLaws.{digits-packed, packed-right, length-packed, bytes-packed}
-use Rattle.mbus_rules.proofs.Laws.TestLaws.{none, all-passing}
+use Rattle.base_rules.specs.Lists.{at, any, total}
+use Rattle.base_rules.specs.Bytes.{Bytes}
+use Rattle.base_rules.specs.Answers.{Answer, reads, refuse}
+use Rattle.base_digits.specs.Digits.{overNine, digitsOf, packed}
+use Rattle.base_characters.specs.Closing.{closed}
+use Rattle.base_rules.proofs.Laws.ByteLaws.{bytes-append}
+use Rattle.base_characters.proofs.Laws.Closing.{Closed}
+use Rattle.base_digits.proofs.Laws.DigitLaws.{digits-packed, packed-right, length-packed, bytes-packed}
+use Rattle.base_rules.proofs.Laws.TestLaws.{none, all-passing}
 use Rattle.cjt_rules.specs.declared.CjtAddress.{CjtAddress}
 use Rattle.cjt_rules.specs.declared.CjtAddress.the-variants.{Meter, Broadcast}
 use Rattle.cjt_rules.specs.declared.CjtRequest.{CjtRequest}

@@ -6,9 +6,9 @@ use mathlib.Core.Path.{_≡_, sym, subst}
 use lib.ListN.{length}
 use Rattle.cjt_rules.specs.declared.CjtTelegram.{CjtTelegram}
 use Rattle.cjt_rules.specs.CjtWriting.{bytesOfTelegram, cjtLineOf, unwritten, writeCjtLine}
-use Rattle.mbus_writing.specs.declared.Written.{Written}
-use Rattle.mbus_writing.specs.declared.Written.the-variants.{Refused}
-use Rattle.mbus_writing.specs.Answering.{Writes, carriedIn}
+use Rattle.base_characters.specs.declared.carrying.Written.{Written}
+use Rattle.base_characters.specs.declared.carrying.Written.the-variants.{Refused}
+use Rattle.base_characters.specs.Carrying.{Writes, carriedIn}
 
 module _ (t : CjtTelegram) (before : List ℕ) where
   pub not-written : unwritten t ≡ true → Writes (writeCjtLine t (length before)) before before (Refused 20)

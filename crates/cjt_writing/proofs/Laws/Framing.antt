@@ -4,12 +4,12 @@ use mathlib.Core.List.{List, [], _∷_, _++_}
 use mathlib.Core.Path.{_≡_, refl, sym, ap, _∙_}
 use native.Mathlib.Omega.{arith}
 use lib.ListN.{length, length-append}
-use Rattle.bytes_lent.specs.Copying.{copied}
-use Rattle.bytes_lent.specs.Pieces.{pieces}
-use Rattle.bytes_lent.proofs.Laws.Copying.{copied-on, copied-full}
-use Rattle.mbus_rules.specs.Digits.{packed}
-use Rattle.mbus_rules.specs.Lists.{at, total}
-use Rattle.mbus_rules.specs.Writing.{closed}
+use Rattle.base_lent.specs.Copying.{copied}
+use Rattle.base_lent.specs.Pieces.{pieces}
+use Rattle.base_lent.proofs.Laws.Copying.{copied-on, copied-full}
+use Rattle.base_digits.specs.Digits.{packed}
+use Rattle.base_rules.specs.Lists.{at, total}
+use Rattle.base_characters.specs.Closing.{closed}
 use Rattle.cjt_rules.specs.declared.CjtAddress.{CjtAddress}
 use Rattle.cjt_rules.specs.declared.CjtAddress.the-variants.{Meter, Broadcast}
 use Rattle.cjt_rules.specs.declared.CjtAnswer.{CjtAnswer}

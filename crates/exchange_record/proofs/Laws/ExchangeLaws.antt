@@ -8,9 +8,9 @@ use borrow.Author.Tests.{not-false}
 use lib.ListN.{length, length-append}
 use Rattle.mbus_rules.specs.declared.Request.{Request}
 use Rattle.mbus_rules.specs.declared.Request.the-variants.{Read, Enter, Leave}
-use Rattle.mbus_rules.specs.Answers.{Answer, reads, refusal, refuse, within, follow}
-use Rattle.mbus_rules.specs.Lists.{at}
-use Rattle.mbus_rules.proofs.Laws.Tests.{passed}
+use Rattle.base_rules.specs.Answers.{Answer, reads, refusal, refuse, within, follow}
+use Rattle.base_rules.specs.Lists.{at}
+use Rattle.base_rules.proofs.Laws.Tests.{passed}
 use Rattle.exchange_steps.specs.declared.Cause.{Cause}
 use Rattle.exchange_steps.specs.declared.Cause.the-variants.{Silent, Damaged, WrongKind}
 use Rattle.exchange_steps.specs.declared.State.{State}
@@ -21,13 +21,13 @@ use Rattle.exchange_steps.specs.declared.Bench.the-variants.{Idle, Busy}
 use Rattle.exchange_steps.specs.declared.Stepped.{Stepped}
 use Rattle.exchange_steps.specs.declared.Stepped.the-variants as steps
 use Rattle.exchange_steps.specs.Steps.{shownStep}
-use Rattle.bytes_numbers.specs.Numbers.{bytesOf}
-use Rattle.bytes_numbers.proofs.Laws.Numbers.{number-bytes}
-use Rattle.bytes_numbers.specs.Records.{recordOf}
-use Rattle.host_records.specs.Recorded.{noRecord, recorded}
-use Rattle.host_records.proofs.Laws.Recorded.{record-read, record-written, record-same, record-differs, wrong-size}
-use Rattle.bytes_lent.specs.Same.{same}
-use Rattle.bytes_lent.proofs.Laws.Same.{same-equal, same-itself, same-not}
+use Rattle.base_numbers.specs.Numbers.{bytesOf}
+use Rattle.base_numbers.proofs.Laws.Numbers.{number-bytes}
+use Rattle.base_numbers.specs.Records.{recordOf}
+use Rattle.base_lent.specs.Recorded.{noRecord, recorded}
+use Rattle.base_lent.proofs.Laws.Recorded.{record-read, record-written, record-same, record-differs, wrong-size}
+use Rattle.base_lent.specs.Same.{same}
+use Rattle.base_lent.proofs.Laws.Same.{same-equal, same-itself, same-not}
 use Rattle.exchange_record.specs.declared.Taken.the-variants.{Is, Refused}
 use Rattle.exchange_record.specs.Exchanges.{requestBytes, causeNumber, stateNumber, causeIn, exchangeHead, exchangeBytes, causeOfNumber, stateOf}
 use Rattle.exchange_record.specs.Exchanges.{exchangeIn, reached, exchangeFrom, noneBytes, benchBytes, benchFrom, shownBench}

@@ -11,7 +11,7 @@ use Rattle.bench_clock.proofs.Laws.Times.{le-late}
 use Rattle.mbus_rules.specs.declared.Request.{Request}
 use Rattle.mbus_rules.specs.declared.View.{View}
 use Rattle.mbus_rules.specs.declared.View.the-variants as views
-use Rattle.mbus_rules.specs.Answers.{Answer, reads, refusal}
+use Rattle.base_rules.specs.Answers.{Answer, reads, refusal}
 use Rattle.exchange_steps.specs.declared.Cause.{Cause}
 use Rattle.exchange_steps.specs.declared.Cause.the-variants.{Silent}
 use Rattle.exchange_steps.specs.declared.State.{State}
@@ -20,8 +20,7 @@ use Rattle.exchange_steps.specs.declared.Exchange.{Exchange}
 use Rattle.exchange_steps.specs.declared.Bench.{Bench}
 use Rattle.exchange_steps.specs.declared.Bench.the-variants.{Idle, Busy}
 use Rattle.exchange_replies.specs.Fits.{fits}
-use Rattle.exchange_steps.specs.Steps.{mostSends, failed, causeOf, afterLine, afterTick, waits, sending, moved, past, heardOn, tickOn}
-use Rattle.exchange_steps.specs.Steps.{sendEndedOn}
+use Rattle.exchange_steps.specs.Steps.{mostSends, failed, causeOf, afterLine, afterTick, waits, sending, moved, past, heardOn, tickOn, sendEndedOn}
 use Rattle.exchange_steps.proofs.Laws.Steps.{asks-few, step-cases, send-cases}
 use Rattle.exchange_record.specs.Exchanges.{failsBy, standsAt, reached}
 use Rattle.exchange_record.proofs.Laws.ExchangeLaws.{Fits}

@@ -19,10 +19,10 @@ use Rattle.mbus_rules.specs.declared.Value.the-variants.{Number, Time}
 use Rattle.mbus_rules.specs.declared.View.{View}
 use Rattle.mbus_rules.specs.declared.View.the-variants as views
 use Rattle.mbus_rules.specs.declared.Entry.{Entry}
-use Rattle.mbus_rules.specs.Answers.{Answer, reads, refusal}
-use Rattle.mbus_rules.specs.Characters.{odd}
+use Rattle.base_rules.specs.Answers.{Answer, reads, refusal}
+use Rattle.base_characters.specs.Characters.{odd}
 use Rattle.mbus_rules.specs.Lines.{readLine, readBody}
-use Rattle.mbus_rules.specs.Lists.{any, total}
+use Rattle.base_rules.specs.Lists.{any, total}
 use Rattle.mbus_rules.specs.Quantities.{quantityOf, widthOf, paired}
 use Rattle.mbus_rules.proofs.Laws.RoundTrip.{write-then-read}
 use Rattle.mbus_rules.specs.Telegrams.{readOf, enterOf, leaveOf, dataOf}

@@ -2,7 +2,7 @@
 use mathlib.Core.Path.{refl}
 use mathlib.Core.List.{[], _∷_}
 use lib.ListN.{replicate}
-use Rattle.bytes_numbers.proofs.Laws.RecordLaws.{record-made}
+use Rattle.base_numbers.proofs.Laws.RecordLaws.{record-made}
 use Rattle.exchange_record.specs.Exchanges.{exchangeHead, exchangeBytes}
 use borrow.Author.Needs.{needs}
 use Rattle.exchange_record.proofs.exchange_bytes.Statement.{statement}

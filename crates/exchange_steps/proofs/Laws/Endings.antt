@@ -13,7 +13,7 @@ use Rattle.bench_clock.proofs.Laws.Times.{late-false}
 use Rattle.mbus_rules.specs.declared.Request.{Request}
 use Rattle.mbus_rules.specs.declared.Telegram.{Telegram}
 use Rattle.mbus_rules.specs.declared.View.{View}
-use Rattle.mbus_rules.specs.Answers.{Answer, reads, refusal}
+use Rattle.base_rules.specs.Answers.{Answer, reads, refusal}
 use Rattle.mbus_rules.specs.Lines.{readLine}
 use Rattle.mbus_rules.specs.Views.{viewed}
 use Rattle.exchange_steps.specs.declared.Cause.{Cause}

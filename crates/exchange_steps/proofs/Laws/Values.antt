@@ -1,8 +1,8 @@
 -- Laws of `specs/Values`.
 use mathlib.Core.Path.{_≡_, refl}
 use lib.Count.{onesIn}
-use Rattle.mbus_rules.specs.Characters.{odd}
-use Rattle.mbus_rules.specs.Lists.{any}
+use Rattle.base_characters.specs.Characters.{odd}
+use Rattle.base_rules.specs.Lists.{any}
 use Rattle.mbus_rules.specs.Lines.{readLine, readBody}
 use Rattle.exchange_steps.specs.declared.Cause.the-variants.{Silent}
 use Rattle.exchange_steps.specs.declared.State.the-variants.{Resend, Well}

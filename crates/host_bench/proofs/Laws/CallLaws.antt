@@ -15,11 +15,11 @@ use Rattle.bench_clock.specs.declared.Wake.{Wake}
 use Rattle.bench_clock.specs.declared.Wake.the-variants as wakes
 use Rattle.bench_clock.specs.Gaps.{shownGap}
 use Rattle.bench_clock.specs.Wakes.{wakeLine, shownWake}
-use Rattle.mbus_rules.specs.Answers.{Answer, reads, refusal}
+use Rattle.base_rules.specs.Answers.{Answer, reads, refusal}
 use Rattle.bench_indication.specs.declared.Indication.{Indication}
 use Rattle.bench_indication.specs.declared.Indication.the-variants as indications
 use Rattle.bench_indication.specs.Errors.{indicationOf, shownIndication}
-use Rattle.bytes_lent.specs.Lent.{told, done, stored, Leaves}
+use Rattle.base_lent.specs.Lent.{told, done, stored, Leaves}
 use Rattle.host_bench.specs.Calls.{errorFor}
 
 -- ---- gap and wake-up

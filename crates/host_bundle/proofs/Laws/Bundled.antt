@@ -2,18 +2,18 @@
 use Prim.Native.Nat.{ℕ, _+_}
 use mathlib.Core.List.{List}
 use mathlib.Core.Path.{_≡_, sym, _∙_}
-use Rattle.mbus_rules.specs.Answers.{reads, refusal}
+use Rattle.base_rules.specs.Answers.{reads, refusal}
 use Rattle.bundle_check.specs.Records.{Recorded}
 use Rattle.bundle_adding.specs.declared.Added.{Added}
 use Rattle.bundle_adding.specs.declared.Added.the-variants as added
 use Rattle.bundle_adding.specs.Adding.{addOf}
 use Rattle.bundle_adding.specs.Shown.{Adds}
 use Rattle.bundle_adding.proofs.Laws.Shown.{shownAdded-same}
-use Rattle.listing_text.specs.declared.Listed.{Listed}
-use Rattle.listing_text.specs.declared.Listed.the-variants as listed
-use Rattle.listing_text.specs.Listings.{listingOf}
-use Rattle.listing_text.specs.Shown as listing
-use Rattle.listing_text.proofs.Laws.Shown as listing-laws
+use Rattle.run_listing.specs.declared.Listed.{Listed}
+use Rattle.run_listing.specs.declared.Listed.the-variants as listed
+use Rattle.run_listing.specs.Listings.{listingOf}
+use Rattle.run_listing.specs.Shown as listing
+use Rattle.run_listing.proofs.Laws.Shown as listing-laws
 use Rattle.host_bundle.proofs.Laws.Lent.{gives-value, gives-number}
 use Rattle.host_bundle.specs.Bundled.{AddsIn, ListsIn}
 

@@ -2,9 +2,9 @@
 use Prim.Native.Nat.{ℕ, _+_}
 use mathlib.Core.List.{List}
 use mathlib.Core.Path.{_≡_, refl, sym, ap, _∙_}
-use Rattle.mbus_rules.specs.Answers.{Answer, reads, refusal}
-use Rattle.mbus_rules.proofs.Laws.TestLaws.{not-refused}
-use Rattle.bytes_lent.specs.Lent.{told, done, Leaves}
+use Rattle.base_rules.specs.Answers.{Answer, reads, refusal}
+use Rattle.base_rules.proofs.Laws.TestLaws.{not-refused}
+use Rattle.base_lent.specs.Lent.{told, done, Leaves}
 use Rattle.bundle_check.specs.declared.Checked.{Checked}
 use Rattle.bundle_check.specs.declared.Checked.the-variants as checked
 use Rattle.bundle_check.proofs.Laws.Shown.{shownChecked-same}

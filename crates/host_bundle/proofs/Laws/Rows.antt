@@ -7,13 +7,13 @@ use native.Mathlib.Omega.{arith}
 use borrow.Author.Tests.{ltb-false}
 use lib.Dec.{ltb}
 use lib.ListN.{length, take, drop}
-use Rattle.mbus_rules.specs.Lists.{at}
-use Rattle.mbus_rules.specs.Answers.{Answer, reads, refusal}
-use Rattle.bytes_numbers.specs.Numbers.{number, bytesOf}
-use Rattle.bytes_numbers.proofs.Laws.Numbers.{number-bytes}
-use Rattle.bytes_lent.specs.Copying.{copied}
-use Rattle.bytes_lent.specs.Lent.{done, needs}
-use Rattle.bytes_lent.proofs.Laws.LentLaws.{leaves-all, leaves-copied}
+use Rattle.base_rules.specs.Lists.{at}
+use Rattle.base_rules.specs.Answers.{Answer, reads, refusal}
+use Rattle.base_numbers.specs.Numbers.{number, bytesOf}
+use Rattle.base_numbers.proofs.Laws.Numbers.{number-bytes}
+use Rattle.base_lent.specs.Copying.{copied}
+use Rattle.base_lent.specs.Lent.{done, needs}
+use Rattle.base_lent.proofs.Laws.LentLaws.{leaves-all, leaves-copied}
 use Rattle.bundle_rows.specs.declared.Row.{Row}
 use Rattle.bundle_check.specs.declared.rows.RowFound.{RowFound}
 use Rattle.bundle_check.specs.declared.rows.RowFound.the-variants.{Fields, Refused}

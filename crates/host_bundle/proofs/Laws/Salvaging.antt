@@ -7,12 +7,12 @@ use native.Mathlib.Omega.{arith}
 use borrow.Author.Tests.{ltb-false}
 use lib.Dec.{ltb}
 use lib.ListN.{length}
-use Rattle.mbus_rules.specs.Answers.{Answer, reads, refusal}
-use Rattle.bytes_lent.specs.Copying.{copied}
-use Rattle.bytes_lent.specs.Lent.{stored, done, Leaves}
-use Rattle.bytes_lent.proofs.Laws.LentLaws.{leaves-all, leaves-copied}
-use Rattle.bytes_numbers.specs.Records.{wordsOf, recordOf}
-use Rattle.bytes_numbers.proofs.Laws.RecordLaws.{record-length}
+use Rattle.base_rules.specs.Answers.{Answer, reads, refusal}
+use Rattle.base_lent.specs.Copying.{copied}
+use Rattle.base_lent.specs.Lent.{stored, done, Leaves}
+use Rattle.base_lent.proofs.Laws.LentLaws.{leaves-all, leaves-copied}
+use Rattle.base_numbers.specs.Records.{wordsOf, recordOf}
+use Rattle.base_numbers.proofs.Laws.RecordLaws.{record-length}
 use Rattle.bundle_salvage.specs.declared.Salvaged.{Salvaged}
 use Rattle.bundle_salvage.specs.declared.SalvageTold.{SalvageTold}
 use Rattle.bundle_salvage.specs.declared.SalvageTold.the-variants.{Told, Refused}

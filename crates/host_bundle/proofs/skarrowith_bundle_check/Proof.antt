@@ -2,7 +2,7 @@
 use borrow.Author.Needs.{needs}
 use mathlib.Core.Path.{sym, _∙_}
 use denote.Ref.{now}
-use Rattle.mbus_rules.specs.Answers.{reads, refusal}
+use Rattle.base_rules.specs.Answers.{reads, refusal}
 use Rattle.bundle_check.specs.Bundles.{checkOf}
 use Rattle.bundle_check.proofs.Laws.Shown.{shownChecked-same}
 use Rattle.host_bundle.proofs.Laws.Lent.{gives-value, gives-number}

@@ -5,17 +5,17 @@ use mathlib.Core.List.{List, [], _∷_, append-nil}
 use mathlib.Core.Path.{_≡_, refl, sym, ap, _∙_}
 use lib.Dec.{ltb}
 use lib.ListN.{length}
-use Rattle.mbus_rules.specs.Answers.{reads, refusal}
-use Rattle.mbus_whole.specs.declared.HowLong.{HowLong}
+use Rattle.base_rules.specs.Answers.{reads, refusal}
+use Rattle.mbus_length.specs.declared.HowLong.{HowLong}
 use Rattle.mbus_after.specs.declared.FoundAfter.{FoundAfter}
 use Rattle.mbus_after.specs.declared.FoundAfter.the-variants as founds
 use Rattle.mbus_after.specs.After.{TimedSpot, timedAt, findAfter, afterShown}
 use Rattle.mbus_after.proofs.Laws.Meaning.{after-same}
-use Rattle.bytes_numbers.specs.Records.{wordsOf, recordOf}
-use Rattle.bytes_numbers.proofs.Laws.RecordLaws.{record-length}
-use Rattle.bytes_lent.specs.Copying.{copied}
-use Rattle.bytes_lent.specs.Lent.{done}
-use Rattle.bytes_lent.proofs.Laws.LentLaws.{leaves-all}
+use Rattle.base_numbers.specs.Records.{wordsOf, recordOf}
+use Rattle.base_numbers.proofs.Laws.RecordLaws.{record-length}
+use Rattle.base_lent.specs.Copying.{copied}
+use Rattle.base_lent.specs.Lent.{done}
+use Rattle.base_lent.proofs.Laws.LentLaws.{leaves-all}
 use Rattle.host_search.proofs.Laws.Finding.{record-short, record-kept}
 use Rattle.host_capture.specs.Calls.{lengthNumber, lengthLeft, TellsLength, timedBytes, FindsAfter}
 

@@ -8,8 +8,9 @@ use Rattle.mbus_rules.specs.declared.Kind.{Kind}
 use Rattle.mbus_rules.specs.declared.Kind.the-variants.{Ack, Read, Enter, Leave, Data}
 use Rattle.mbus_rules.specs.declared.Telegram.{Telegram}
 use Rattle.mbus_rules.specs.declared.View.{View}
-use Rattle.mbus_rules.specs.Answers.{Answer, reads, refusal}
-use Rattle.mbus_rules.specs.Host.{chars, kindNumber, lineNumber, hostNumber}
+use Rattle.base_rules.specs.Answers.{Answer, reads, refusal}
+use Rattle.base_characters.specs.Characters.{chars}
+use Rattle.mbus_rules.specs.Host.{kindNumber, lineNumber, hostNumber}
 use Rattle.mbus_rules.specs.Lines.{readLine}
 use Rattle.mbus_rules.specs.Views.{viewOf, viewed}
 use Rattle.host_check.specs.Numbers.{viewNumber}

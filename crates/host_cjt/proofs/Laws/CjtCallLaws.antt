@@ -8,13 +8,13 @@ use borrow.Author.Tests.{ltb-false}
 use lib.Dec.{ltb}
 use lib.ListN.{length}
 use Rattle.mbus_rules.specs.declared.Entry.{Entry}
-use Rattle.mbus_rules.specs.Answers.{Answer, reads, refusal, refuse, within}
-use Rattle.mbus_writing.specs.declared.Written.{Written}
-use Rattle.mbus_writing.specs.declared.Written.the-variants as writtens
-use Rattle.mbus_writing.specs.Answering.{shownWritten, Writes}
-use Rattle.bytes_lent.specs.Copying.{copied}
-use Rattle.bytes_lent.specs.Lent.{told, done, Leaves}
-use Rattle.bytes_lent.proofs.Laws.LentLaws.{leaves-all, leaves-copied}
+use Rattle.base_rules.specs.Answers.{Answer, reads, refusal, refuse, within}
+use Rattle.base_characters.specs.declared.carrying.Written.{Written}
+use Rattle.base_characters.specs.declared.carrying.Written.the-variants as writtens
+use Rattle.base_characters.specs.Carrying.{shownWritten, Writes}
+use Rattle.base_lent.specs.Copying.{copied}
+use Rattle.base_lent.specs.Lent.{told, done, Leaves}
+use Rattle.base_lent.proofs.Laws.LentLaws.{leaves-all, leaves-copied}
 use Rattle.cjt_rules.specs.declared.CjtTelegram.{CjtTelegram}
 use Rattle.cjt_rules.specs.declared.CjtTelegram.the-variants as telegrams
 use Rattle.cjt_rules.specs.declared.CjtReading.{CjtReading}
@@ -26,9 +26,9 @@ use Rattle.cjt_energy.specs.declared.Converted.{Converted}
 use Rattle.cjt_energy.specs.declared.Converted.the-variants.{To, Refused}
 use Rattle.cjt_energy.specs.Energies.{entryFor, shownEntry}
 use Rattle.cjt_energy.proofs.Laws.Energies.{shownEntry-same}
-use Rattle.host_records.specs.Telegrams.{entryBytes}
-use Rattle.host_records.proofs.Laws.TelegramLaws.{entry-length}
-use Rattle.host_cjt_records.specs.CjtRecords.{cjtFrom}
+use Rattle.mbus_records.specs.Telegrams.{entryBytes}
+use Rattle.mbus_records.proofs.Laws.TelegramLaws.{entry-length}
+use Rattle.cjt_records.specs.CjtRecords.{cjtFrom}
 use Rattle.host_cjt.specs.CjtCalls.{writeCjtFor, entrySize, entryCjtFor}
 
 -- ---- an energy as an entry

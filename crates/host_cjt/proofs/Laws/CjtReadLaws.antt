@@ -6,11 +6,11 @@ use mathlib.Core.Path.{_≡_, refl, sym, ap, subst, _∙_}
 use borrow.Author.Tests.{eq-eqb, ne-eqb, ltb-false}
 use lib.Dec.{ltb}
 use lib.ListN.{length}
-use Rattle.mbus_rules.specs.Answers.{Answer, reads, refusal}
-use Rattle.mbus_rules.specs.Host.{chars}
-use Rattle.bytes_lent.specs.Copying.{copied}
-use Rattle.bytes_lent.specs.Lent.{Leaves}
-use Rattle.bytes_lent.proofs.Laws.LentLaws.{none-copied, leaves-all, leaves-copied}
+use Rattle.base_rules.specs.Answers.{Answer, reads, refusal}
+use Rattle.base_characters.specs.Characters.{chars}
+use Rattle.base_lent.specs.Copying.{copied}
+use Rattle.base_lent.specs.Lent.{Leaves}
+use Rattle.base_lent.proofs.Laws.LentLaws.{none-copied, leaves-all, leaves-copied}
 use Rattle.cjt_rules.specs.declared.CjtTelegram.{CjtTelegram}
 use Rattle.cjt_rules.specs.declared.CjtTelegram.the-variants as telegrams
 use Rattle.cjt_rules.specs.declared.CjtReading.{CjtReading}
@@ -20,8 +20,8 @@ use Rattle.cjt_rules.specs.declared.CjtView.the-variants as views
 use Rattle.cjt_rules.specs.CjtLines.{readCjtLine}
 use Rattle.cjt_rules.specs.CjtViews.{cjtShown, cjtViewed}
 use Rattle.cjt_rules.specs.CjtHost.{cjtKindNumber, cjtLineNumber, cjtHostNumber}
-use Rattle.host_cjt_records.specs.CjtRecords.{cjtBytes}
-use Rattle.host_cjt_records.proofs.Laws.CjtRecordLaws.{cjt-length}
+use Rattle.cjt_records.specs.CjtRecords.{cjtBytes}
+use Rattle.cjt_records.proofs.Laws.CjtRecordLaws.{cjt-length}
 use Rattle.host_cjt.specs.CjtCalls.{readCjtFor}
 use Rattle.host_cjt.proofs.Laws.CjtCallLaws.{reading-refused, reading-read}
 

@@ -11,8 +11,8 @@ use Rattle.mbus_either.specs.declared.EitherFound.{EitherFound}
 use Rattle.mbus_either.specs.declared.EitherFound.the-variants.{At, Refused}
 use Rattle.mbus_either.specs.Interfaces.{liveOn, findEither, eitherShown}
 use Rattle.mbus_either.proofs.Laws.Lines.{none-live, live-on}
-use Rattle.bytes_lent.specs.Copying.{copied}
-use Rattle.bytes_lent.proofs.Laws.LentLaws.{leaves-all}
+use Rattle.base_lent.specs.Copying.{copied}
+use Rattle.base_lent.proofs.Laws.LentLaws.{leaves-all}
 use Rattle.host_search.specs.Finding.{spotBytes}
 use Rattle.host_search.proofs.Laws.Finding.{spot-short, spot-kept}
 use Rattle.host_either.specs.Finding.{interfaceNumber, lineInterface, lineBytes, FindsEither}

@@ -10,9 +10,9 @@ use lib.ListN.{length}
 use Rattle.bench_clock.specs.declared.Clock.{Clock}
 use Rattle.mbus_rules.specs.declared.Kind.{Kind}
 use Rattle.mbus_rules.specs.declared.Telegram.{Telegram}
-use Rattle.mbus_rules.specs.Answers.{Answer, reads, refusal}
+use Rattle.base_rules.specs.Answers.{Answer, reads, refusal}
 use Rattle.mbus_rules.specs.Lines.{readLine}
-use Rattle.mbus_rules.specs.Lists.{at}
+use Rattle.base_rules.specs.Lists.{at}
 use Rattle.mbus_rules.specs.Telegrams.{bare, blank, shown}
 use Rattle.exchange_steps.specs.declared.State.{State}
 use Rattle.exchange_steps.specs.declared.State.the-variants.{Waiting, Resend, Well, Failed}
@@ -23,12 +23,12 @@ use Rattle.exchange_steps.specs.declared.Stepped.{Stepped}
 use Rattle.exchange_steps.specs.declared.Stepped.the-variants.{To, Refused}
 use Rattle.exchange_steps.specs.Steps.{shownStep, isWell, endsWell, heardOf}
 use Rattle.exchange_steps.specs.Histories.{Step, sendEnded, heard, answer}
-use Rattle.bytes_lent.proofs.Laws.Copying.{laid-length}
-use Rattle.bytes_lent.specs.Copying.{copied}
-use Rattle.bytes_lent.specs.Lent.{told, stored}
-use Rattle.bytes_lent.proofs.Laws.LentLaws.{all-copied, leaves-all, leaves-copied}
+use Rattle.base_lent.proofs.Laws.Copying.{laid-length}
+use Rattle.base_lent.specs.Copying.{copied}
+use Rattle.base_lent.specs.Lent.{told, stored}
+use Rattle.base_lent.proofs.Laws.LentLaws.{all-copied, leaves-all, leaves-copied}
 use Rattle.mbus_telegrams.specs.Kinds.{kindIn}
-use Rattle.host_records.specs.Telegrams.{telegramSize, telegramBytes}
+use Rattle.mbus_records.specs.Telegrams.{telegramSize, telegramBytes}
 use Rattle.exchange_record.specs.declared.Taken.{Taken}
 use Rattle.exchange_record.specs.declared.Taken.the-variants as taken
 use Rattle.exchange_record.specs.Exchanges.{stateNumber, exchangeSize, exchangeBytes, benchFrom, shownBench}

@@ -5,14 +5,14 @@ use mathlib.Core.List.{List, [], _∷_}
 use mathlib.Core.Path.{_≡_, refl, sym, ap, _∙_}
 use borrow.Author.Tests.{le-ltb}
 use lib.ListN.{length}
-use Rattle.mbus_rules.specs.Answers.{Answer, reads, refusal, refuse, follow}
+use Rattle.base_rules.specs.Answers.{Answer, reads, refusal, refuse, follow}
 use Rattle.exchange_steps.specs.declared.Exchange.{Exchange}
 use Rattle.exchange_steps.specs.declared.Bench.{Bench}
 use Rattle.exchange_steps.specs.declared.Bench.the-variants.{Idle}
 use Rattle.exchange_steps.specs.Histories.{Step, heard, answer, stands, next, run, after}
-use Rattle.bytes_lent.proofs.Laws.Copying.{laid-full}
-use Rattle.bytes_lent.specs.Lent.{stored}
-use Rattle.host_records.specs.Telegrams.{telegramSize}
+use Rattle.base_lent.proofs.Laws.Copying.{laid-full}
+use Rattle.base_lent.specs.Lent.{stored}
+use Rattle.mbus_records.specs.Telegrams.{telegramSize}
 use Rattle.exchange_record.specs.Exchanges.{exchangeBytes, noneBytes, benchBytes, benchFrom}
 use Rattle.exchange_record.proofs.Laws.ExchangeLaws.{exchange-length, bench-length}
 use Rattle.exchange_record.proofs.Laws.Reached.{GoodBy}

@@ -8,22 +8,22 @@ use borrow.Author.Tests.{ltb-false}
 use lib.Dec.{ltb}
 use lib.ListN.{length}
 use Rattle.mbus_rules.specs.declared.Kind.{Kind}
-use Rattle.mbus_rules.specs.declared.Outcome.the-variants.{Accepted, Refused}
+use Rattle.base_rules.specs.declared.Outcome.the-variants.{Accepted, Refused}
 use Rattle.mbus_rules.specs.declared.Reading.{Reading}
 use Rattle.mbus_rules.specs.declared.Telegram.{Telegram}
-use Rattle.mbus_rules.specs.Answers.{Answer, reads, refusal, refuse, within}
+use Rattle.base_rules.specs.Answers.{Answer, reads, refusal, refuse, within}
 use Rattle.mbus_rules.specs.Lines.{readLine}
 use Rattle.mbus_rules.proofs.Laws.RoundTrip.{longest-line}
 use Rattle.mbus_rules.specs.Telegrams.{bare, shown}
 use Rattle.mbus_rules.specs.Writing.{lineOf, unwritable, writeLine, longest}
-use Rattle.mbus_writing.specs.declared.Written.{Written}
-use Rattle.mbus_writing.specs.declared.Written.the-variants as writtens
+use Rattle.base_characters.specs.declared.carrying.Written.{Written}
+use Rattle.base_characters.specs.declared.carrying.Written.the-variants as writtens
 use Rattle.mbus_writing.specs.Answering as answering
-use Rattle.bytes_lent.specs.Copying.{copied}
-use Rattle.bytes_lent.specs.Lent.{told, needs, Leaves}
-use Rattle.bytes_lent.proofs.Laws.LentLaws.{none-copied, leaves-copied}
+use Rattle.base_lent.specs.Copying.{copied}
+use Rattle.base_lent.specs.Lent.{told, needs, Leaves}
+use Rattle.base_lent.proofs.Laws.LentLaws.{none-copied, leaves-copied}
 use Rattle.mbus_telegrams.specs.Kinds.{kindIn}
-use Rattle.host_records.specs.Telegrams.{telegramSize, telegramBytes, telegramFrom}
+use Rattle.mbus_records.specs.Telegrams.{telegramSize, telegramBytes, telegramFrom}
 use Rattle.host_lines.specs.Calls.{readFor, kindOf, writeFor, requestFor}
 
 -- ---- what is stored

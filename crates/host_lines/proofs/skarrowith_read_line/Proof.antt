@@ -1,7 +1,7 @@
 -- `host_lines::skarrowith_read_line` meets its contract. Assumes nothing.
 use borrow.Author.Needs.{needs}
 use denote.Ref.{now}
-use Rattle.host_records.specs.Telegrams.{telegramBytes}
+use Rattle.mbus_records.specs.Telegrams.{telegramBytes}
 use Rattle.host_lines.specs.Calls.{kindOf}
 use Rattle.host_lines.proofs.Laws.CallLaws.{line-refused, line-read, placed-short, placed-whole}
 use Rattle.host_lines.proofs.skarrowith_read_line.Statement.{statement}

@@ -8,14 +8,14 @@ use borrow.Author.Tests.{lt-ltb, le-ltb, ltb-false}
 use lib.Dec.{eqb, ltb}
 use lib.IntN.{subℕ}
 use lib.ListN.{length}
-use Rattle.mbus_rules.specs.Answers.{reads, refusal}
-use Rattle.mbus_rules.specs.Binary.{binaryBytes}
-use Rattle.mbus_rules.specs.Numbers.{bytesOf}
+use Rattle.base_rules.specs.Answers.{reads, refusal}
+use Rattle.base_numbers.specs.TwosComplement.{binaryBytes}
+use Rattle.base_numbers.specs.Numbers.{bytesOf}
 use Rattle.mbus_rules.specs.declared.UnitRow.{UnitRow}
 use Rattle.mbus_rules.specs.Quantities.{rowOf, quantityOf, unitOf, powerOf, unknown}
-use Rattle.bytes_lent.specs.Copying.{copied}
-use Rattle.bytes_lent.specs.Lent.{done, Leaves}
-use Rattle.bytes_lent.proofs.Laws.LentLaws.{leaves-all, leaves-copied, none-copied}
+use Rattle.base_lent.specs.Copying.{copied}
+use Rattle.base_lent.specs.Lent.{done, Leaves}
+use Rattle.base_lent.proofs.Laws.LentLaws.{leaves-all, leaves-copied, none-copied}
 use Rattle.host_meaning.specs.Meanings.{meant, meaningBytes, meaningFor}
 
 -- ---- a number less another, each a byte

@@ -7,11 +7,11 @@ use native.Mathlib.Omega.{arith}
 use lib.Dec.{ltb}
 use lib.ListN.{length}
 use Rattle.bench_clock.specs.declared.Clock.{Clock}
-use Rattle.mbus_rules.specs.declared.Outcome.{Outcome}
-use Rattle.mbus_rules.specs.declared.Outcome.the-variants as outcomes
+use Rattle.base_rules.specs.declared.Outcome.{Outcome}
+use Rattle.base_rules.specs.declared.Outcome.the-variants as outcomes
 use Rattle.mbus_rules.specs.declared.Reading.{Reading}
 use Rattle.mbus_rules.specs.declared.Telegram.{Telegram}
-use Rattle.mbus_rules.specs.Answers.{Answer, reads, refusal}
+use Rattle.base_rules.specs.Answers.{Answer, reads, refusal}
 use Rattle.mbus_rules.specs.Telegrams.{shown}
 use Rattle.meter_steps.specs.declared.Meter.{Meter}
 use Rattle.meter_steps.specs.declared.Reply.{Reply}
@@ -22,10 +22,10 @@ use Rattle.meter_steps.specs.Meters.{Said, silence, says, Deed, setUp, heardAt,
 use Rattle.meter_record.specs.Leaving.{leaves}
 use Rattle.meter_record.specs.MeterRecords.{meterSize, meterBytes, meterFrom}
 use Rattle.meter_record.proofs.Laws.Recalling.{read-size}
-use Rattle.bytes_lent.specs.Copying.{copied}
-use Rattle.bytes_lent.specs.Lent.{told, done, stored}
-use Rattle.bytes_lent.proofs.Laws.LentLaws.{all-copied, leaves-all, leaves-copied}
-use Rattle.host_records.specs.Telegrams.{telegramSize, telegramBytes, telegramFrom}
+use Rattle.base_lent.specs.Copying.{copied}
+use Rattle.base_lent.specs.Lent.{told, done, stored}
+use Rattle.base_lent.proofs.Laws.LentLaws.{all-copied, leaves-all, leaves-copied}
+use Rattle.mbus_records.specs.Telegrams.{telegramSize, telegramBytes, telegramFrom}
 use Rattle.host_meter.specs.Calls.{setUpFor, lineHeardFor, measureFor, saidNumber, SetsUp, Steps, saidBytes, HearsLine}
 use Rattle.host_meter.specs.Kept.{answerIn, numberBy, keptBy, saidBy, Kept}
 

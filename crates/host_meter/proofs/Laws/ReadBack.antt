@@ -8,8 +8,8 @@ use lib.ListN.{length, take, drop, drop-of-length-le}
 use lib.Seq.{take-at}
 use Rattle.bench_clock.specs.declared.Clock.{Clock}
 use Rattle.mbus_rules.specs.declared.Telegram.{Telegram}
-use Rattle.mbus_rules.specs.Answers.{Answer, reads, refusal, follow}
-use Rattle.mbus_rules.proofs.Laws.Tests.{passed}
+use Rattle.base_rules.specs.Answers.{Answer, reads, refusal, follow}
+use Rattle.base_rules.proofs.Laws.Tests.{passed}
 use Rattle.meter_steps.specs.declared.Meter.{Meter}
 use Rattle.meter_steps.specs.Meters.{Deed, setUp, heardAt, measuredAt}
 use Rattle.meter_record.specs.Leaving.{leaves}
@@ -17,8 +17,8 @@ use Rattle.meter_record.proofs.Laws.Keeping.{set-up-good, heard-good, measured-
 use Rattle.meter_record.specs.MeterRecords.{meterSize, meterBytes, meterFrom}
 use Rattle.meter_record.proofs.Laws.Recalling.{read-size}
 use Rattle.meter_record.proofs.Laws.RecordLaws.{Good, meter-read, meter-written, seven-places}
-use Rattle.bytes_lent.specs.Lent.{stored, needs}
-use Rattle.host_records.specs.Telegrams.{telegramSize, telegramFrom}
+use Rattle.base_lent.specs.Lent.{stored, needs}
+use Rattle.mbus_records.specs.Telegrams.{telegramSize, telegramFrom}
 use Rattle.host_meter.specs.Calls.{setUpFor, lineHeardFor, measureFor}
 
 -- the record of a good meter in the first places, and alone

@@ -6,8 +6,8 @@ use denote.Ref.{now}
 use denote.Enum.Declared.{tagOf}
 use types.Run.{OneOf, miss}
 use lib.ListN.{length}
-use Rattle.bytes_lent.specs.Copying.{copied}
-use Rattle.bytes_lent.proofs.Laws.LentLaws.{all-copied}
+use Rattle.base_lent.specs.Copying.{copied}
+use Rattle.base_lent.proofs.Laws.LentLaws.{all-copied}
 use Rattle.meter_steps.proofs.Reply as told
 use Rattle.meter_steps.specs.declared.Meter.{Meter}
 use Rattle.meter_steps.specs.declared.Reply.{Reply}

@@ -2,12 +2,12 @@
 use Prim.Native.Nat.{ℕ, _+_}
 use mathlib.Core.List.{List}
 use mathlib.Core.Path.{_≡_, sym, _∙_}
-use Rattle.mbus_rules.specs.Answers.{reads, refusal}
+use Rattle.base_rules.specs.Answers.{reads, refusal}
 use Rattle.host_bundle.proofs.Laws.Lent.{gives-value, gives-number}
-use Rattle.picture_text.specs.declared.Drawn.{Drawn}
-use Rattle.picture_text.specs.declared.Drawn.the-variants.{Written, Refused}
-use Rattle.picture_text.specs.Shown.{drawnIn, Draws}
-use Rattle.picture_text.proofs.Laws.Shown.{shownDrawn-same}
+use Rattle.run_picture.specs.declared.Drawn.{Drawn}
+use Rattle.run_picture.specs.declared.Drawn.the-variants.{Written, Refused}
+use Rattle.run_picture.specs.Shown.{drawnIn, Draws}
+use Rattle.run_picture.proofs.Laws.Shown.{shownDrawn-same}
 use Rattle.host_picture.specs.Pictured.{DrawsIn}
 
 -- Laws: from what the callee promises, for each of its two cases.

@@ -3,12 +3,12 @@ use Prim.Native.Nat.{ℕ, _+_}
 use mathlib.Core.List.{List}
 use mathlib.Core.Path.{_≡_, sym, _∙_}
 use lib.ListN.{length}
-use Rattle.mbus_rules.specs.Answers.{reads, refusal, within}
+use Rattle.base_rules.specs.Answers.{reads, refusal, within}
 use Rattle.bundle_check.specs.declared.Checked.{Checked}
 use Rattle.bundle_check.specs.declared.Checked.the-variants as checked
 use Rattle.bundle_check.proofs.Laws.Shown.{shownChecked-same}
 use Rattle.host_bundle.proofs.Laws.Lent.{gives-value, gives-number}
-use Rattle.verdict_repeats.specs.Repeats.{earlierInto, TellsEarlier}
+use Rattle.run_repeats.specs.Repeats.{earlierInto, TellsEarlier}
 use Rattle.host_repeats.specs.Repeating.{RepeatsIn}
 
 -- Laws: from what the callee promises, for each of its two cases.

@@ -9,14 +9,14 @@ use lib.Dec.{ltb}
 use lib.ListN.{length, set}
 use lib.Seq.{set-split}
 use borrow.Author.Tests.{ltb-false}
-use Rattle.mbus_rules.specs.Answers.{Answer, reads, refusal}
-use Rattle.bytes_lent.specs.Lent.{done, Leaves}
+use Rattle.base_rules.specs.Answers.{Answer, reads, refusal}
+use Rattle.base_lent.specs.Lent.{done, Leaves}
 use Rattle.bundle_check.specs.Records.{recordsOf}
-use Rattle.replay_counting.specs.Counting.{numbersOf}
-use Rattle.replay_error.specs.declared.Replayed.{Replayed}
-use Rattle.replay_error.specs.declared.Replayed.the-variants.{Error, Refused}
-use Rattle.replay_error.specs.Errors.{replayOf}
-use Rattle.replay_error.specs.Shown.{shownReplay}
+use Rattle.run_counting.specs.Counting.{numbersOf}
+use Rattle.run_replay.specs.declared.Replayed.{Replayed}
+use Rattle.run_replay.specs.declared.Replayed.the-variants.{Error, Refused}
+use Rattle.run_replay.specs.Errors.{replayOf}
+use Rattle.run_replay.specs.Shown.{shownReplay}
 use Rattle.host_replay.specs.Calls.{replayFor}
 
 shows-refusal : (a : Answer ℤ) (numbers : List ℕ) {r : Replayed} {n : ℕ} → r ≡ shownReplay numbers a → r ≡ Refused n → a ≡ refusal n

@@ -1,7 +1,7 @@
 -- Laws: both ways an answer can go.
 use Prim.Native.Nat.{ℕ, _+_}
 use mathlib.Core.Path.{_≡_}
-use Rattle.mbus_rules.specs.Answers.{Answer, reads, refusal}
+use Rattle.base_rules.specs.Answers.{Answer, reads, refusal}
 use Rattle.host_resistance.specs.Calls.{LeavesOne}
 
 module _ {a : Answer ℕ} {before : ℕ} where

@@ -1,7 +1,7 @@
 -- `host_resistance::skarrowith_temperature` meets its contract, by the two cases of the answer. Assumes nothing.
 use borrow.Author.Needs.{needs}
 use mathlib.Core.Path.{sym, _∙_}
-use Rattle.mbus_rules.specs.Answers.{reads, refusal}
+use Rattle.base_rules.specs.Answers.{reads, refusal}
 use Rattle.bench_resistance.specs.Resistances.{temperatureOf}
 use Rattle.bench_resistance.proofs.Laws.Answers.{shownTemperature-same}
 use Rattle.host_resistance.proofs.Laws.Calls.{leaves-value, leaves-number}

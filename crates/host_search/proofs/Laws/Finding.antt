@@ -7,16 +7,16 @@ use native.Mathlib.Omega.{arith}
 use borrow.Author.Tests.{ltb-false}
 use lib.Dec.{ltb}
 use lib.ListN.{length}
-use Rattle.mbus_rules.specs.Answers.{Answer, reads, refusal}
+use Rattle.base_rules.specs.Answers.{Answer, reads, refusal}
 use Rattle.mbus_search.specs.declared.Found.{Found}
 use Rattle.mbus_search.specs.declared.Found.the-variants as founds
 use Rattle.mbus_search.specs.Searching.{Spot, spotAt, findIn, foundShown}
 use Rattle.mbus_search.proofs.Laws.Meaning.{found-same}
-use Rattle.bytes_numbers.specs.Records.{wordsOf, recordOf}
-use Rattle.bytes_numbers.proofs.Laws.RecordLaws.{record-length}
-use Rattle.bytes_lent.specs.Copying.{copied}
-use Rattle.bytes_lent.specs.Lent.{done, placed, Leaves}
-use Rattle.bytes_lent.proofs.Laws.LentLaws.{none-copied, leaves-all, leaves-copied}
+use Rattle.base_numbers.specs.Records.{wordsOf, recordOf}
+use Rattle.base_numbers.proofs.Laws.RecordLaws.{record-length}
+use Rattle.base_lent.specs.Copying.{copied}
+use Rattle.base_lent.specs.Lent.{done, placed, Leaves}
+use Rattle.base_lent.proofs.Laws.LentLaws.{none-copied, leaves-all, leaves-copied}
 use Rattle.host_search.specs.Finding.{spotBytes, Finds}
 
 -- the record of a place has 16 bytes

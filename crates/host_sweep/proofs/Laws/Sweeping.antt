@@ -2,7 +2,7 @@
 use Prim.Native.Nat.{ℕ, _+_}
 use mathlib.Core.List.{List}
 use mathlib.Core.Path.{_≡_, sym, _∙_}
-use Rattle.mbus_rules.specs.Answers.{reads, refusal}
+use Rattle.base_rules.specs.Answers.{reads, refusal}
 use Rattle.bundle_sweep.specs.declared.Swept.{Swept}
 use Rattle.bundle_sweep.specs.declared.Swept.the-variants as swept
 use Rattle.bundle_sweep.specs.Sweeping.{sweepOf}

@@ -9,18 +9,18 @@ use borrow.Author.Tests.{ltb-false, leb-false}
 use lib.Dec.{ltb, leb, eqb}
 use lib.ListN.{length, getD, take, replicate, length-append, length-map, length-replicate, List·getD-map}
 use lib.Seq.{take-at, getD-take, length-take-le}
-use Rattle.mbus_rules.specs.Answers.{Answer, reads, refusal, refuse, within, follow}
-use Rattle.mbus_rules.specs.Lists.{any}
-use Rattle.mbus_rules.specs.declared.Outcome.the-variants.{Accepted, Refused}
-use Rattle.mbus_rules.proofs.Laws.AnswerLaws.{reads-same}
-use Rattle.mbus_rules.proofs.Laws.TestLaws.{not-refused}
-use Rattle.mbus_rules.proofs.Laws.Tests.{neither, passed}
-use Rattle.bytes_numbers.specs.Numbers.{bytesOf}
-use Rattle.bytes_lent.specs.Copying.{copied}
-use Rattle.bytes_lent.specs.Lent.{done}
-use Rattle.bytes_lent.proofs.Laws.LentLaws.{leaves-all, leaves-copied}
-use Rattle.bytes_lent.proofs.Laws.PieceLaws.{Pieced, pieced-none, pieced-next, pieced-all}
-use Rattle.host_records.specs.Recorded.{noRecord}
+use Rattle.base_rules.specs.Answers.{Answer, reads, refusal, refuse, within, follow}
+use Rattle.base_rules.specs.Lists.{any}
+use Rattle.base_rules.specs.declared.Outcome.the-variants.{Accepted, Refused}
+use Rattle.base_rules.proofs.Laws.AnswerLaws.{reads-same}
+use Rattle.base_rules.proofs.Laws.TestLaws.{not-refused}
+use Rattle.base_rules.proofs.Laws.Tests.{neither, passed}
+use Rattle.base_numbers.specs.Numbers.{bytesOf}
+use Rattle.base_lent.specs.Copying.{copied}
+use Rattle.base_lent.specs.Lent.{done}
+use Rattle.base_lent.proofs.Laws.LentLaws.{leaves-all, leaves-copied}
+use Rattle.base_lent.proofs.Laws.PieceLaws.{Pieced, pieced-none, pieced-next, pieced-all}
+use Rattle.base_lent.specs.Recorded.{noRecord}
 use Rattle.bundle_rows.specs.Rows.{mostRows, bodyIn}
 use Rattle.bundle_check.specs.Bundles.{checkOf}
 use Rattle.bundle_check.specs.Records.{recordsOf}
@@ -29,17 +29,17 @@ use Rattle.bundle_check.proofs.Laws.BodyLaws.{few-rows}
 use Rattle.bundle_columns.specs.Columns.{Columns, keptRows}
 use Rattle.bundle_columns.specs.Record.{columnsSize, columnsIn, columnsFrom}
 use Rattle.bundle_columns.proofs.Laws.Turning.{length-kept}
-use Rattle.replay_counting.specs.Ears.{rowWith}
-use Rattle.replay_counting.proofs.Laws.Walking.{length-records}
+use Rattle.run_counting.specs.Ears.{rowWith}
+use Rattle.run_counting.proofs.Laws.Walking.{length-records}
 use Rattle.host_bundle.specs.Lent.{leftIn}
-use Rattle.verdict_rows.specs.declared.Verdict.{Verdict}
-use Rattle.verdict_rows.specs.declared.Verdict.the-variants.{Unasked}
-use Rattle.verdict_rows.specs.declared.Ruling.{Ruling}
-use Rattle.verdict_rows.specs.declared.Verdicts.{Verdicts}
-use Rattle.verdict_rows.specs.Verdicts.{verdictsOf}
-use Rattle.verdict_rows.specs.Answering.{verdictsIn, bodyPast, recordsKept, verdictsKept}
-use Rattle.verdict_rows.specs.Shown.{ruling, shownVerdicts}
-use Rattle.verdict_rows.proofs.Laws.Telling.{length-verdicts}
+use Rattle.run_verdicts.specs.declared.Verdict.{Verdict}
+use Rattle.run_verdicts.specs.declared.Verdict.the-variants.{Unasked}
+use Rattle.run_verdicts.specs.declared.Ruling.{Ruling}
+use Rattle.run_verdicts.specs.declared.Verdicts.{Verdicts}
+use Rattle.run_verdicts.specs.Verdicts.{verdictsOf}
+use Rattle.run_verdicts.specs.Answering.{verdictsIn, bodyPast, recordsKept, verdictsKept}
+use Rattle.run_verdicts.specs.Shown.{ruling, shownVerdicts}
+use Rattle.run_verdicts.proofs.Laws.Telling.{length-verdicts}
 use Rattle.host_verdicts.specs.declared.VerdictFound.{VerdictFound}
 use Rattle.host_verdicts.specs.declared.VerdictFound.the-variants as found
 use Rattle.host_verdicts.specs.Records.{verdictRecord}

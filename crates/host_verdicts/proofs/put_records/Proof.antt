@@ -3,7 +3,7 @@ use borrow.Author.Needs.{needs}
 use Prim.Native.Nat.{_-_}
 use mathlib.Core.Path.{_≡_}
 use lib.ListN.{length}
-use Rattle.bytes_lent.proofs.Laws.PieceLaws.{Pieced, pieced-length}
+use Rattle.base_lent.proofs.Laws.PieceLaws.{Pieced, pieced-length}
 use Rattle.host_verdicts.specs.Records.{verdictRecord}
 use Rattle.host_verdicts.specs.Told.{verdictsAmong}
 use Rattle.host_verdicts.proofs.Laws.Told.{puts-none, puts-next, puts-all}

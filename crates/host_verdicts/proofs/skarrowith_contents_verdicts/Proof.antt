@@ -1,6 +1,6 @@
 -- `host_verdicts::skarrowith_contents_verdicts` meets its contract: what the walk answers is given. Assumes nothing.
 use denote.Ref.{now}
-use Rattle.verdict_rows.specs.Answering.{verdictsKept}
+use Rattle.run_verdicts.specs.Answering.{verdictsKept}
 use Rattle.host_verdicts.proofs.Laws.Told.{full-kept, given-as}
 use borrow.Author.Needs.{needs}
 use Rattle.host_verdicts.proofs.skarrowith_contents_verdicts.Statement.{statement}

@@ -1,6 +1,6 @@
 -- `host_verdicts::skarrowith_verdict` meets its contract: too little room, and the two cases of what was found. Assumes nothing.
 use denote.Ref.{now}
-use Rattle.verdict_rows.specs.Answering.{verdictsIn}
+use Rattle.run_verdicts.specs.Answering.{verdictsIn}
 use Rattle.host_verdicts.proofs.Laws.Told.{full-in, one-short, one-refused, one-given}
 use borrow.Author.Needs.{needs}
 use Rattle.host_verdicts.proofs.skarrowith_verdict.Statement.{statement}

@@ -1,6 +1,6 @@
 -- `host_verdicts::skarrowith_verdicts` meets its contract: what the walk answers is given. Assumes nothing.
 use denote.Ref.{now}
-use Rattle.verdict_rows.specs.Answering.{verdictsIn}
+use Rattle.run_verdicts.specs.Answering.{verdictsIn}
 use Rattle.host_verdicts.proofs.Laws.Told.{full-in, given-as}
 use borrow.Author.Needs.{needs}
 use Rattle.host_verdicts.proofs.skarrowith_verdicts.Statement.{statement}

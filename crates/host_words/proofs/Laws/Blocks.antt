@@ -8,11 +8,11 @@ use native.Mathlib.Nat.{sub-zero}
 use borrow.Author.Tests.{eqb-true, ltb-true, ltb-false, ne-eqb, not-false}
 use lib.Dec.{eqb, ltb}
 use lib.ListN.{length}
-use Rattle.mbus_rules.specs.Lists.{any}
-use Rattle.mbus_rules.specs.Answers.{Answer, reads, refusal}
-use Rattle.mbus_rules.proofs.Laws.Tests.{everyBelow, below, by-test, neither}
+use Rattle.base_rules.specs.Lists.{any}
+use Rattle.base_rules.specs.Answers.{Answer, reads, refusal}
+use Rattle.base_rules.proofs.Laws.Tests.{everyBelow, below, by-test, neither}
 use Rattle.host_words.specs.Refusals.{Row, refusalTexts, textOf, wordsIn}
-use Rattle.host_words.specs.Words.{text}
+use Rattle.text_filling.specs.Texts.{text}
 use Rattle.host_words.specs.Rows.{rowOfWords, rowsFrom, firstRow}
 
 -- the words of an answer, none of a refusal

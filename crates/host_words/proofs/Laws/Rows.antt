@@ -9,7 +9,7 @@ use borrow.Author.Tests.{eq-eqb, ne-eqb}
 use lib.Dec.{eqb}
 use lib.ListN.{length, take, drop, getD, length-drop, drop-of-length-le}
 use lib.Seq.{drop-cons, take-suc, take-all, length-take-le}
-use Rattle.mbus_rules.specs.Answers.{reads}
+use Rattle.base_rules.specs.Answers.{reads}
 use Rattle.host_words.specs.Saying.{Says}
 use Rattle.host_words.specs.Rows.{rowsFrom, firstRow, rowOfWords}
 

@@ -9,7 +9,7 @@ use borrow.Author.Tests.{ltb-false}
 use lib.Dec.{ltb}
 use lib.ListN.{length, take, drop, set, getD, length-set, length-append, List·getD-append}
 use lib.Seq.{take-all, getD-append-seam}
-use Rattle.mbus_rules.specs.Answers.{reads}
+use Rattle.base_rules.specs.Answers.{reads}
 use Rattle.host_words.specs.Saying.{zeroEnded, Says}
 
 -- the zero byte takes one place more

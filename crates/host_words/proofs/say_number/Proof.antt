@@ -2,7 +2,7 @@
 use mathlib.Core.Path.{_≡_}
 use native.Mathlib.Omega.{arith}
 use borrow.Author.Needs.{needs}
-use Rattle.mbus_rules.specs.Answers.{refusal}
+use Rattle.base_rules.specs.Answers.{refusal}
 use Rattle.host_words.proofs.Laws.Blocks.{no-words}
 use Rattle.host_words.specs.Refusals.{textOf}
 use Rattle.host_words.proofs.say_number.Statement.{statement}

@@ -8,9 +8,9 @@ use native.Mathlib.Omega.{arith}
 use borrow.Author.Tests.{leb-true, le-leb}
 use lib.Dec.{leb}
 use lib.ListN.{length, drop}
-use Rattle.mbus_rules.specs.Lists.{at, any}
-use Rattle.mbus_rules.specs.Answers.{Answer, reads, refusal, within}
-use Rattle.mbus_rules.proofs.Laws.Tests.{neither}
+use Rattle.base_rules.specs.Lists.{at, any}
+use Rattle.base_rules.specs.Answers.{Answer, reads, refusal, within}
+use Rattle.base_rules.proofs.Laws.Tests.{neither}
 use Rattle.mbus_search.specs.Searching.{Begins, Spot, spotAt, lengthHere, further, orElse, findIn}
 use Rattle.mbus_search.proofs.Laws.Meaning as search
 use Rattle.mbus_after.specs.After.{BeginsAfter, TimedSpot, timedAt, movedTimed, orLater, findAfter, afterShown}

@@ -10,9 +10,9 @@ use lib.Dec.{ltb, leb}
 use lib.ListN
 use lib.ListN.{drop, drop-of-length-le, length-drop}
 use lib.Seq.{drop-cons, drop-nil, drop-drop}
-use Rattle.mbus_rules.specs.Lists.{at}
-use Rattle.mbus_rules.specs.Answers.{Answer, reads, refusal}
-use Rattle.mbus_rules.proofs.Laws.Tests.{by-test}
+use Rattle.base_rules.specs.Lists.{at}
+use Rattle.base_rules.specs.Answers.{Answer, reads, refusal}
+use Rattle.base_rules.proofs.Laws.Tests.{by-test}
 use Rattle.mbus_search.specs.declared.Found.{Found}
 use Rattle.mbus_search.specs.declared.Found.the-variants as founds
 use Rattle.mbus_search.specs.Searching.{Spot, spotAt, lengthHere, further, orElse, findIn, movedBy, foundShown}

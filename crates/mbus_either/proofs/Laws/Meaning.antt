@@ -7,7 +7,7 @@ use mathlib.Core.Path.{_≡_, refl, ap, _∙_}
 use native.Mathlib.Omega.{arith}
 use denote.Ref.{RefT, now}
 use Rattle.mbus_rules.specs.declared.Telegram.{Telegram}
-use Rattle.mbus_rules.specs.Answers.{Answer, reads, refusal, within}
+use Rattle.base_rules.specs.Answers.{Answer, reads, refusal, within}
 use Rattle.mbus_rules.specs.Lines.{readLine, Accepted}
 use Rattle.mbus_search.specs.Searching.{accepts, Begins, Spot, findIn}
 use Rattle.mbus_search.proofs.Laws.Meaning.{found-begins, begins-found, none-begins, lowest}

@@ -2,7 +2,7 @@
 use borrow.Author.Needs.{needs}
 use denote.Ref.{now}
 use mathlib.Core.Path.{_≡_}
-use Rattle.mbus_rules.specs.Answers.{reads}
+use Rattle.base_rules.specs.Answers.{reads}
 use Rattle.mbus_search.specs.Searching.{Spot, spotAt}
 use Rattle.mbus_either.specs.declared.Interface.{Interface}
 use Rattle.mbus_either.specs.declared.Interface.the-variants.{Mbus, Optical}

@@ -11,17 +11,17 @@ use lib.ListN.{length, getD, take, drop, length-take, length-drop}
 use Rattle.mbus_rules.specs.declared.Value.{Value}
 use Rattle.mbus_rules.specs.declared.Value.the-variants.{Number, Time, Binary}
 use Rattle.mbus_rules.specs.declared.Entry.{Entry}
-use Rattle.mbus_rules.specs.Lists.{at}
-use Rattle.mbus_rules.specs.Answers.{Answer, reads, refusal, refuse, within, follow}
+use Rattle.base_rules.specs.Lists.{at}
+use Rattle.base_rules.specs.Answers.{Answer, reads, refusal, refuse, within, follow}
 use Rattle.mbus_rules.specs.Quantities.{quantityOf, widthOf, paired, isTime, isPacked, isBinary, time, unknown}
 use Rattle.mbus_rules.specs.Moments.{wrongMoment}
 use Rattle.mbus_rules.specs.Entries.{mayFall, valueBytes, unfit, wrongBinary}
-use Rattle.mbus_rules.specs.Bytes.{Bytes}
-use Rattle.mbus_rules.proofs.Laws.ByteLaws.{bytes-take, bytes-drop}
+use Rattle.base_rules.specs.Bytes.{Bytes}
+use Rattle.base_rules.proofs.Laws.ByteLaws.{bytes-take, bytes-drop}
 use Rattle.mbus_rules.proofs.Laws.RowLaws.{time-quantity, quantity-few, width-most, width-least, low-packed, high-binary}
-use Rattle.mbus_rules.proofs.Laws.Tests.{by-test, neither, passed}
-use Rattle.mbus_rules.proofs.Laws.TestLaws.{every, not-refused, within-reads}
-use Rattle.mbus_rules.specs.Numbers.{number}
+use Rattle.base_rules.proofs.Laws.Tests.{by-test, neither, passed}
+use Rattle.base_rules.proofs.Laws.TestLaws.{every, not-refused, within-reads}
+use Rattle.base_numbers.specs.Numbers.{number}
 use Rattle.mbus_fields.specs.declared.binary.Coded.{Coded}
 use Rattle.mbus_fields.specs.declared.digits.Signed.{Signed}
 use Rattle.mbus_fields.specs.declared.moments.Timed.{Timed}

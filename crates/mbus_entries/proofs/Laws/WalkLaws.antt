@@ -11,20 +11,20 @@ use lib.Dec.{ltb, eqb}
 use lib.ListN.{length, getD, take, drop, set, replicate, getD-replicate, length-drop, length-set, drop-of-length-le, take-append-drop}
 use lib.Seq.{take-all, length-take-le, drop-cons, getD-set-same, getD-set-other, take-suc-set, drop-set-lt, drop-drop}
 use Rattle.mbus_rules.specs.declared.Entry.{Entry}
-use Rattle.mbus_rules.specs.declared.Outcome.{Outcome}
-use Rattle.mbus_rules.specs.declared.Outcome.the-variants.{Accepted, Refused}
-use Rattle.mbus_rules.specs.Lists
-use Rattle.mbus_rules.specs.Lists.{any}
-use Rattle.mbus_rules.proofs.Laws.ListLaws.{any-snoc}
-use Rattle.mbus_rules.specs.Answers.{Answer, reads, refusal, refuse, within, follow}
-use Rattle.mbus_rules.proofs.Laws.AnswerLaws.{follow-refuse, reads-same}
+use Rattle.base_rules.specs.declared.Outcome.{Outcome}
+use Rattle.base_rules.specs.declared.Outcome.the-variants.{Accepted, Refused}
+use Rattle.base_rules.specs.Lists
+use Rattle.base_rules.specs.Lists.{any}
+use Rattle.base_rules.proofs.Laws.ListLaws.{any-snoc}
+use Rattle.base_rules.specs.Answers.{Answer, reads, refusal, refuse, within, follow}
+use Rattle.base_rules.proofs.Laws.AnswerLaws.{follow-refuse, reads-same}
 use Rattle.mbus_rules.specs.Quantities.{quantityOf, widthOf, paired}
 use Rattle.mbus_rules.specs.Entries.{entryWidth, seen, missing, readEntries}
 use Rattle.mbus_rules.proofs.Laws.RowLaws.{width-most, quantity-few, lacking-same}
 use Rattle.mbus_rules.proofs.Laws.EntryLaws.{entries-next}
 use Rattle.mbus_rules.proofs.Laws.Seven.{Different, different-last, different-room, fit-known, none-yet}
 use Rattle.mbus_rules.specs.Telegrams.{blankEntry}
-use Rattle.mbus_rules.proofs.Laws.Tests.{neither, passed}
+use Rattle.base_rules.proofs.Laws.Tests.{neither, passed}
 use Rattle.mbus_entries.specs.declared.Entries.{Entries}
 use Rattle.mbus_entries.specs.declared.entry.Tried.{Tried}
 use Rattle.mbus_entries.specs.Trying.{Taken, takenOf, tried, triedShown, unseen, nextOf}

@@ -6,7 +6,7 @@ use denote.Ref.{now}
 use lib.ListN.{length}
 use mathlib.Core.Logic.{⊎-elim}
 use mathlib.Core.Path.{_≡_, refl, sym, _∙_}
-use Rattle.mbus_rules.specs.declared.Outcome.the-variants.{Accepted}
+use Rattle.base_rules.specs.declared.Outcome.the-variants.{Accepted}
 use Rattle.mbus_entries.proofs.Laws.WalkLaws.Ended.{whole, refused}
 use Rattle.mbus_entries.proofs.Laws.WalkLaws.{Walked, walked-none, Turn, turned, halted, Ended, ended-refused, ended-whole}
 use Rattle.mbus_entries.proofs.read_entries.Statement.{statement}

@@ -11,13 +11,12 @@ use lib.IntN.{ℤ, pos, negsuc, natAbs}
 use lib.ListN.{length}
 use mir.Syntax.{w64}
 use mir.Val.{toZ}
-use Rattle.mbus_rules.specs.Bytes.{Bytes}
-use Rattle.mbus_rules.specs.Numbers.{number}
-use Rattle.mbus_rules.specs.Binary.{negative, binaryOf, fitsBinary}
-use Rattle.mbus_rules.specs.Signs.{belowZero}
-use Rattle.mbus_rules.proofs.Laws.Tests.{by-test}
-use Rattle.mbus_rules.proofs.Laws.NumberLaws.{number-below}
-use Rattle.bytes_numbers.proofs.Laws.TwosComplement.{count-above, count-below}
+use Rattle.base_rules.specs.Bytes.{Bytes}
+use Rattle.base_numbers.specs.Numbers.{number}
+use Rattle.base_numbers.specs.TwosComplement.{negative, binaryOf, fitsBinary, belowZero}
+use Rattle.base_rules.proofs.Laws.Tests.{by-test}
+use Rattle.base_numbers.proofs.Laws.ByteNumbers.{number-below}
+use Rattle.base_numbers.proofs.Laws.TwosComplement.{count-above, count-below}
 use Rattle.mbus_fields.specs.declared.binary.Coded.{Coded}
 use Rattle.mbus_fields.specs.Fields.{codedOf, markOf}
 

@@ -7,19 +7,19 @@ use native.Mathlib.Omega.{arith}
 use borrow.Author.Tests.{eqb-true, eqb-false, leb-true, leb-false, le-leb, lt-leb}
 use lib.Dec.{leb, eqb}
 use lib.ListN.{length}
-use Rattle.mbus_rules.specs.Bytes.{Bytes}
-use Rattle.mbus_rules.specs.Lists.{any}
-use Rattle.mbus_rules.specs.Digits.{overNine, digitsOf}
+use Rattle.base_rules.specs.Bytes.{Bytes}
+use Rattle.base_rules.specs.Lists.{any}
+use Rattle.base_digits.specs.Digits.{overNine, digitsOf, packedOf}
 use Rattle.mbus_rules.specs.Signs.{minus, sizeBytes}
-use Rattle.mbus_rules.proofs.Laws.Tests.{by-test}
+use Rattle.base_rules.proofs.Laws.Tests.{by-test}
 use Rattle.mbus_rules.proofs.Laws.SignLaws.{size-length, plain}
-use Rattle.mbus_rules.proofs.Laws.NumberLaws.{bytes-bytes}
-use Rattle.bytes_numbers.specs.Numbers.{number, bytesOf}
-use Rattle.bytes_numbers.proofs.Laws.Numbers.{length-bytes}
-use Rattle.mbus_fields.specs.declared.digits.Packed.{Packed}
+use Rattle.base_numbers.proofs.Laws.ByteNumbers.{bytes-bytes}
+use Rattle.base_numbers.specs.Numbers.{number, bytesOf}
+use Rattle.base_numbers.proofs.Laws.Numbers.{length-bytes}
+use Rattle.base_digits.specs.declared.Packed.{Packed}
 use Rattle.mbus_fields.specs.declared.digits.Signed.{Signed}
-use Rattle.mbus_fields.specs.Fields.{packedOf, markOf, signOn, markedIn, signedBy, signedIn}
-use Rattle.mbus_fields.proofs.Laws.GatherLaws.{word-whole, digits-most}
+use Rattle.mbus_fields.specs.Fields.{markOf, signOn, markedIn, signedBy, signedIn}
+use Rattle.base_digits.proofs.Laws.GatherLaws.{word-whole, digits-most}
 
 one-byte : (b : ℕ) → b < 256 → eqb (b / 16) 0xF ≡ leb 0xF0 (b + 256 * 0)
 one-byte b h =

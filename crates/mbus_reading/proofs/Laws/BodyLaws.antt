@@ -6,14 +6,14 @@ use mathlib.Core.Path.{_≡_, refl, sym, ap, _∙_}
 use native.Mathlib.Omega.{arith}
 use lib.ListN.{length, take, drop, length-drop}
 use lib.Seq.{take-length, take-take, getD-take}
-use Rattle.mbus_rules.specs.declared.Outcome.the-variants
+use Rattle.base_rules.specs.declared.Outcome.the-variants
 use Rattle.mbus_rules.specs.declared.Kind.the-variants as kinds
 use Rattle.mbus_rules.specs.declared.View.the-variants as views
 use Rattle.mbus_rules.specs.declared.Entry.{Entry}
 use Rattle.mbus_rules.specs.declared.Header.{Header}
 use Rattle.mbus_rules.specs.declared.Reading.{Reading}
-use Rattle.mbus_rules.specs.Lists.{at}
-use Rattle.mbus_rules.specs.Answers.{Answer, reads, refusal, refuse, within}
+use Rattle.base_rules.specs.Lists.{at}
+use Rattle.base_rules.specs.Answers.{Answer, reads, refusal, refuse, within}
 use Rattle.mbus_rules.specs.Headers.{headerOf, wrongHeader}
 use Rattle.mbus_rules.specs.Entries.{readEntries}
 use Rattle.mbus_rules.specs.Telegrams.{dataOf, shown}

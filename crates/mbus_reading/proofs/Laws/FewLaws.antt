@@ -7,19 +7,19 @@ use native.Mathlib.Omega.{arith}
 use borrow.Author.Tests.{ne-eqb}
 use lib.ListN.{length, take, drop, set, length-map}
 use lib.Seq.{take-at}
-use Rattle.mbus_rules.specs.declared.Outcome.the-variants.{Accepted}
+use Rattle.base_rules.specs.declared.Outcome.the-variants.{Accepted}
 use Rattle.mbus_rules.specs.declared.Telegram.{Telegram}
 use Rattle.mbus_rules.specs.declared.View.{View}
-use Rattle.mbus_rules.specs.Lists.{at, any, total}
-use Rattle.mbus_rules.proofs.Laws.ListLaws.{Gathered, gathered-none, at-bytes}
-use Rattle.mbus_rules.specs.Characters.{over, odd, byteOf}
-use Rattle.mbus_rules.specs.Answers.{refusal, refuse}
-use Rattle.mbus_rules.specs.Host.{chars}
+use Rattle.base_rules.specs.Lists.{at, any, total}
+use Rattle.base_rules.proofs.Laws.ListLaws.{Gathered, gathered-none}
+use Rattle.base_characters.proofs.Laws.CharacterLaws.{at-bytes}
+use Rattle.base_characters.specs.Characters.{over, odd, byteOf, chars}
+use Rattle.base_rules.specs.Answers.{refusal, refuse}
 use Rattle.mbus_rules.specs.Lines.{isLong, readFrame, readLine}
 use Rattle.mbus_rules.specs.Views.{viewed}
-use Rattle.bytes_lent.proofs.Laws.Copying.{Copied, copied-all}
-use Rattle.mbus_characters.proofs.Laws.PairLaws.{length-characters, length-lows, chars-drop, characters-all, pairs-hit, pairs-miss}
-use Rattle.mbus_characters.proofs.Laws.StoreLaws.{stored-none, stored-next}
+use Rattle.base_lent.proofs.Laws.Copying.{Copied, copied-all}
+use Rattle.base_characters.proofs.Laws.PairLaws.{length-characters, length-lows, chars-drop, characters-all, pairs-hit, pairs-miss}
+use Rattle.base_characters.proofs.Laws.StoreLaws.{stored-none, stored-next}
 use Rattle.mbus_shape.specs.Shapes.{shapeBody}
 use Rattle.mbus_shape.proofs.Laws.LeftLaws.{brief-few}
 use Rattle.mbus_reading.specs.Taking.{TakenBytes}

@@ -8,20 +8,19 @@ use borrow.Author.Tests.{eq-eqb, ne-eqb}
 use lib.Dec.{ltb, eqb}
 use lib.ListN.{length, take, length-map, length-take}
 use lib.Seq.{take-all}
-use Rattle.mbus_rules.specs.declared.Outcome.{Outcome}
-use Rattle.mbus_rules.specs.declared.Outcome.the-variants.{Accepted, Refused}
+use Rattle.base_rules.specs.declared.Outcome.{Outcome}
+use Rattle.base_rules.specs.declared.Outcome.the-variants.{Accepted, Refused}
 use Rattle.mbus_rules.specs.declared.Telegram.{Telegram}
-use Rattle.mbus_rules.specs.Lists.{at, any, total}
-use Rattle.mbus_rules.proofs.Laws.ListLaws.{at-bytes}
-use Rattle.mbus_rules.proofs.Laws.Tests.{by-test}
-use Rattle.mbus_rules.specs.Characters.{over, odd, byteOf}
-use Rattle.mbus_rules.specs.Answers.{Answer, reads, refusal, refuse}
+use Rattle.base_rules.specs.Lists.{at, any, total}
+use Rattle.base_characters.proofs.Laws.CharacterLaws.{at-bytes}
+use Rattle.base_rules.proofs.Laws.Tests.{by-test}
+use Rattle.base_characters.specs.Characters.{over, odd, byteOf}
+use Rattle.base_rules.specs.Answers.{Answer, reads, refusal, refuse, outcomeShown}
 use Rattle.mbus_rules.specs.Lines.{isAck, isShort, wrongStart, wrongCount, readBody, readFrame, readLine}
-use Rattle.mbus_rules.specs.Telegrams.{outcomeShown}
-use Rattle.bytes_lent.specs.Copying.{copied}
-use Rattle.mbus_characters.specs.declared.Gathering.{Gathering}
-use Rattle.mbus_characters.specs.Gathering.{sound, gathered}
-use Rattle.mbus_characters.proofs.Laws.GatherLaws.{sound-is, low-is, sum-is}
+use Rattle.base_lent.specs.Copying.{copied}
+use Rattle.base_characters.specs.declared.Gathering.{Gathering}
+use Rattle.base_characters.specs.Gathering.{sound, gathered}
+use Rattle.base_characters.proofs.Laws.GatherLaws.{sound-is, low-is, sum-is}
 use Rattle.mbus_shape.specs.Shapes.{frameBy}
 use Rattle.mbus_shape.proofs.Laws.WholeLaws.{frame-whole}
 use Rattle.mbus_reading.specs.Taking.{TakenBytes, farBy}

@@ -6,8 +6,8 @@ use mathlib.Core.Path.{_≡_}
 use borrow.Author.Tests.{ne-eqb}
 use lib.Dec.{ltb, eqb}
 use lib.ListN.{length, take, drop}
-use Rattle.mbus_rules.specs.Lists.{at, total}
-use Rattle.mbus_rules.specs.Answers.{Answer, refusal, refuse}
+use Rattle.base_rules.specs.Lists.{at, total}
+use Rattle.base_rules.specs.Answers.{Answer, refusal, refuse}
 use Rattle.mbus_rules.specs.Lines.{readFrame}
 
 module _ {A : Type 0} (body : List ℕ → Answer A) (b : List ℕ) where

@@ -5,29 +5,29 @@ use mathlib.Core.List.{List, [], _∷_, _++_, append-assoc, append-nil}
 use mathlib.Core.Path.{_≡_, refl, sym, ap, ap₂, _∙_}
 use native.Mathlib.Omega.{arith}
 use borrow.Author.Tests.{ltb-false, le-ltb, eqb-true, ne-eqb, not-false}
-use lib.Dec.{ltb, eqb, lit<}
+use lib.Dec.{ltb}
 use lib.ListN.{length, take, drop, length-drop, length-append, take-append-drop, drop-of-length-le}
 use lib.Seq.{length-take-le, take-add, take-at, drop-at, drop-drop}
 use Rattle.mbus_rules.specs.declared.Value.{Value}
 use Rattle.mbus_rules.specs.declared.Value.the-variants.{Number, Time, Binary}
 use Rattle.mbus_rules.specs.declared.Entry.{Entry}
-use Rattle.mbus_rules.specs.Lists.{at, any}
-use Rattle.mbus_rules.specs.Answers.{reads, refuse}
+use Rattle.base_rules.specs.Lists.{at, any}
+use Rattle.base_rules.specs.Answers.{reads, refuse}
 use Rattle.mbus_rules.specs.Moments.{dateExists, timeExists, weekdayExists, wrongMoment}
 use Rattle.mbus_rules.specs.Quantities.{quantityOf, widthOf, paired, isTime, isPacked, isBinary}
 use Rattle.mbus_rules.specs.Entries.{mayFall, valueBytes, entryWidth, valueOf, entryOf, unfit, wrongNumber, wrongDigit, wrongTime}
 use Rattle.mbus_rules.specs.Entries.{seen, missing, readEntries}
 use Rattle.mbus_rules.specs.Writing.{bytesOfValue, bytesOfEntry, bytesOfEntries, wrongValue, wrongEntry, repeats}
-use Rattle.mbus_rules.proofs.Laws.TestLaws.{none, refusals, all-passed, all-passing}
-use Rattle.mbus_rules.proofs.Laws.Tests.{by-test, neither, passed}
-use Rattle.mbus_rules.proofs.Laws.AnswerLaws.{reads-same}
+use Rattle.base_rules.proofs.Laws.TestLaws.{none, refusals, all-passed, all-passing}
+use Rattle.base_rules.proofs.Laws.Tests.{by-test, neither, passed}
+use Rattle.base_rules.proofs.Laws.AnswerLaws.{reads-same}
 use Rattle.mbus_rules.proofs.Laws.RowLaws.{unit-past, structure-past}
-use Rattle.mbus_rules.specs.Bytes.{Bytes}
-use Rattle.mbus_rules.proofs.Laws.ByteLaws.{bytes-append, bytes-take, bytes-drop, spell}
-use Rattle.mbus_rules.specs.Signs.{minus, wrongSigned, fitsSigned, belowZero}
+use Rattle.base_rules.specs.Bytes.{Bytes}
+use Rattle.base_rules.proofs.Laws.ByteLaws.{bytes-append, bytes-take, bytes-drop, spell}
+use Rattle.mbus_rules.specs.Signs.{minus, wrongSigned, fitsSigned}
+use Rattle.base_numbers.specs.TwosComplement.{belowZero, fitsBinary}
 use Rattle.mbus_rules.proofs.Laws.SignLaws.{SignedRead, signed-read, SignedWritten, signed-written}
-use Rattle.mbus_rules.specs.Binary.{fitsBinary}
-use Rattle.mbus_rules.proofs.Laws.BinaryLaws.{BinaryRead, binary-read, BinaryWritten, binary-written}
+use Rattle.base_numbers.proofs.Laws.BinaryLaws.{BinaryRead, binary-read, BinaryWritten, binary-written}
 use Rattle.mbus_rules.proofs.Laws.MomentLaws.{MomentRead, moment-read, MomentWritten, moment-written}
 use Rattle.mbus_rules.proofs.Laws.Seven.{Different, different-last, different-few, fit-known}
 

@@ -8,16 +8,16 @@ use borrow.Author.Tests.{eqb-true}
 use lib.Dec.{eqb}
 use lib.ListN.{length, length-append, drop}
 use Rattle.mbus_rules.specs.declared.Entry.{Entry}
-use Rattle.mbus_rules.specs.Lists.{at}
-use Rattle.mbus_rules.specs.Characters.{byteOf}
-use Rattle.mbus_rules.specs.Answers.{Answer, reads, refuse, within}
+use Rattle.base_rules.specs.Lists.{at}
+use Rattle.base_characters.specs.Characters.{byteOf}
+use Rattle.base_rules.specs.Answers.{Answer, reads, refuse, within}
 use Rattle.mbus_rules.specs.Headers.{headerOf, wrongHeader}
 use Rattle.mbus_rules.specs.Quantities.{quantityOf}
 use Rattle.mbus_rules.specs.Entries.{entryOf, entryWidth, unfit, wrongDigit, wrongTime, seen, missing, readEntries}
 use Rattle.mbus_rules.specs.Telegrams.{ack, dataOf}
 use Rattle.mbus_rules.specs.Lines.{isAck, isShort, field, isCommand, isData, commandOf, readShort, readBody, readLine}
 use Rattle.mbus_rules.specs.Fifteen.{entriesWith15, bodyWith15, lineWith15}
-use Rattle.mbus_rules.proofs.Laws.Tests.{by-test}
+use Rattle.base_rules.proofs.Laws.Tests.{by-test}
 use Rattle.mbus_rules.proofs.Laws.Seven.{Different, different-last, different-few, different-room, fit-known, none-yet}
 use Rattle.mbus_rules.proofs.Laws.EntryLaws.{entries-next}
 

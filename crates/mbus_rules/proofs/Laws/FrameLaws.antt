@@ -1,37 +1,26 @@
 -- The frames both ways, for any field.
-use Prim.Native.Nat.{ℕ, suc, _+_, _-_, _%_, _≤_}
+use Prim.Native.Nat.{ℕ, suc, _+_, _-_, _%_}
 use mathlib.Core.Bool.{true, not}
 use mathlib.Core.List.{List, [], _∷_, _++_}
 use mathlib.Core.Path.{_≡_, refl, sym, ap, ap₂, _∙_}
 use native.Mathlib.Omega.{arith}
 use borrow.Author.Tests.{eqb-true, eq-eqb, le-ltb}
-use lib.ListN.{length, take, drop, length-append, length-drop, take-append-drop}
-use lib.Seq.{take-all, take-append-seam, drop-drop, getD-append-add, length-take-le}
-use Rattle.mbus_rules.specs.Lists.{at, total}
-use Rattle.mbus_rules.specs.Answers.{Answer}
+use lib.ListN.{length, take, drop, length-drop, take-append-drop}
+use lib.Seq.{take-append-seam, getD-append-add, length-take-le}
+use Rattle.base_rules.specs.Lists.{at, total}
+use Rattle.base_rules.specs.Answers.{Answer}
 use Rattle.mbus_rules.specs.Lines.{isAck, wrongStart, wrongCount, wrongLengths, wrongEnd, field, wrongSum, readFrame}
-use Rattle.mbus_rules.specs.Writing.{closed, shortFrame, longFrame}
-use Rattle.mbus_rules.proofs.Laws.Closing.{Closed}
+use Rattle.base_characters.specs.Closing.{closed}
+use Rattle.mbus_rules.specs.Writing.{shortFrame, longFrame}
+use Rattle.base_characters.proofs.Laws.Closing.{closed-read, closed-length}
 use Rattle.mbus_rules.proofs.Laws.Frames.{Short, Long}
-use Rattle.mbus_rules.proofs.Laws.TestLaws.{all-passing}
-use Rattle.mbus_rules.proofs.Laws.ByteLaws.{spell, spell-whole}
+use Rattle.base_rules.proofs.Laws.TestLaws.{all-passing}
+use Rattle.base_rules.proofs.Laws.ByteLaws.{spell, spell-whole}
 
 -- ---- what the rules 4 to 8 let pass
 
 pub ack-read : (b : List ℕ) → isAck b ≡ true → length b ≡ 1 → b ≡ 0xE5 ∷ []
 ack-read b q n = spell-whole 1 b n ∙ rw (eqb-true (at b 0) 0xE5 q)
-
--- From the place of its sum on, a list that ends in sum and 16 is what stands there, closed.
-pub closed-read : (from : ℕ) (b : List ℕ) → from + 2 ≤ length b → Closed from b → drop from b ≡ closed (take (length b - (from + 2)) (drop from b))
-closed-read from b h c =
-    let n : ℕ = length b in
-    let f : List ℕ = take (n - (from + 2)) (drop from b) in
-    let last : at b (suc (n - 2)) ≡ 0x16 = ap (at b) (omega arith) ∙ c .end in
-    let two : drop (n - 2) b ≡ total f % 256 ∷ 0x16 ∷ [] =
-    sym (take-all 2 (drop (n - 2) b) (rw (length-drop (n - 2) b) (omega arith))) ∙ spell 2 (n - 2) b (omega arith) ∙ rw (c .sum, last) in
-    let place : from + (n - (from + 2)) ≡ n - 2 = omega arith in
-    let rest : drop (n - (from + 2)) (drop from b) ≡ drop (n - 2) b = drop-drop (n - (from + 2)) from b ∙ ap (λ (i : ℕ). drop i b) place in
-    sym (take-append-drop (n - (from + 2)) (drop from b)) ∙ ap (λ (l : List ℕ). f ++ l) (rest ∙ two)
 
 pub short-read : (b : List ℕ) → at b 0 ≡ 0x10 → Short b → (b ≡ shortFrame (take 2 (drop 1 b))) × (length (take 2 (drop 1 b)) ≡ 2)
 short-read b z s =
@@ -57,12 +46,9 @@ short-written body x y =
     rw (eq-eqb cs cs refl)
 
 module _ (f : List ℕ) where
-  pub closed-length : length (closed f) ≡ length f + 2
-  closed-length = length-append f (total f % 256 ∷ 0x16 ∷ [])
-
   pub long-field : field (longFrame f) ≡ f
   long-field =
-      let n : length (closed f) ≡ length f + 2 = closed-length in
+      let n : length (closed f) ≡ length f + 2 = closed-length f in
       let l : length (longFrame f) - 6 ≡ length f = omega arith in
       ap (λ (k : ℕ). take k (closed f)) l ∙ take-append-seam f (total f % 256 ∷ 0x16 ∷ [])
 
@@ -73,7 +59,7 @@ module _ (f : List ℕ) where
   pub long-written : {A : Type 0} (body : List ℕ → Answer A) → readFrame body (longFrame f) ≡ body (longFrame f)
   long-written body =
       let b : List ℕ = longFrame f in
-      let n : length (closed f) ≡ length f + 2 = closed-length in
+      let n : length (closed f) ≡ length f + 2 = closed-length f in
       let cs : ℕ = total f % 256 in
       let sum : at b (length b - 2) ≡ total (field b) % 256 = after (length b - 2) 0 (omega arith) ∙ ap (λ (l : List ℕ). total l % 256) (sym long-field) in
       all-passing ((4, wrongStart b) ∷ (5, wrongCount b) ∷ (6, wrongLengths b) ∷ (7, wrongEnd b) ∷ (8, wrongSum b) ∷ []) (body b) (

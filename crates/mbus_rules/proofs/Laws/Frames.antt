@@ -7,10 +7,10 @@ use mathlib.Core.Path.{_≡_, sym, _∙_}
 use lib.Dec.{eqb, ltb}
 use lib.ListN.{length, length-append, List·getD-append}
 use borrow.Author.Tests.{eqb-true, ne-eqb, not-false}
-use Rattle.mbus_rules.specs.Lists.{at}
+use Rattle.base_rules.specs.Lists.{at}
 use Rattle.mbus_rules.specs.Lines.{isAck, isShort, isLong, wrongStart, wrongCount, wrongLengths, wrongEnd, wrongSum}
-use Rattle.mbus_rules.proofs.Laws.Closing.{Closed, closed-byte, none-added}
-use Rattle.mbus_rules.proofs.Laws.Tests.{by-test, neither, not-different}
+use Rattle.base_characters.proofs.Laws.Closing.{Closed, closed-byte, none-added}
+use Rattle.base_rules.proofs.Laws.Tests.{by-test, neither, not-different}
 
 -- The rule on the bytes of a line: none of 4 to 8 refuses.
 pub record Framed (b : List ℕ) : Type 0 where

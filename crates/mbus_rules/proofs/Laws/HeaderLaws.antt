@@ -9,14 +9,14 @@ use lib.Dec.{ltb}
 use lib.ListN.{length, take}
 use lib.Seq.{length-take-le, take-add}
 use Rattle.mbus_rules.specs.declared.Header.{Header}
-use Rattle.mbus_rules.specs.Lists.{at, any}
-use Rattle.mbus_rules.specs.Digits.{overNine, digitsOf, packed}
+use Rattle.base_rules.specs.Lists.{at, any}
+use Rattle.base_digits.specs.Digits.{overNine, digitsOf, packed}
 use Rattle.mbus_rules.specs.Headers.{headerOf, letter, makerNamed, heatMeter, wrongHeader}
 use Rattle.mbus_rules.specs.Writing.{bytesOfHeader, unwrittenHeader}
-use Rattle.mbus_rules.proofs.Laws.TestLaws.{none, every}
-use Rattle.mbus_rules.specs.Bytes.{Bytes}
-use Rattle.mbus_rules.proofs.Laws.ByteLaws.{byte-at, bytes-append, spell}
-use Rattle.mbus_rules.proofs.Laws.DigitLaws.{packed-digits, digits-below, digits-packed, packed-right, bytes-packed}
+use Rattle.base_rules.proofs.Laws.TestLaws.{none, every}
+use Rattle.base_rules.specs.Bytes.{Bytes}
+use Rattle.base_rules.proofs.Laws.ByteLaws.{byte-at, bytes-append, spell}
+use Rattle.base_digits.proofs.Laws.DigitLaws.{packed-digits, digits-below, digits-packed, packed-right, bytes-packed}
 use Rattle.mbus_rules.specs.HeaderSizes.{Fits}
 
 -- ---- from bytes to a header and back

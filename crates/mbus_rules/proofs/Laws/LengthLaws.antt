@@ -8,13 +8,12 @@ use borrow.Author.Tests.{eqb-true, not-false}
 use lib.Dec.{eqb, ltb, lit≤}
 use lib.ListN.{length, length-append}
 use Rattle.mbus_rules.specs.declared.Entry.{Entry}
-use Rattle.mbus_rules.specs.Lists.{any}
-use Rattle.mbus_rules.specs.Quantities.{quantityOf, widthOf, paired, isTime, isPacked, isBinary, unknown}
-use Rattle.mbus_rules.specs.Quantities.{energy, volume, inlet, outlet, time}
+use Rattle.base_rules.specs.Lists.{any}
+use Rattle.mbus_rules.specs.Quantities.{quantityOf, widthOf, paired, isTime, isPacked, isBinary, unknown, energy, volume, inlet, outlet, time}
 use Rattle.mbus_rules.specs.Entries.{seen, missing}
 use Rattle.mbus_rules.specs.Writing.{bytesOfEntry, bytesOfEntries, wrongValue, wrongEntry}
-use Rattle.mbus_rules.proofs.Laws.TestLaws.{none, every, picked}
-use Rattle.mbus_rules.proofs.Laws.Tests.{by-test}
+use Rattle.base_rules.proofs.Laws.TestLaws.{none, every, picked}
+use Rattle.base_rules.proofs.Laws.Tests.{by-test}
 use Rattle.mbus_rules.proofs.Laws.RowLaws.{time-quantity, missing-five, width-most, width-least}
 use Rattle.mbus_rules.proofs.Laws.EntryLaws.{entry-written, six-wide}
 

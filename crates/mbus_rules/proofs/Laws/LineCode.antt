@@ -5,16 +5,15 @@ use mathlib.Core.List.{List, [], _++_, map, flatten}
 use mathlib.Core.Path.{_≡_}
 use lib.Dec.{eqb}
 use lib.ListN.{length}
-use Rattle.mbus_rules.specs.Lists.{any}
-use Rattle.mbus_rules.specs.Characters.{over, odd, byteOf}
-use Rattle.mbus_rules.specs.Answers.{Answer, reads, refusal}
-use Rattle.mbus_rules.specs.Lines.{wrongStart, wrongCount, wrongLengths, wrongEnd, wrongSum}
-use Rattle.mbus_rules.specs.Lines.{readFrame, readWith, readBody, readLine, Accepted}
-use Rattle.mbus_rules.specs.Flips.{Place, flips, Places}
-use Rattle.mbus_rules.proofs.Laws.Codes
-use Rattle.mbus_rules.proofs.Laws.Codes.{Sound, Code}
-use Rattle.mbus_rules.specs.Each.{Each}
-use Rattle.mbus_rules.proofs.Laws.Tests.{passed}
+use Rattle.base_rules.specs.Lists.{any}
+use Rattle.base_characters.specs.Characters.{over, odd, byteOf}
+use Rattle.base_rules.specs.Answers.{Answer, reads, refusal}
+use Rattle.mbus_rules.specs.Lines.{wrongStart, wrongCount, wrongLengths, wrongEnd, wrongSum, readFrame, readWith, readBody, readLine, Accepted}
+use Rattle.base_characters.specs.Flips.{Place, flips, Places}
+use Rattle.base_characters.proofs.Laws.Codes
+use Rattle.base_characters.proofs.Laws.Codes.{Sound, Code}
+use Rattle.base_rules.specs.Each.{Each}
+use Rattle.base_rules.proofs.Laws.Tests.{passed}
 use Rattle.mbus_rules.proofs.Laws.Frames.{Framed, framed-byte, framed-longer}
 
 -- ---- what is asked, for any rules of the body

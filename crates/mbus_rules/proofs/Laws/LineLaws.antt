@@ -1,7 +1,7 @@
 -- The bytes of a whole line both ways, by its kind.
 use Prim.Native.Nat.{ℕ, _+_, _-_, _%_, _<_, _≤_}
 use mathlib.Core.Bool.{Bool, true, false, cond, not, _||_, false≢true, or-false}
-use mathlib.Core.List.{List, [], _∷_, _++_, map}
+use mathlib.Core.List.{List, [], _∷_, _++_}
 use mathlib.Core.Path.{_≡_, refl, sym, ap, ap₂, subst, _∙_}
 use native.Mathlib.Omega.{arith}
 use borrow.Author.Tests.{ltb-false, leb-true, le-leb, eqb-true, ne-eqb, not-false}
@@ -13,59 +13,33 @@ use Rattle.mbus_rules.specs.declared.Kind.the-variants.{Ack, Read, Enter
 use Rattle.mbus_rules.specs.declared.Entry.{Entry}
 use Rattle.mbus_rules.specs.declared.Header.{Header}
 use Rattle.mbus_rules.specs.declared.Telegram.{Telegram}
-use Rattle.mbus_rules.specs.Lists.{at, any, total}
-use Rattle.mbus_rules.specs.Characters.{over, odd, byteOf, carrier}
-use Rattle.mbus_rules.proofs.Laws.CharacterLaws.{carrier-byte, byte-carrier, carrier-even, carrier-in-range}
-use Rattle.mbus_rules.specs.Answers.{Answer, reads, refuse, within}
+use Rattle.base_rules.specs.Lists.{at, any, total}
+use Rattle.base_rules.specs.Answers.{Answer, reads, refuse, within}
 use Rattle.mbus_rules.specs.Headers.{headerOf, wrongHeader}
 use Rattle.mbus_rules.specs.Entries.{missing, readEntries}
 use Rattle.mbus_rules.specs.Telegrams.{blankEntry, blankHeader, readOf, enterOf, leaveOf, dataOf, bare}
 use Rattle.mbus_rules.specs.Lines.{isAck, isShort, wrongStart, wrongCount, wrongLengths, wrongEnd, wrongSum, field, isMethod, isCommand, isData}
 use Rattle.mbus_rules.specs.Lines.{readShort, commandOf, readData, readLong, readBody, readFrame}
-use Rattle.mbus_rules.specs.Writing.{bytesOfHeader, bytesOfEntries, closed, shortFrame, longFrame, entriesOf, bytesOfKind, usedBody, usedEntry, longest}
+use Rattle.mbus_rules.specs.Writing.{bytesOfHeader, bytesOfEntries, shortFrame, longFrame, entriesOf, bytesOfKind, usedBody, usedEntry, longest}
+use Rattle.base_characters.specs.Closing.{closed}
 use Rattle.mbus_rules.specs.Writing.{unwrittenHeader, wrongEntry, repeats, wrongData, wrongFor, unwritable}
-use Rattle.mbus_rules.proofs.Laws.TestLaws.{none, every, all-passed, within-reads}
-use Rattle.mbus_rules.proofs.Laws.Tests.{not-different, by-test, passed}
-use Rattle.mbus_rules.proofs.Laws.AnswerLaws.{reads-same}
-use Rattle.mbus_rules.specs.Bytes.{Bytes}
-use Rattle.mbus_rules.proofs.Laws.ByteLaws.{byte-at, bytes-append, bytes-take, bytes-drop, spell, spell-whole}
+use Rattle.base_rules.proofs.Laws.TestLaws.{none, every, all-passed, within-reads}
+use Rattle.base_rules.proofs.Laws.Tests.{not-different, by-test, passed}
+use Rattle.base_rules.proofs.Laws.AnswerLaws.{reads-same}
+use Rattle.base_rules.specs.Bytes.{Bytes}
+use Rattle.base_rules.proofs.Laws.ByteLaws.{byte-at, bytes-append, bytes-take, bytes-drop, spell, spell-whole}
 use Rattle.mbus_rules.proofs.Laws.HeaderLaws.{HeaderRead, header-read, header-fits, header-length, header-written, header-bytes}
 use Rattle.mbus_rules.specs.HeaderSizes.{Fits}
 use Rattle.mbus_rules.proofs.Laws.Seven.{none-yet}
 use Rattle.mbus_rules.proofs.Laws.EntryLaws.{EntriesRead, entries-read, entries-written, entries-bytes}
 use Rattle.mbus_rules.proofs.Laws.LengthLaws.{entries-least, entries-most}
 use Rattle.mbus_rules.proofs.Laws.Frames.{Framed, Short, Long, form}
-use Rattle.mbus_rules.proofs.Laws.FrameLaws.{ack-read, short-read, long-read, short-written, closed-length, long-written, long-field}
+use Rattle.mbus_rules.proofs.Laws.FrameLaws.{ack-read, short-read, long-read, short-written, long-written, long-field}
+use Rattle.base_characters.proofs.Laws.Closing.{closed-length}
 use Rattle.mbus_rules.specs.TelegramSizes.{Sized}
 use Rattle.mbus_rules.proofs.Laws.TelegramLaws.{zero-of, bare-back, data-back, data-entries, data-writable}
 
 -- ---- the characters of a line
-
-pub even-line : (s : List ℕ) → any over s ≡ false → any odd s ≡ false → s ≡ map carrier (map byteOf s)
-unfolding any
-even-line [] h k = refl
-even-line (c ∷ s) h k =
-    let p = none (over c) (any over s ∷ []) h in
-    let q = none (odd c) (any odd s ∷ []) k in
-    ap₂ (λ (x : ℕ) (l : List ℕ). x ∷ l) (sym (carrier-byte c (ltb-false 511 c (p .0)) (q .0))) (even-line s (p .1 .0) (q .1 .0))
-
-pub record Carried (b : List ℕ) : Type 0 where
-  pub range : any over (map carrier b) ≡ false
-  pub even : any odd (map carrier b) ≡ false
-  pub back : map byteOf (map carrier b) ≡ b
-
-pub carried : (b : List ℕ) → Bytes b → Carried b
-unfolding any
-carried [] h = record { range = refl; even = refl; back = refl }
-carried (x ∷ b) h =
-    let r : Carried b = carried b (h .1) in
-    record {
-      range = rw (carrier-in-range x (h .0)) (r .range);
-      even = rw (carrier-even x (h .0)) (r .even);
-      back = ap₂ (λ (y : ℕ) (l : List ℕ). y ∷ l) (byte-carrier x (h .0)) (r .back);
-    }
-
--- ---- from an accepted line to the line that is written
 
 pub record Round (b : List ℕ) (t : Telegram) : Type 0 where
   pub back : b ≡ bytesOfKind (t .kind) t

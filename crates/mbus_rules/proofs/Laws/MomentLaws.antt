@@ -1,19 +1,21 @@
 -- A point in time both ways, in six bytes.
 use Prim.Native.Nat.{ℕ, _+_, _*_, _/_, _%_, _<_, _≤_}
-use mathlib.Core.Bool.{true, false, cond, not, _&&_, _||_}
+use mathlib.Core.Bool.{true, false, not, _&&_, _||_}
 use mathlib.Core.List.{List, [], _∷_}
 use mathlib.Core.Path.{_≡_, sym, ap, _∙_}
 use native.Mathlib.Omega.{arith}
 use borrow.Author.Tests.{ltb-true, ltb-false, leb-true, le-ltb, lt-ltb, not-false}
-use lib.Dec.{ltb, leb, eqb, lit≤}
+use lib.Dec.{ltb, leb}
 use lib.ListN.{length}
 use Rattle.mbus_rules.specs.declared.Moment.{Moment}
-use Rattle.mbus_rules.specs.Lists.{at}
-use Rattle.mbus_rules.specs.Moments.{momentOf, spareBits, daysIn, february, leap, shortMonth, dateExists, timeExists, weekdayExists, wrongMoment}
+use Rattle.base_rules.specs.Lists.{at}
+use Rattle.mbus_rules.specs.Moments.{momentOf, spareBits, dateExists, timeExists, weekdayExists, wrongMoment}
+use Rattle.base_calendar.specs.Months.{daysIn}
 use Rattle.mbus_rules.specs.Writing.{momentBytes}
-use Rattle.mbus_rules.proofs.Laws.TestLaws.{none, every, picked}
-use Rattle.mbus_rules.specs.Bytes.{Bytes}
-use Rattle.mbus_rules.proofs.Laws.ByteLaws.{byte-at, spell-whole}
+use Rattle.base_rules.proofs.Laws.TestLaws.{none, every}
+use Rattle.base_rules.specs.Bytes.{Bytes}
+use Rattle.base_rules.proofs.Laws.ByteLaws.{byte-at, spell-whole}
+use Rattle.base_calendar.proofs.Laws.Months.{days-below}
 
 -- ---- from bytes to a point in time and back
 
@@ -52,12 +54,6 @@ weekday-unasked d b₁ b₂ hour b₄ b₅ b₆ =
     rw low
 
 -- ---- from a point in time to bytes and back
-
-pub days-below : (y month : ℕ) → daysIn y month ≤ 31
-days-below y month =
-    picked (λ (n : ℕ). n ≤ 31) (eqb month 2) (february y) (cond (shortMonth month) 30 31)
-    (picked (λ (n : ℕ). n ≤ 31) (leap y) 29 28 (lit≤ tt) (lit≤ tt))
-    (picked (λ (n : ℕ). n ≤ 31) (shortMonth month) 30 31 (lit≤ tt) (lit≤ tt))
 
 -- what the rules say of the numbers of a point in time
 pub record Exists (m : Moment) : Type 0 where

@@ -10,15 +10,15 @@ use lib.Dec.{ltb, eqb}
 use lib.ListN.{length, length-map}
 use Rattle.mbus_rules.specs.declared.Kind.the-variants.{Data}
 use Rattle.mbus_rules.specs.declared.Telegram.{Telegram}
-use Rattle.mbus_rules.specs.Lists.{at, any}
-use Rattle.mbus_rules.specs.Characters.{over, odd, byteOf, carrier}
-use Rattle.mbus_rules.specs.Answers.{reads, refusal}
+use Rattle.base_rules.specs.Lists.{at, any}
+use Rattle.base_characters.specs.Characters.{over, odd, byteOf, carrier}
+use Rattle.base_rules.specs.Answers.{reads, refusal}
 use Rattle.mbus_rules.specs.Lines.{readBody, readFrame, readLine, Accepted}
 use Rattle.mbus_rules.specs.Writing.{entriesOf, bytesOfKind, lineOf, longest, wrongData, wrongFor, unwritable, writeLine}
-use Rattle.mbus_rules.proofs.Laws.TestLaws.{none, all-passed, all-passing}
-use Rattle.mbus_rules.proofs.Laws.Tests.{by-test}
-use Rattle.mbus_rules.proofs.Laws.ByteLaws.{bytes-of}
-use Rattle.mbus_rules.proofs.Laws.LineLaws.{even-line, Carried, carried, Round, frame-round, Reads, kind-reads, data-length, good-data, kind-length}
+use Rattle.base_rules.proofs.Laws.TestLaws.{none, all-passed, all-passing}
+use Rattle.base_rules.proofs.Laws.Tests.{by-test}
+use Rattle.base_characters.proofs.Laws.CharacterLaws.{bytes-of, even-line, Carried, carried}
+use Rattle.mbus_rules.proofs.Laws.LineLaws.{Round, frame-round, Reads, kind-reads, data-length, good-data, kind-length}
 use Rattle.mbus_rules.specs.TelegramSizes.{Sized}
 
 -- Every accepted line equals what is written for its reading, to the character, and its reading can be written.

@@ -1,6 +1,6 @@
 -- Laws that hold of every list of rows, and what tests that are computed over 01's two tables tell of each unit byte and structure.
 use Prim.Native.Nat.{ℕ, zero, suc, _+_, _≤_, _<_}
-use mathlib.Core.Bool.{Bool, true, false, cond, not, _&&_, _||_, and-eq-true-iff, false≢true}
+use mathlib.Core.Bool.{Bool, true, false, cond, not, _&&_, _||_, and-eq-true-iff}
 use mathlib.Core.List.{List, [], _∷_}
 use mathlib.Core.Path.{_≡_, refl, sym, ap, _∙_}
 use native.Mathlib.Decide.{decLt}
@@ -13,12 +13,12 @@ use lib.ListN.{length, getD, drop, drop-of-length-le}
 use lib.Seq.{drop-cons}
 use Rattle.mbus_rules.specs.declared.UnitRow.{UnitRow}
 use Rattle.mbus_rules.specs.declared.StructureRow.{StructureRow}
-use Rattle.mbus_rules.specs.Lists.{any}
+use Rattle.base_rules.specs.Lists.{any}
 use Rattle.mbus_rules.specs.Quantities.{table, noRow, firstWith, hasUnit, rowOf, quantityOf, isTime}
 use Rattle.mbus_rules.specs.Quantities.{energy, volume, power, flow, inlet, outlet, time, unknown}
 use Rattle.mbus_rules.specs.Quantities.{structures, noStructure, hasStructure, structureOf, widthOf, isPacked, isBinary}
 use Rattle.mbus_rules.specs.Entries.{mayFall, lacking}
-use Rattle.mbus_rules.proofs.Laws.Tests.{by-test, below}
+use Rattle.base_rules.proofs.Laws.Tests.{by-test, below}
 
 -- ---- every list of rows
 

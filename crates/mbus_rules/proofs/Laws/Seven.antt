@@ -10,10 +10,10 @@ use lib.Dec.{ltb, eqb, lit<}
 use lib.ListN.{length, length-append}
 use borrow.Author.Tests.{ltb-true, eqb-true, eqb-false, ne-eqb, not-false}
 use Rattle.mbus_rules.specs.declared.Entry.{Entry}
-use Rattle.mbus_rules.specs.Lists.{at, any}
+use Rattle.base_rules.specs.Lists.{at, any}
 use Rattle.mbus_rules.specs.Quantities.{quantityOf, paired, isTime, isPacked, isBinary}
 use Rattle.mbus_rules.specs.Entries.{entryWidth, unfit, seen}
-use Rattle.mbus_rules.proofs.Laws.Tests.{by-test, neither}
+use Rattle.base_rules.proofs.Laws.Tests.{by-test, neither}
 
 -- ---- how many numbers below a bound pass a test
 

@@ -9,13 +9,14 @@ use borrow.Author.Tests.{eqb-true, eqb-false, ne-eqb, ltb-true, lt-ltb, ltb-fals
 use lib.Dec.{ltb, eqb}
 use lib.IntN.{ℤ, pos, negsuc}
 use lib.ListN.{length}
-use Rattle.mbus_rules.specs.Lists.{any}
-use Rattle.mbus_rules.specs.Digits.{overNine, digitsOf, packed}
-use Rattle.mbus_rules.specs.Bytes.{Bytes}
-use Rattle.mbus_rules.specs.Signs.{minus, sizeBytes, marked, signedOf, wrongSigned, signedBytes, fitsSigned, belowZero}
-use Rattle.mbus_rules.proofs.Laws.Tests.{by-test, neither}
-use Rattle.mbus_rules.proofs.Laws.TestLaws.{none}
-use Rattle.mbus_rules.proofs.Laws.DigitLaws.{packed-digits, digits-below, digits-packed, packed-right, length-packed, bytes-packed}
+use Rattle.base_rules.specs.Lists.{any}
+use Rattle.base_digits.specs.Digits.{overNine, digitsOf, packed}
+use Rattle.base_rules.specs.Bytes.{Bytes}
+use Rattle.mbus_rules.specs.Signs.{minus, sizeBytes, marked, signedOf, wrongSigned, signedBytes, fitsSigned}
+use Rattle.base_numbers.specs.TwosComplement.{belowZero}
+use Rattle.base_rules.proofs.Laws.Tests.{by-test, neither}
+use Rattle.base_rules.proofs.Laws.TestLaws.{none}
+use Rattle.base_digits.proofs.Laws.DigitLaws.{packed-digits, digits-below, digits-packed, packed-right, length-packed, bytes-packed}
 
 -- ---- the mark, taken off and put on
 

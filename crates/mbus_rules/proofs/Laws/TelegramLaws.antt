@@ -16,12 +16,12 @@ use Rattle.mbus_rules.specs.declared.Kind.the-variants.{Data}
 use Rattle.mbus_rules.specs.declared.Entry.{Entry}
 use Rattle.mbus_rules.specs.declared.Header.{Header}
 use Rattle.mbus_rules.specs.declared.Telegram.{Telegram}
-use Rattle.mbus_rules.specs.Lists.{any}
-use Rattle.mbus_rules.specs.Signs.{isZero}
+use Rattle.base_rules.specs.Lists.{any}
+use Rattle.base_numbers.specs.TwosComplement.{isZero}
 use Rattle.mbus_rules.specs.Telegrams.{blankEntry, blankHeader, bare, dataOf}
 use Rattle.mbus_rules.specs.Entries.{missing}
 use Rattle.mbus_rules.specs.Writing.{entriesOf, usedValue, usedEntry, usedHeader, usedBody, wrongEntry, unwrittenHeader, repeats, unwritable}
-use Rattle.mbus_rules.proofs.Laws.TestLaws.{none}
+use Rattle.base_rules.proofs.Laws.TestLaws.{none}
 
 -- ---- what is not used is blank
 

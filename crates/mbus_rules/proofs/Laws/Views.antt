@@ -1,7 +1,7 @@
 -- Laws of `specs/Views`.
 use mathlib.Core.Path.{_≡_, refl}
 use Rattle.mbus_rules.specs.declared.Telegram.{Telegram}
-use Rattle.mbus_rules.specs.Answers.{Answer, reads, refusal}
+use Rattle.base_rules.specs.Answers.{Answer, reads, refusal}
 use Rattle.mbus_rules.specs.Telegrams.{shown}
 use Rattle.mbus_rules.specs.Views.{viewed, viewIn}
 

@@ -10,8 +10,8 @@ use borrow.Author.Tests.{eqb-true, eqb-false, ltb-true, ltb-false}
 use lib.Dec.{eqb, ltb}
 use lib.ListN.{length, take, drop, length-drop, drop-of-length-le}
 use lib.Seq.{take-nil, drop-nil}
-use Rattle.mbus_rules.specs.Answers.{Answer, reads, refusal}
-use Rattle.mbus_rules.proofs.Laws.Tests.{by-test}
+use Rattle.base_rules.specs.Answers.{Answer, reads, refusal}
+use Rattle.base_rules.proofs.Laws.Tests.{by-test}
 use Rattle.mbus_rules.specs.Lines.{readLine}
 use Rattle.mbus_search.specs.Searching.{accepts, Begins, lengthFrom, lengthHere, Spot, further, orElse, findIn, foundShown}
 use Rattle.mbus_search.proofs.Laws.SearchLaws.{leftAt, only-length, here-hit}

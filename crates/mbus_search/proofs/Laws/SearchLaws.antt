@@ -16,13 +16,13 @@ use Rattle.mbus_rules.specs.declared.Kind.the-variants as kinds
 use Rattle.mbus_rules.specs.declared.View.{View}
 use Rattle.mbus_rules.specs.declared.View.the-variants as views
 use Rattle.mbus_rules.specs.Views.{viewOf, viewed}
-use Rattle.mbus_rules.specs.Lists.{at}
-use Rattle.mbus_rules.proofs.Laws.ListLaws.{map-take}
-use Rattle.mbus_rules.specs.Characters.{byteOf}
-use Rattle.mbus_rules.specs.Answers.{Answer, reads, refusal}
-use Rattle.mbus_rules.proofs.Laws.Tests.{by-test, not-different}
+use Rattle.base_rules.specs.Lists.{at}
+use Rattle.base_rules.proofs.Laws.ListLaws.{map-take}
+use Rattle.base_characters.specs.Characters.{byteOf}
+use Rattle.base_rules.specs.Answers.{Answer, reads, refusal}
+use Rattle.base_rules.proofs.Laws.Tests.{by-test, not-different}
 use Rattle.mbus_rules.specs.Lines.{isAck, readLine}
-use Rattle.mbus_rules.proofs.Laws.Codes.{Sound}
+use Rattle.base_characters.proofs.Laws.Codes.{Sound}
 use Rattle.mbus_rules.proofs.Laws.Frames.{Framed, form}
 use Rattle.mbus_rules.proofs.Laws.LineCode.{line-code}
 use Rattle.mbus_shape.specs.First.{leftBy}

@@ -10,13 +10,13 @@ use lib.Dec.{leb}
 use lib.ListN
 use lib.ListN.{take, drop, set, length-set, length-drop, length-map, drop-of-length-le}
 use lib.Seq.{getD-take, drop-cons, take-all, take-suc, take-suc-set, length-take-le}
-use Rattle.mbus_rules.specs.Lists.{at, total}
-use Rattle.mbus_rules.specs.Characters.{over, odd, byteOf}
-use Rattle.mbus_rules.specs.Answers.{Answer, reads, refusal}
-use Rattle.mbus_rules.proofs.Laws.Closing.{total-append}
-use Rattle.mbus_rules.proofs.Laws.ListLaws.{Gathered, gathered-none, gathered-next, gathered-all}
-use Rattle.mbus_rules.proofs.Laws.Tests.{by-test, none-at, neither}
-use Rattle.mbus_rules.proofs.Laws.Codes.{Sound}
+use Rattle.base_rules.specs.Lists.{at, total}
+use Rattle.base_characters.specs.Characters.{over, odd, byteOf}
+use Rattle.base_rules.specs.Answers.{Answer, reads, refusal}
+use Rattle.base_characters.proofs.Laws.Closing.{total-append}
+use Rattle.base_rules.proofs.Laws.ListLaws.{Gathered, gathered-none, gathered-next, gathered-all}
+use Rattle.base_rules.proofs.Laws.Tests.{by-test, none-at, neither}
+use Rattle.base_characters.proofs.Laws.Codes.{Sound}
 use Rattle.mbus_rules.proofs.Laws.Frames.{Framed}
 use Rattle.mbus_rules.specs.Lines.{readBody, readLine}
 use Rattle.mbus_shape.specs.Shapes.{frameBy}

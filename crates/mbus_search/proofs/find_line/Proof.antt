@@ -9,7 +9,7 @@ use denote.Ref.{now}
 use lib.ListN
 use lib.ListN.{take, drop, length-replicate}
 use lib.Seq.{length-take-le}
-use Rattle.mbus_rules.specs.Answers.{refusal}
+use Rattle.base_rules.specs.Answers.{refusal}
 use Rattle.mbus_search.specs.declared.Found.the-variants.{Refused}
 use Rattle.mbus_search.specs.Searching.{lengthHere}
 use Rattle.mbus_search.proofs.Laws.Walks.{Searched, searched-none, searched-next, searched-all, searched-hit, Walked, walked-none, walked-next}

@@ -8,12 +8,12 @@ use borrow.Author.Tests.{eqb-true, eqb-false, eq-eqb, ltb-true, ltb-false, lt-lt
 use lib.Dec.{eqb, ltb}
 use lib.ListN.{length, take, List·getD-eq-default}
 use lib.Seq.{getD-take, length-take-le}
-use Rattle.mbus_rules.specs.Lists.{at}
-use Rattle.mbus_rules.specs.Characters.{byteOf}
+use Rattle.base_rules.specs.Lists.{at}
+use Rattle.base_characters.specs.Characters.{byteOf}
 use Rattle.mbus_rules.specs.Lines.{isAck, isShort, isLong, wrongStart}
 use Rattle.mbus_rules.proofs.Laws.Frames.{Framed, Short, Long, form}
-use Rattle.mbus_rules.proofs.Laws.ListLaws.{at-bytes}
-use Rattle.mbus_rules.proofs.Laws.Tests.{by-test, neither}
+use Rattle.base_characters.proofs.Laws.CharacterLaws.{at-bytes}
+use Rattle.base_rules.proofs.Laws.Tests.{by-test, neither}
 use Rattle.mbus_shape.specs.First.{lineCount, wrongLengthsIn, leftBy}
 
 -- 4 or 6 refuses every line with these first bytes

@@ -13,15 +13,15 @@ use Rattle.mbus_rules.specs.declared.Request.{Request}
 use Rattle.mbus_rules.specs.declared.Request.the-variants.{Read, Enter, Leave}
 use Rattle.mbus_rules.specs.declared.View.{View}
 use Rattle.mbus_rules.specs.declared.View.the-variants.{Refused, Ack, Asks, Data}
-use Rattle.mbus_rules.specs.Lists.{at}
-use Rattle.mbus_rules.specs.Answers.{Answer, reads, refusal, refuse}
+use Rattle.base_rules.specs.Lists.{at}
+use Rattle.base_rules.specs.Answers.{Answer, reads, refusal, refuse}
 use Rattle.mbus_rules.specs.declared.Kind.the-variants as kinds
 use Rattle.mbus_rules.specs.Telegrams.{bare, ack, readOf, enterOf, leaveOf}
 use Rattle.mbus_rules.specs.Lines.{field, isAck, isShort, isLong, isCommand, isData, commandOf, wrongStart, wrongCount, wrongLengths, wrongEnd, wrongSum}
 use Rattle.mbus_rules.specs.Lines.{readShort, readLong, readData, readBody, readFrame}
-use Rattle.mbus_rules.proofs.Laws.ListLaws.{drop-take}
-use Rattle.mbus_rules.proofs.Laws.Tests.{by-test}
-use Rattle.mbus_rules.proofs.Laws.TestLaws.{every}
+use Rattle.base_rules.proofs.Laws.ListLaws.{drop-take}
+use Rattle.base_rules.proofs.Laws.Tests.{by-test}
+use Rattle.base_rules.proofs.Laws.TestLaws.{every}
 use Rattle.mbus_rules.specs.Views.{viewed}
 use Rattle.mbus_shape.specs.Shapes.{shapeLong, shapeBody, askedOf, wholeWrong, frameBy}
 

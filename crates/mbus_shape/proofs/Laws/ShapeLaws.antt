@@ -10,11 +10,11 @@ use lib.ListN.{length, take, drop}
 use Rattle.mbus_rules.specs.declared.Telegram.{Telegram}
 use Rattle.mbus_rules.specs.declared.View.{View}
 use Rattle.mbus_rules.specs.declared.View.the-variants.{Refused, Ack}
-use Rattle.mbus_rules.specs.Lists.{at, total}
-use Rattle.mbus_rules.specs.Answers.{Answer, refuse}
+use Rattle.base_rules.specs.Lists.{at, total}
+use Rattle.base_rules.specs.Answers.{Answer, refuse}
 use Rattle.mbus_rules.proofs.Laws.Chain.{after-short}
 use Rattle.mbus_rules.specs.Lines.{isLong, wrongCount, readShort, readFrame}
-use Rattle.mbus_rules.proofs.Laws.Tests.{neither, not-different}
+use Rattle.base_rules.proofs.Laws.Tests.{neither, not-different}
 use Rattle.mbus_rules.specs.Views.{viewed}
 use Rattle.mbus_shape.specs.Shapes.{shapeLong, shapeBody, endWrong, sumWrong, wholeWrong, frameBy}
 use Rattle.mbus_shape.specs.Counts.{ShortCount, LongCount}

@@ -7,13 +7,13 @@ use native.Mathlib.Omega.{arith}
 use borrow.Author.Tests.{eqb-true, eqb-false, eq-eqb, ne-eqb, ltb-false}
 use lib.Dec.{eqb, ltb}
 use lib.ListN.{length, take, drop}
-use Rattle.mbus_rules.specs.Lists.{at, total}
-use Rattle.mbus_rules.specs.Characters.{byteOf}
-use Rattle.mbus_rules.specs.Answers.{Answer, refuse}
+use Rattle.base_rules.specs.Lists.{at, total}
+use Rattle.base_characters.specs.Characters.{byteOf}
+use Rattle.base_rules.specs.Answers.{Answer, refuse}
 use Rattle.mbus_rules.specs.Lines.{field, isLong, wrongStart, wrongCount, wrongLengths, wrongEnd, wrongSum, readFrame}
-use Rattle.mbus_rules.proofs.Laws.Closing.{last-two}
-use Rattle.mbus_rules.proofs.Laws.ListLaws.{at-bytes}
-use Rattle.mbus_rules.proofs.Laws.Tests.{by-test, neither, not-different}
+use Rattle.base_characters.proofs.Laws.Closing.{last-two}
+use Rattle.base_characters.proofs.Laws.CharacterLaws.{at-bytes}
+use Rattle.base_rules.proofs.Laws.Tests.{by-test, neither, not-different}
 use Rattle.mbus_shape.specs.Shapes.{wholeWrong, frameBy}
 
 -- the first four bytes and the last two, apart

@@ -7,8 +7,9 @@ use native.Mathlib.Omega.{arith}
 use borrow.Author.Tests.{ltb-true, ltb-false, lt-ltb, le-ltb}
 use lib.Dec.{ltb, lit≤}
 use lib.IntN.{ℤ, pos, negsuc, natAbs}
-use Rattle.mbus_rules.specs.Signs.{fitsSigned, belowZero}
-use Rattle.mbus_rules.proofs.Laws.Tests.{by-test}
+use Rattle.mbus_rules.specs.Signs.{fitsSigned}
+use Rattle.base_numbers.specs.TwosComplement.{belowZero}
+use Rattle.base_rules.proofs.Laws.Tests.{by-test}
 
 pub limit-some : (w : ℕ) → 1 ≤ 100 ^ w
 limit-some zero = lit≤ tt

@@ -12,12 +12,12 @@ use lib.Seq.{drop-cons, take-suc, take-all, length-take-le, getD-take, getD-set-
 use Rattle.mbus_rules.specs.declared.Kind.{Kind}
 use Rattle.mbus_rules.specs.declared.Entry.{Entry}
 use Rattle.mbus_rules.specs.declared.Telegram.{Telegram}
-use Rattle.mbus_rules.specs.Lists.{any}
-use Rattle.mbus_rules.proofs.Laws.ListLaws.{any-snoc}
+use Rattle.base_rules.specs.Lists.{any}
+use Rattle.base_rules.proofs.Laws.ListLaws.{any-snoc}
 use Rattle.mbus_rules.specs.Quantities.{quantityOf}
 use Rattle.mbus_rules.specs.Entries.{seen, lacking}
 use Rattle.mbus_rules.proofs.Laws.RowLaws.{quantity-few, lacking-same}
-use Rattle.mbus_rules.proofs.Laws.Tests.{by-test}
+use Rattle.base_rules.proofs.Laws.Tests.{by-test}
 use Rattle.mbus_rules.specs.Writing.{entriesOf, usedEntry, wrongEntry, unwrittenHeader, repeats, wrongData, wrongFor, unwritable}
 use Rattle.mbus_writable.specs.Together.{wrongTogether}
 

@@ -5,7 +5,7 @@ use mathlib.Core.Path.{_≡_, sym, ap, _∙_}
 use lib.IntN.{natAbs}
 use mir.Syntax.{w64}
 use mir.ValLaws.{toZ-ofZ}
-use Rattle.mbus_rules.specs.Signs.{belowZero}
+use Rattle.base_numbers.specs.TwosComplement.{belowZero}
 use Rattle.mbus_rules.specs.Quantities.{widthOf}
 use Rattle.mbus_rules.proofs.Laws.RowLaws.{width-most}
 use Rattle.mbus_writable.proofs.Laws.Sizes.{limit-some, long-below, long-above}

@@ -5,7 +5,7 @@ use native.Mathlib.Omega.{arith}
 use lib.IntN.{natAbs}
 use mir.Syntax.{w64}
 use mir.ValLaws.{toZ-ofZ}
-use Rattle.mbus_rules.proofs.Laws.Negation.{size-used}
+use Rattle.base_numbers.proofs.Laws.Negation.{size-used}
 use Rattle.mbus_writable.proofs.used_value.Statement.{statement}
 use Rattle.mbus_writable.proofs.used_value.Tie as tie
 

@@ -8,8 +8,8 @@ use mir.Syntax.{w64}
 use mir.ValLaws.{toZ-ofZ}
 use Rattle.mbus_rules.specs.Quantities.{widthOf, isTime}
 use Rattle.mbus_rules.specs.Entries.{mayFall}
-use Rattle.mbus_rules.specs.Signs.{fitsSigned, belowZero}
-use Rattle.mbus_rules.specs.Binary.{fitsBinary}
+use Rattle.mbus_rules.specs.Signs.{fitsSigned}
+use Rattle.base_numbers.specs.TwosComplement.{belowZero, fitsBinary}
 use Rattle.mbus_rules.proofs.Laws.RowLaws.{width-most}
 use Rattle.mbus_writable.proofs.Laws.Sizes.{digits-coded}
 use Rattle.mbus_writable.proofs.wrong_value.Statement.{statement}

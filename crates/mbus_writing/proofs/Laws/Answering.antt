@@ -7,20 +7,13 @@ use borrow.Author.Tests.{lt-ltb, le-ltb}
 use lib.Dec.{ltb}
 use lib.ListN.{length, take, length-map}
 use Rattle.mbus_rules.specs.declared.Telegram.{Telegram}
-use Rattle.mbus_rules.specs.Answers.{Answer, reads, refusal}
-use Rattle.mbus_rules.specs.Characters.{carrier}
+use Rattle.base_characters.specs.Characters.{carrier}
 use Rattle.mbus_rules.specs.Writing.{bytesOfKind, lineOf, longest, unwritable}
 use Rattle.mbus_rules.proofs.Laws.RoundTrip.{longest-line}
-use Rattle.bytes_lent.specs.Copying.{laid}
+use Rattle.base_lent.specs.Copying.{laid}
 use Rattle.mbus_writing.specs.Laying.{BytesLaid}
-use Rattle.mbus_writing.specs.declared.Written.the-variants.{Length, Refused}
-use Rattle.mbus_writing.specs.Answering.{shownWritten, WritesLine, Writes, carriedIn}
-
-pub shown-once : (a b : Answer ℕ) → shownWritten a ≡ shownWritten b → a ≡ b
-shown-once (refusal m) (refusal n) e = cc
-shown-once (refusal m) (reads n) e = cc
-shown-once (reads m) (refusal n) e = cc
-shown-once (reads m) (reads n) e = cc
+use Rattle.base_characters.specs.declared.carrying.Written.the-variants.{Length, Refused}
+use Rattle.mbus_writing.specs.Answering.{WritesLine}
 
 -- ---- the ways out of the writer
 
@@ -49,17 +42,3 @@ module _ (t : Telegram) {bytes : List ℕ} {count : ℕ} (w : unwritable t ≡ f
         answer = rw (w, room) (ap Length length-line);
         places = rw (w, room) (e ∙ ap (λ (q : List ℕ). laid before 0 (map carrier q)) (b .bytes));
       }
-
--- ---- any bytes
-
-module _ (bytes before : List ℕ) where
-  pub bytes-short : length before < length bytes → Writes (carriedIn bytes (length before)) before before (Refused 21)
-  bytes-short h =
-      let short : ltb (length before) (length (map carrier bytes)) ≡ true = rw (length-map bytes carrier) (lt-ltb (length before) (length bytes) h) in
-      record { answer = rw short; places = rw short }
-
-  pub bytes-written : length bytes ≤ length before → {after : List ℕ} → after ≡ laid before 0 (map carrier bytes)
-      → Writes (carriedIn bytes (length before)) before after (Length (length bytes))
-  bytes-written h e =
-      let room : ltb (length before) (length (map carrier bytes)) ≡ false = rw (length-map bytes carrier) (le-ltb (length before) (length bytes) h) in
-      record { answer = rw room (ap Length (sym (length-map bytes carrier))); places = rw room e }

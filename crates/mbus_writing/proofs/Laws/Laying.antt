@@ -1,82 +1,50 @@
 -- Laws of `specs/Laying`.
 use Prim.Native.Nat.{ℕ, zero, suc, _+_, _*_, _-_, _/_, _%_, _^_, _≤_, _<_, zero-le}
 use mathlib.Core.Bool.{true, false, cond, not, _&&_, false≢true}
-use mathlib.Core.List.{List, [], _∷_, _++_, map, append-assoc, append-nil}
+use mathlib.Core.List.{List, [], _∷_, _++_, append-assoc, append-nil}
 use mathlib.Core.Path.{_≡_, refl, sym, ap, ap₂, subst, _∙_}
 use native.Mathlib.Nat.{zero-add, not-suc-le-zero, pow-succ', pow-le-pow-right}
 use native.Mathlib.Numerals.{add-one}
 use native.Mathlib.Omega.{arith}
-use borrow.Author.Tests.{eqb-true, ltb-true, leb-true, le-leb, not-false}
-use lib.Count.{onesIn}
-use lib.Dec.{eqb, ltb, leb, lit<}
+use borrow.Author.Tests.{ltb-true, leb-true, le-leb, not-false}
+use lib.Dec.{ltb, leb, lit<}
 use lib.IntN.{ℤ, pos, negsuc, natAbs}
-use lib.ListN.{length, getD, take, drop, set, length-append, length-set, take-append-drop, drop-of-length-le, length-map, List·getD-map}
+use lib.ListN.{length, getD, take, drop, set, length-append, length-set, take-append-drop, drop-of-length-le}
 use lib.Seq.{drop-cons, take-add, take-suc, take-take, getD-take, take-at, drop-at, take-append-seam, length-take-le}
-use Rattle.bytes_lent.specs.Copying.{laid, copied}
-use Rattle.bytes_lent.proofs.Laws.Copying.{laid-none, laid-front, laid-on, laid-length}
-use Rattle.bytes_lent.proofs.Laws.Copying.{copied-fits, Copied, copied-none, copied-next, copied-length, copied-all}
+use Rattle.base_lent.specs.Copying.{laid, copied}
+use Rattle.base_lent.proofs.Laws.Copying.{laid-none, laid-front, laid-on, laid-length}
+use Rattle.base_lent.proofs.Laws.Copying.{copied-fits}
 use Rattle.mbus_rules.specs.declared.Value.{Value}
 use Rattle.mbus_rules.specs.declared.Value.the-variants.{Number, Time, Binary}
 use Rattle.mbus_rules.specs.declared.Kind.{Kind}
 use Rattle.mbus_rules.specs.declared.Kind.the-variants.{Data}
 use Rattle.mbus_rules.specs.declared.Entry.{Entry}
 use Rattle.mbus_rules.specs.declared.Telegram.{Telegram}
-use Rattle.mbus_rules.specs.Lists.{at, any, total}
-use Rattle.mbus_rules.proofs.Laws.Tests.{below, none-at}
-use Rattle.mbus_rules.specs.Characters.{carrier}
-use Rattle.mbus_rules.proofs.Laws.Folding.{fold}
-use Rattle.mbus_rules.specs.Digits.{packed}
+use Rattle.base_rules.specs.Lists.{at, any, total}
+use Rattle.base_rules.proofs.Laws.Tests.{below, none-at}
+use Rattle.base_digits.specs.Digits.{packed}
 use Rattle.mbus_rules.specs.Entries.{mayFall}
-use Rattle.mbus_rules.specs.Signs.{marked, signedBytes, fitsSigned, belowZero}
+use Rattle.mbus_rules.specs.Signs.{marked, signedBytes, fitsSigned}
+use Rattle.base_numbers.specs.TwosComplement.{belowZero, binaryBytes, fitsBinary}
 use Rattle.mbus_rules.proofs.Laws.SignLaws.{marked-cons}
-use Rattle.mbus_rules.proofs.Laws.DigitLaws.{length-packed}
-use Rattle.mbus_rules.specs.Numbers.{bytesOf}
-use Rattle.mbus_rules.specs.Binary.{binaryBytes, fitsBinary}
-use Rattle.bytes_numbers.proofs.Laws.NumberLaws.{bytes-first}
+use Rattle.base_digits.proofs.Laws.DigitLaws.{length-packed}
+use Rattle.base_numbers.specs.Numbers.{bytesOf}
+use Rattle.base_numbers.proofs.Laws.NumberLaws.{bytes-first}
 use Rattle.mbus_rules.specs.Moments.{dateExists, timeExists, weekdayExists}
 use Rattle.mbus_rules.specs.Quantities.{widthOf, paired, isTime, isBinary, structures, noStructure, hasStructure, structureOf}
-use Rattle.mbus_rules.proofs.Laws.TestLaws.{none, picked}
+use Rattle.base_rules.proofs.Laws.TestLaws.{none, picked}
 use Rattle.mbus_rules.proofs.Laws.HeaderLaws.{header-length}
 use Rattle.mbus_rules.proofs.Laws.EntryLaws.{six-wide, entry-written}
 use Rattle.mbus_rules.proofs.Laws.LengthLaws.{entries-least, entries-most}
 use Rattle.mbus_rules.proofs.Laws.RowLaws.{width-most, found-each}
 use Rattle.mbus_rules.proofs.Laws.LineLaws.{GoodData, good-data}
 use Rattle.mbus_rules.specs.Writing.{bytesOfValue, bytesOfEntry, bytesOfEntries, bytesOfKind, wrongValue, wrongEntry, wrongData, entriesOf, bytesOfHeader}
-use Rattle.mbus_rules.specs.Writing.{closed, longest, unwritable}
+use Rattle.base_characters.specs.Closing.{closed}
+use Rattle.mbus_rules.specs.Writing.{longest, unwritable}
 use Rattle.mbus_writing.specs.Laying.{markedAt, signedSix, eightBytes, exists, EntryFits, EntryLaid, EntriesFit, EntriesLaid}
 use Rattle.mbus_writing.specs.Laying.{FrameClosed, BytesLaid, DataFits}
 
 -- ---- a loop that copies with parity, and one that sums
-
--- the characters that carry bytes, from the first place on
-pub record Carried (s d : List ℕ) (i : ℕ) (now : List ℕ) : Type 0 where
-  pub copied : Copied d 0 (map carrier s) i now
-
-pub carried-none : {s d : List ℕ} → length s ≤ length d → Carried s d 0 d
-carried-none {s} {d} h =
-    let n : length (map carrier s) ≡ length s = length-map s carrier in
-    record { copied = copied-none (omega arith) }
-
-module _ {s d : List ℕ} {i : ℕ} {now : List ℕ} (g : Carried s d i now) where
-  pub carried-next : {x : ℕ} → i < length s → x ≡ carrier (getD s i 0) → Carried s d (i + 1) (set now i x)
-  carried-next {x} h e =
-      let n : length (map carrier s) ≡ length s = length-map s carrier in
-      let next : Copied d 0 (map carrier s) (i + 1) (set now (0 + i) x) = copied-next (g .copied) (carrier 0) (omega arith)
-      (e ∙ sym (List·getD-map carrier s i 0)) in
-      record { copied = rw (zero-add i) at next }
-
-  pub carried-length : length now ≡ length d
-  carried-length = copied-length (g .copied)
-
-  pub carried-all : length s ≤ i → now ≡ laid d 0 (map carrier s)
-  carried-all h =
-      let n : length (map carrier s) ≡ length s = length-map s carrier in
-      copied-all (g .copied) (omega arith)
-
--- the parity of a byte, folded onto its lowest bit
-pub carrier-folded : (b : ℕ) → b < 256 → 256 * (fold 2 (fold 4 (fold 16 b)) % 2) + b ≡ carrier b
-unfolding onesIn carrier
-carrier-folded b h = eqb-true _ _ (below 256 (λ (n : ℕ). eqb (256 * (fold 2 (fold 4 (fold 16 n)) % 2) + n) (carrier n)) refl b h)
 
 pub record Added (s : List ℕ) (i sum : ℕ) : Type 0 where
   pub inside : i ≤ length s

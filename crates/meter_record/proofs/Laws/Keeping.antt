@@ -18,11 +18,11 @@ use Rattle.mbus_rules.specs.declared.Request.the-variants.{Read, Enter, Leave}
 use Rattle.mbus_rules.specs.declared.Telegram.{Telegram}
 use Rattle.mbus_rules.specs.declared.View.{View}
 use Rattle.mbus_rules.specs.declared.View.the-variants as views
-use Rattle.mbus_rules.specs.Answers.{Answer, reads, refusal}
-use Rattle.mbus_rules.proofs.Laws.AnswerLaws.{reads-same}
+use Rattle.base_rules.specs.Answers.{Answer, reads, refusal}
+use Rattle.base_rules.proofs.Laws.AnswerLaws.{reads-same}
 use Rattle.mbus_rules.specs.Lines.{isMethod, readLine}
 use Rattle.mbus_rules.proofs.Laws.RoundTrip.{read-then-write}
-use Rattle.mbus_rules.proofs.Laws.Tests.{by-test, neither, passed}
+use Rattle.base_rules.proofs.Laws.Tests.{by-test, neither, passed}
 use Rattle.mbus_rules.specs.Views.{viewOf, viewed}
 use Rattle.mbus_rules.specs.Writing.{usedBody, wrongFor, unwritable}
 use Rattle.meter_steps.specs.declared.Core.{Core}

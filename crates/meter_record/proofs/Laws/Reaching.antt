@@ -14,13 +14,13 @@ use Rattle.mbus_rules.specs.declared.Telegram.{Telegram}
 use Rattle.mbus_rules.specs.declared.Request.the-variants.{Enter, Leave}
 use Rattle.mbus_rules.specs.declared.View.{View}
 use Rattle.mbus_rules.specs.declared.View.the-variants as views
-use Rattle.mbus_rules.specs.Answers.{reads, refuse}
+use Rattle.base_rules.specs.Answers.{reads, refuse}
 use Rattle.mbus_rules.specs.Lines.{isMethod, readLine}
-use Rattle.mbus_rules.specs.Lists.{any}
+use Rattle.base_rules.specs.Lists.{any}
 use Rattle.mbus_rules.proofs.Laws.RoundTrip.{write-then-read}
 use Rattle.mbus_rules.specs.Telegrams.{enterOf, leaveOf}
-use Rattle.mbus_rules.proofs.Laws.TestLaws.{none}
-use Rattle.mbus_rules.proofs.Laws.Tests.{neither}
+use Rattle.base_rules.proofs.Laws.TestLaws.{none}
+use Rattle.base_rules.proofs.Laws.Tests.{neither}
 use Rattle.mbus_rules.specs.Views.{viewed}
 use Rattle.mbus_rules.specs.Writing.{lineOf, unwritable}
 use Rattle.meter_steps.specs.declared.Core.{Core}

@@ -8,23 +8,23 @@ use borrow.Author.Tests.{eqb-true, eqb-false}
 use lib.Dec.{eqb}
 use lib.ListN.{length, take, drop, length-drop, length-append, take-append-drop}
 use lib.Seq.{take-all, take-at}
-use Rattle.mbus_rules.specs.declared.Outcome.the-variants.{Accepted, Refused}
+use Rattle.base_rules.specs.declared.Outcome.the-variants.{Accepted, Refused}
 use Rattle.mbus_rules.specs.declared.Reading.{Reading}
 use Rattle.mbus_rules.specs.declared.Telegram.{Telegram}
-use Rattle.mbus_rules.specs.Answers.{Answer, reads, refusal, refuse, follow}
+use Rattle.base_rules.specs.Answers.{Answer, reads, refusal, refuse, follow}
 use Rattle.mbus_rules.specs.Telegrams.{shown}
-use Rattle.mbus_rules.proofs.Laws.Tests.{by-test}
+use Rattle.base_rules.proofs.Laws.Tests.{by-test}
 use Rattle.meter_steps.specs.declared.Meter.{Meter}
-use Rattle.host_records.specs.Recorded.{noRecord}
-use Rattle.bytes_lent.specs.Same.{same}
-use Rattle.bytes_lent.proofs.Laws.Same.{same-equal, same-itself, same-not}
-use Rattle.bytes_lent.specs.Copying.{copied}
-use Rattle.bytes_lent.proofs.Laws.Copying.{copied-on, copied-full}
-use Rattle.bytes_numbers.specs.Numbers.{bytesOf}
-use Rattle.bytes_numbers.proofs.Laws.Numbers.{length-bytes}
-use Rattle.bytes_numbers.proofs.Laws.RecordLaws.{record-length}
-use Rattle.host_records.specs.Telegrams.{telegramBytes, telegramIn, telegramFrom}
-use Rattle.host_records.proofs.Laws.TelegramLaws.{telegram-size, telegram-written}
+use Rattle.base_lent.specs.Recorded.{noRecord}
+use Rattle.base_lent.specs.Same.{same}
+use Rattle.base_lent.proofs.Laws.Same.{same-equal, same-itself, same-not}
+use Rattle.base_lent.specs.Copying.{copied}
+use Rattle.base_lent.proofs.Laws.Copying.{copied-on, copied-full}
+use Rattle.base_numbers.specs.Numbers.{bytesOf}
+use Rattle.base_numbers.proofs.Laws.Numbers.{length-bytes}
+use Rattle.base_numbers.proofs.Laws.RecordLaws.{record-length}
+use Rattle.mbus_records.specs.Telegrams.{telegramBytes, telegramIn, telegramFrom}
+use Rattle.mbus_records.proofs.Laws.TelegramLaws.{telegram-size, telegram-written}
 use Rattle.meter_record.specs.MeterRecords.{meterHead, coreWords, meterFront, meterBytes, meterIn, unreached, recalled, meterFrom}
 
 -- ---- the front, and the template behind it

@@ -16,32 +16,31 @@ use Rattle.mbus_rules.specs.declared.Entry.{Entry}
 use Rattle.mbus_rules.specs.declared.Telegram.{Telegram}
 use Rattle.mbus_rules.specs.declared.Value.{Value}
 use Rattle.mbus_rules.specs.declared.Value.the-variants.{Number, Time, Binary}
-use Rattle.mbus_rules.specs.Answers.{Answer, reads, refusal, refuse, follow}
-use Rattle.mbus_rules.proofs.Laws.AnswerLaws.{reads-same}
+use Rattle.base_rules.specs.Answers.{Answer, reads, refusal, refuse, follow}
+use Rattle.base_rules.proofs.Laws.AnswerLaws.{reads-same}
 use Rattle.mbus_rules.specs.Headers.{letter, makerNamed, heatMeter}
 use Rattle.mbus_rules.proofs.Laws.RowLaws.{width-most}
 use Rattle.mbus_rules.specs.Lines.{isMethod}
-use Rattle.mbus_rules.specs.Lists.{any}
+use Rattle.base_rules.specs.Lists.{any}
 use Rattle.mbus_rules.specs.Quantities.{widthOf, paired, isTime, isBinary}
-use Rattle.mbus_rules.proofs.Laws.TestLaws.{none, every}
-use Rattle.mbus_rules.proofs.Laws.Tests.{neither, passed}
-use Rattle.mbus_rules.specs.Signs.{isZero, belowZero}
-use Rattle.mbus_rules.specs.Binary.{fitsBinary}
+use Rattle.base_rules.proofs.Laws.TestLaws.{none, every}
+use Rattle.base_rules.proofs.Laws.Tests.{neither, passed}
+use Rattle.base_numbers.specs.TwosComplement.{isZero, belowZero, fitsBinary}
 use Rattle.mbus_rules.specs.Entries.{mayFall}
 use Rattle.mbus_rules.specs.Writing.{usedValue, usedEntry, wrongValue, wrongEntry}
-use Rattle.bytes_numbers.specs.Numbers.{bytesOf}
-use Rattle.bytes_numbers.proofs.Laws.Numbers.{number-bytes}
-use Rattle.bytes_numbers.proofs.Laws.NumberLaws.{number-below, bytes-below}
+use Rattle.base_numbers.specs.Numbers.{bytesOf}
+use Rattle.base_numbers.proofs.Laws.Numbers.{number-bytes}
+use Rattle.base_numbers.proofs.Laws.NumberLaws.{number-below, bytes-below}
 use Rattle.meter_steps.specs.declared.Core.{Core}
 use Rattle.meter_steps.specs.declared.Meter.{Meter}
 use Rattle.meter_steps.specs.declared.Mode.{Mode}
 use Rattle.meter_steps.specs.declared.Mode.the-variants.{Use, Verifying}
 use Rattle.meter_steps.specs.Meters.{zeros}
-use Rattle.host_records.specs.Recorded.{noRecord}
-use Rattle.bytes_lent.specs.Same.{same}
-use Rattle.bytes_lent.proofs.Laws.Same.{same-equal, same-itself}
-use Rattle.host_records.specs.Telegrams.{telegramBytes, entriesIn, telegramIn, telegramFrom}
-use Rattle.host_records.proofs.Laws.TelegramLaws.{ValueFits, EntriesFit, Fits, telegram-read}
+use Rattle.base_lent.specs.Recorded.{noRecord}
+use Rattle.base_lent.specs.Same.{same}
+use Rattle.base_lent.proofs.Laws.Same.{same-equal, same-itself}
+use Rattle.mbus_records.specs.Telegrams.{telegramBytes, entriesIn, telegramIn, telegramFrom}
+use Rattle.mbus_records.proofs.Laws.TelegramLaws.{ValueFits, EntriesFit, Fits, telegram-read}
 use Rattle.meter_template.specs.declared.Pair.{Pair}
 use Rattle.meter_template.specs.Templates.{unfitTemplate, pairIn, totalMost}
 use Rattle.meter_template.proofs.Laws.TemplateLaws.{fit, size-within, right-fits}

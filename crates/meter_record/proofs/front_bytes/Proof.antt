@@ -3,7 +3,7 @@ use Prim.Native.Nat.{ℕ}
 use mathlib.Core.Path.{refl, ap, _∙_}
 use mathlib.Core.List.{[], _∷_}
 use lib.ListN.{replicate}
-use Rattle.bytes_numbers.proofs.Laws.RecordLaws.{record-made}
+use Rattle.base_numbers.proofs.Laws.RecordLaws.{record-made}
 use Rattle.meter_record.specs.MeterRecords.{sinceOf, meterHead, coreWords}
 use borrow.Author.Needs.{needs}
 use Rattle.meter_record.proofs.front_bytes.Statement.{statement}

@@ -1,5 +1,5 @@
 -- `meter_record::head_bytes` meets its contract. Assumes nothing.
-use Rattle.bytes_numbers.specs.Numbers.{bytesOf}
+use Rattle.base_numbers.specs.Numbers.{bytesOf}
 use borrow.Author.Needs.{needs}
 use Rattle.meter_record.proofs.head_bytes.Statement.{statement}
 use Rattle.meter_record.proofs.head_bytes.Tie as tie

@@ -5,7 +5,7 @@ use mathlib.Core.Path.{_≡_, sym, ap, _∙_}
 use native.Mathlib.Omega.{arith}
 use Rattle.meter_steps.specs.declared.Meter.{Meter}
 use Rattle.meter_steps.specs.Meters.{shownSetup}
-use Rattle.host_records.specs.Telegrams.{telegramBytes}
+use Rattle.mbus_records.specs.Telegrams.{telegramBytes}
 use Rattle.meter_record.specs.MeterRecords.{recalled}
 use Rattle.meter_record.proofs.Laws.Recalling.{template-in, recalled-other, recalled-unreached, recalled-same}
 use borrow.Author.Needs.{needs}

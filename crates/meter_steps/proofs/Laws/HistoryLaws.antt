@@ -13,11 +13,11 @@ use Rattle.mbus_rules.specs.declared.Request.the-variants.{Read, Enter, Leave}
 use Rattle.mbus_rules.specs.declared.Telegram.{Telegram}
 use Rattle.mbus_rules.specs.declared.View.{View}
 use Rattle.mbus_rules.specs.declared.View.the-variants as views
-use Rattle.mbus_rules.specs.Answers.{Answer, reads, refusal, refuse}
-use Rattle.mbus_rules.proofs.Laws.AnswerLaws.{reads-same}
+use Rattle.base_rules.specs.Answers.{Answer, reads, refusal, refuse}
+use Rattle.base_rules.proofs.Laws.AnswerLaws.{reads-same}
 use Rattle.mbus_rules.specs.Telegrams.{ack}
 use Rattle.mbus_rules.specs.Lines.{readLine}
-use Rattle.mbus_rules.proofs.Laws.Tests.{by-test, neither, passed}
+use Rattle.base_rules.proofs.Laws.Tests.{by-test, neither, passed}
 use Rattle.mbus_rules.specs.Views.{viewed}
 use Rattle.meter_template.specs.declared.Pair.{Pair}
 use Rattle.meter_template.specs.Templates.{raised, dataWith, overflows, plus}

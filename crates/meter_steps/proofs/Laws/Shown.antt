@@ -4,7 +4,7 @@ use native.Mathlib.Omega.{arith}
 use mathlib.Core.Bool.{Bool, true, false}
 use mathlib.Core.Path.{_≡_, refl, sym, ap, ap₂}
 use Rattle.bench_clock.specs.declared.Clock.{Clock}
-use Rattle.mbus_rules.specs.Answers.{Answer, reads, refusal, refuse, within}
+use Rattle.base_rules.specs.Answers.{Answer, reads, refusal, refuse, within}
 use Rattle.meter_template.specs.declared.Pair.{Pair}
 use Rattle.meter_template.specs.Templates.{overflows, plus, sumOf}
 use Rattle.meter_steps.specs.declared.Core.{Core}

@@ -11,12 +11,12 @@ use Rattle.mbus_rules.specs.declared.Request.the-variants.{Read, Enter, Leave}
 use Rattle.mbus_rules.specs.declared.Telegram.{Telegram}
 use Rattle.mbus_rules.specs.declared.View.{View}
 use Rattle.mbus_rules.specs.declared.View.the-variants as views
-use Rattle.mbus_rules.specs.Answers.{reads}
-use Rattle.mbus_rules.proofs.Laws.AnswerLaws.{reads-same}
-use Rattle.mbus_rules.specs.Lists.{any}
+use Rattle.base_rules.specs.Answers.{reads}
+use Rattle.base_rules.proofs.Laws.AnswerLaws.{reads-same}
+use Rattle.base_rules.specs.Lists.{any}
 use Rattle.mbus_rules.specs.Lines.{readLine}
 use Rattle.mbus_rules.specs.Telegrams.{ack}
-use Rattle.mbus_rules.proofs.Laws.Tests.{by-test, passed}
+use Rattle.base_rules.proofs.Laws.Tests.{by-test, passed}
 use Rattle.mbus_rules.specs.Views.{viewed}
 use Rattle.mbus_rules.specs.Writing.{unwritable}
 use Rattle.mbus_rules.specs.TelegramSizes.{Sized}

@@ -15,13 +15,14 @@ use Rattle.mbus_rules.specs.declared.Decimal.{Decimal}
 use Rattle.mbus_rules.specs.declared.Entry.{Entry}
 use Rattle.mbus_rules.specs.declared.Value.{Value}
 use Rattle.mbus_rules.specs.declared.Value.the-variants.{Number, Time, Binary}
-use Rattle.mbus_rules.specs.Answers.{Answer, reads, refusal}
-use Rattle.mbus_rules.specs.Lists.{any}
-use Rattle.mbus_rules.proofs.Laws.ListLaws.{any-map, map-take, map-drop}
+use Rattle.base_rules.specs.Answers.{Answer, reads, refusal}
+use Rattle.base_rules.specs.Lists.{any}
+use Rattle.base_rules.proofs.Laws.ListLaws.{any-map, map-take, map-drop}
 use Rattle.mbus_rules.specs.Quantities.{quantityOf, widthOf, paired, isTime, isBinary, volume, energy}
-use Rattle.mbus_rules.specs.Signs.{fitsSigned, belowZero}
+use Rattle.mbus_rules.specs.Signs.{fitsSigned}
+use Rattle.base_numbers.specs.TwosComplement.{belowZero}
 use Rattle.mbus_rules.specs.Entries.{mayFall, seen, missing}
-use Rattle.mbus_rules.proofs.Laws.Tests.{by-test, neither}
+use Rattle.base_rules.proofs.Laws.Tests.{by-test, neither}
 use Rattle.mbus_rules.proofs.Laws.RowLaws.{lacking-same}
 use Rattle.mbus_rules.specs.TelegramSizes.{Sized}
 use Rattle.mbus_rules.specs.Writing.{entriesOf, usedValue, usedEntry, wrongValue, wrongEntry, unwrittenHeader, repeats, wrongData, wrongFor, unwritable}

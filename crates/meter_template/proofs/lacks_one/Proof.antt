@@ -1,7 +1,7 @@
 -- `lacks_one` meets its contract. Assumes nothing.
 use Rattle.mbus_rules.specs.Quantities.{energy, volume}
 use Rattle.meter_template.specs.Templates.{holds}
-use Rattle.mbus_rules.proofs.Laws.ListLaws.{Gathered, gathered-none, gathered-next, gathered-all}
+use Rattle.base_rules.proofs.Laws.ListLaws.{Gathered, gathered-none, gathered-next, gathered-all}
 use borrow.Author.Needs.{needs}
 use mathlib.Core.Bool.{not, _||_}
 use mathlib.Core.Path.{_≡_, ap₂}

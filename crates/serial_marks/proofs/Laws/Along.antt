@@ -7,7 +7,7 @@ use native.Mathlib.Numerals.{add-one}
 use native.Mathlib.Omega.{arith}
 use lib.ListN.{length, getD, drop, set, length-drop}
 use lib.Seq.{drop-drop, drop-cons}
-use Rattle.bytes_lent.proofs.Laws.Copying.{Copied, copied-none, copied-next, copied-length, copied-all}
+use Rattle.base_lent.proofs.Laws.Copying.{Copied, copied-none, copied-next, copied-length, copied-all}
 use Rattle.serial_marks.specs.Unmarking.{first, Unmarking, unmarkedIn, Unmarks}
 use Rattle.serial_marks.specs.declared.First.the-variants.{Finished, Unfinished}
 use Rattle.serial_marks.proofs.Laws.FirstLaws.{first-on}

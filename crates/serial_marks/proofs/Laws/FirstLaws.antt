@@ -10,9 +10,9 @@ use borrow.Author.Tests.{eqb-true}
 use lib.Dec.{eqb}
 use lib.ListN.{length, getD, drop}
 use lib.Seq.{drop-cons}
-use Rattle.mbus_rules.specs.Characters.{byteOf, odd, carrier}
-use Rattle.mbus_rules.proofs.Laws.Tests.{by-test}
-use Rattle.mbus_rules.proofs.Laws.CharacterLaws.{carrier-byte}
+use Rattle.base_characters.specs.Characters.{byteOf, odd, carrier}
+use Rattle.base_rules.proofs.Laws.Tests.{by-test}
+use Rattle.base_characters.proofs.Laws.CharacterLaws.{carrier-byte}
 use Rattle.serial_marks.specs.Marks.{portMarked, wronged, Beginning}
 use Rattle.serial_marks.specs.Unmarking.{first, afterMark, afterZero}
 use Rattle.serial_marks.specs.declared.First.{First}

@@ -7,10 +7,10 @@ use borrow.Author.Tests.{eqb-true, ltb-false}
 use lib.Dec.{eqb, lit<}
 use lib.Bits.{bitXor}
 use lib.Count.{ones, onesIn}
-use Rattle.mbus_rules.specs.Characters.{byteOf, odd, carrier}
-use Rattle.mbus_rules.specs.Flips.{flipBit}
-use Rattle.mbus_rules.proofs.Laws.CharacterLaws.{same-character, carrier-even, carrier-in-range, flip-odd, flip-in-range}
-use Rattle.mbus_rules.proofs.Laws.Tests.{below}
+use Rattle.base_characters.specs.Characters.{byteOf, odd, carrier}
+use Rattle.base_characters.specs.Flips.{flipBit}
+use Rattle.base_characters.proofs.Laws.CharacterLaws.{same-character, carrier-even, carrier-in-range, flip-odd, flip-in-range}
+use Rattle.base_rules.proofs.Laws.Tests.{below}
 use Rattle.serial_marks.specs.Marks.{wronged}
 
 pub carrier-counted : (b : ℕ) → b < 256 → 256 * (ones b % 2) + b ≡ carrier b

@@ -8,13 +8,13 @@ use lib.Count.{onesIn}
 use lib.Dec.{eqb, lit<}
 use lib.ListN.{take, drop}
 use lib.Seq.{take-add}
-use Rattle.mbus_rules.specs.Lists.{any}
-use Rattle.mbus_rules.specs.Characters.{over, odd, carrier}
-use Rattle.mbus_rules.specs.Bytes.{Bytes}
-use Rattle.mbus_rules.proofs.Laws.ByteLaws.{bytes-drop}
-use Rattle.mbus_rules.proofs.Laws.CharacterLaws.{byte-carrier, carrier-even, carrier-in-range}
-use Rattle.mbus_rules.proofs.Laws.Tests.{neither}
-use Rattle.bytes_lent.specs.Pieces.{pieces}
+use Rattle.base_rules.specs.Lists.{any}
+use Rattle.base_characters.specs.Characters.{over, odd, carrier}
+use Rattle.base_rules.specs.Bytes.{Bytes}
+use Rattle.base_rules.proofs.Laws.ByteLaws.{bytes-drop}
+use Rattle.base_characters.proofs.Laws.CharacterLaws.{byte-carrier, carrier-even, carrier-in-range}
+use Rattle.base_rules.proofs.Laws.Tests.{neither}
+use Rattle.base_lent.specs.Pieces.{pieces}
 use Rattle.serial_marks.specs.Marks.{portMarked, wronged}
 use Rattle.serial_marks.specs.Unmarking.{first, afterMark, afterZero, Unmarking, unmarkedIn}
 use Rattle.serial_marks.specs.declared.First.{First}

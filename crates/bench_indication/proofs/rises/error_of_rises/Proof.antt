@@ -5,7 +5,7 @@ use lib.Dec.{ltb}
 use mir.Syntax.{w64}
 use mir.ValLaws.{toZ-ofZ}
 use borrow.Author.Tests.{ltb-false, eqb-false}
-use Rattle.mbus_rules.proofs.Laws.Tests.{neither}
+use Rattle.base_rules.proofs.Laws.Tests.{neither}
 use Rattle.bench_indication.specs.Errors.{riseMost}
 use Rattle.bench_indication.proofs.rises.error_of_rises.Statement.{statement}
 use Rattle.bench_indication.proofs.rises.error_of_rises.Tie as tie

@@ -2,7 +2,7 @@
 use borrow.Author.Needs.{needs}
 use Prim.Native.Nat.{_-_}
 use native.Mathlib.Omega.{arith}
-use Rattle.bytes_numbers.specs.Numbers.{bytesOf}
+use Rattle.base_numbers.specs.Numbers.{bytesOf}
 use Rattle.bundle_adding.proofs.Laws.Writing.{Placing, placing-none, placing-next, placing-all}
 use Rattle.bundle_adding.proofs.growing.place_rows.Statement.{statement}
 use Rattle.bundle_adding.proofs.growing.place_rows.Tie as tie

@@ -6,7 +6,7 @@ use native.Mathlib.Nat.{add-sub-cancel-left}
 use native.Mathlib.Omega.{arith}
 use denote.Ref.{now}
 use lib.ListN.{length}
-use Rattle.mbus_rules.specs.Answers.{reads, refusal}
+use Rattle.base_rules.specs.Answers.{reads, refusal}
 use Rattle.bundle_check.specs.Handing.{BodyPlace, bodyAt}
 use Rattle.bundle_check.proofs.Laws.HandingLaws.{place-inside}
 use Rattle.bundle_check.proofs.Laws.RowsShown.{shownBody-same}

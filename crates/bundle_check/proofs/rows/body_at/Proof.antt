@@ -2,7 +2,7 @@
 use borrow.Author.Needs.{needs}
 use mathlib.Core.Path.{sym, _∙_}
 use denote.Ref.{now}
-use Rattle.mbus_rules.specs.Answers.{reads, refusal}
+use Rattle.base_rules.specs.Answers.{reads, refusal}
 use Rattle.bundle_check.specs.Handing.{rowAt}
 use Rattle.bundle_check.proofs.Laws.RowsShown.{shownRow-same}
 use Rattle.bundle_check.proofs.rows.body_at.Statement.{statement}

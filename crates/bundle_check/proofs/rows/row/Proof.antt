@@ -2,7 +2,7 @@
 use borrow.Author.Needs.{needs}
 use mathlib.Core.Path.{_≡_, sym, ap, _∙_}
 use denote.Ref.{now}
-use Rattle.mbus_rules.specs.Answers.{reads, refusal}
+use Rattle.base_rules.specs.Answers.{reads, refusal}
 use Rattle.bundle_check.specs.Bundles.{checkOf}
 use Rattle.bundle_check.proofs.Laws.HandingLaws.{row-refused, row-none, row-unchecked}
 use Rattle.bundle_check.proofs.Laws.Shown.{shownChecked-same}

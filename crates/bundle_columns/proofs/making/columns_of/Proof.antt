@@ -5,7 +5,7 @@ use mathlib.Core.Path.{_≡_, sym, _∙_}
 use native.Mathlib.Omega.{arith}
 use borrow.Author.Tests.{ltb-false}
 use denote.Ref.{now}
-use Rattle.mbus_rules.specs.Answers.{reads, refusal}
+use Rattle.base_rules.specs.Answers.{reads, refusal}
 use Rattle.bundle_rows.specs.Rows.{mostRows}
 use Rattle.bundle_check.specs.Bundles.{checkOf}
 use Rattle.bundle_check.proofs.Laws.BodyLaws.{few-rows}

@@ -6,9 +6,9 @@ use mathlib.Core.Path.{_≡_, _∙_}
 use native.Mathlib.Omega.{arith}
 use denote.Ref.{now}
 use lib.ListN.{length}
-use Rattle.bytes_lent.proofs.Laws.Copying.{copied-fits}
-use Rattle.bytes_numbers.specs.Numbers.{bytesOf}
-use Rattle.bytes_numbers.proofs.Laws.Numbers.{length-bytes}
+use Rattle.base_lent.proofs.Laws.Copying.{copied-fits}
+use Rattle.base_numbers.specs.Numbers.{bytesOf}
+use Rattle.base_numbers.proofs.Laws.Numbers.{length-bytes}
 use Rattle.bundle_columns.specs.Record.{columnsSize, listBytes}
 use Rattle.bundle_columns.specs.Making.{fieldsIn}
 use Rattle.bundle_rows.proofs.Laws.Lists.{laid-three}

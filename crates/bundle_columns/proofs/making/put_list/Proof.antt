@@ -3,8 +3,8 @@ use borrow.Author.Needs.{needs}
 use Prim.Native.Nat.{_-_}
 use native.Mathlib.Omega.{arith}
 use denote.Ref.{now}
-use Rattle.bytes_numbers.specs.Numbers.{bytesOf}
-use Rattle.bytes_lent.proofs.Laws.PieceLaws.{Pieced, pieced-length, pieced-room, pieced-all}
+use Rattle.base_numbers.specs.Numbers.{bytesOf}
+use Rattle.base_lent.proofs.Laws.PieceLaws.{Pieced, pieced-length, pieced-room, pieced-all}
 use Rattle.bundle_rows.specs.Rows.{mostRows}
 use Rattle.bundle_columns.specs.Making.{fieldsIn}
 use Rattle.bundle_columns.proofs.Laws.Fields.{length-list, list-none, list-next}

@@ -1,7 +1,7 @@
 -- `bundle_columns::scanning::has` meets its contract: the loop gathers over the block. Assumes nothing.
 use borrow.Author.Needs.{needs}
 use Prim.Native.Nat.{_-_}
-use Rattle.mbus_rules.proofs.Laws.ListLaws.{Gathered, gathered-none, gathered-next, gathered-all}
+use Rattle.base_rules.proofs.Laws.ListLaws.{Gathered, gathered-none, gathered-next, gathered-all}
 use Rattle.bundle_columns.specs.Lookups.{isPosition}
 use Rattle.bundle_columns.proofs.scanning.has.Statement.{statement}
 use Rattle.bundle_columns.proofs.scanning.has.Tie as tie

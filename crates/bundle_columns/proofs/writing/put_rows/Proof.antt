@@ -3,7 +3,7 @@ use borrow.Author.Needs.{needs}
 use Prim.Native.Nat.{_-_}
 use native.Mathlib.Omega.{arith}
 use denote.Ref.{now}
-use Rattle.bytes_lent.proofs.Laws.PieceLaws.{Pieced, pieced-length}
+use Rattle.base_lent.proofs.Laws.PieceLaws.{Pieced, pieced-length}
 use Rattle.bundle_rows.specs.Rows.{bytesOfRow}
 use Rattle.bundle_columns.specs.Columns.{keptFrom}
 use Rattle.bundle_columns.specs.Record.{columnsIn}

@@ -8,9 +8,8 @@ use borrow.Author.Tests.{eq-eqb, ne-eqb, lt-ltb, le-ltb}
 use denote.Ref.{now}
 use lib.Dec.{ltb}
 use lib.ListN.{length, take, drop}
-use Rattle.mbus_rules.specs.Lists.{any}
-use Rattle.mbus_rules.specs.Characters.{over}
-use Rattle.mbus_rules.specs.Host.{chars}
+use Rattle.base_rules.specs.Lists.{any}
+use Rattle.base_characters.specs.Characters.{over, chars}
 use Rattle.bundle_rows.specs.Rows.{bodyIn}
 use Rattle.bundle_check.specs.RowRules.{wrongRow, wrongPlace}
 use Rattle.bundle_salvage.proofs.Laws.Leading.{rule-field, rule-place, rule-wide, rule-none}

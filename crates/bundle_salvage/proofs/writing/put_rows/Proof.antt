@@ -4,7 +4,7 @@ use Prim.Native.Nat.{_-_}
 use mathlib.Core.Path.{ap}
 use native.Mathlib.Omega.{arith}
 use denote.Ref.{now}
-use Rattle.bytes_lent.proofs.Laws.PieceLaws.{Pieced, pieced-length}
+use Rattle.base_lent.proofs.Laws.PieceLaws.{Pieced, pieced-length}
 use Rattle.bundle_rows.specs.Rows.{bytesOfRow}
 use Rattle.bundle_rows.specs.declared.Row.{Row}
 use Rattle.bundle_salvage.specs.Writing.{loweredRows}

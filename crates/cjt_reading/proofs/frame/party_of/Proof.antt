@@ -5,7 +5,7 @@ use native.Mathlib.Omega.{arith}
 use Prim.Native.Nat.{ℕ, _<_}
 use mathlib.Core.Path.{_≡_, sym, ap, _∙_}
 use mathlib.Core.Bool.{true, false}
-use Rattle.mbus_rules.specs.Lists.{at}
+use Rattle.base_rules.specs.Lists.{at}
 use lib.Dec.{eqb}
 use Rattle.cjt_rules.specs.CjtAddresses.{partyBytes, allAA}
 use Rattle.cjt_reading.proofs.Laws.PartLaws.{read-part, all-word}

@@ -4,7 +4,7 @@ use denote.Ref.{now}
 use Prim.Native.Nat.{ℕ, _%_}
 use mathlib.Core.Path.{sym, ap, _∙_}
 use mathlib.Core.List.{List}
-use Rattle.mbus_rules.specs.Lists.{total}
+use Rattle.base_rules.specs.Lists.{total}
 use Rattle.cjt_rules.specs.CjtViews.{cjtShown}
 use Rattle.cjt_rules.specs.CjtLines.{readCjtFrame}
 use Rattle.cjt_reading.proofs.Laws.PartLaws.{rest-is}

@@ -6,7 +6,7 @@ use Prim.Native.Nat.{ℕ, _<_}
 use mathlib.Core.Path.{_≡_, sym, ap, _∙_}
 use mathlib.Core.Bool.{true, false}
 use lib.ListN.{drop}
-use Rattle.mbus_rules.specs.Lists.{at}
+use Rattle.base_rules.specs.Lists.{at}
 use Rattle.cjt_rules.specs.declared.CjtAnswer.{CjtAnswer}
 use Rattle.cjt_rules.specs.declared.CjtTelegram.the-variants as telegrams
 use Rattle.cjt_rules.specs.declared.CjtReading.the-variants as readings

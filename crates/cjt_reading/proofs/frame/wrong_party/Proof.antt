@@ -4,7 +4,7 @@ use denote.Ref.{now}
 use native.Mathlib.Omega.{arith}
 use Prim.Native.Nat.{ℕ, _<_}
 use mathlib.Core.Path.{ap, _∙_}
-use Rattle.mbus_rules.specs.Lists.{at}
+use Rattle.base_rules.specs.Lists.{at}
 use lib.Dec.{eqb}
 use Rattle.cjt_reading.proofs.Laws.PartLaws.{read-part, all-word}
 use Rattle.cjt_reading.proofs.frame.wrong_party.Statement.{statement}

@@ -2,7 +2,7 @@
 use borrow.Author.Needs.{needs}
 use denote.Ref.{now}
 use mathlib.Core.Path.{ap, _∙_}
-use Rattle.mbus_rules.specs.Host.{chars}
+use Rattle.base_characters.specs.Characters.{chars}
 use Rattle.cjt_rules.specs.CjtLines.{readCjtLine}
 use Rattle.cjt_reading.specs.CjtParts.{viewedAs}
 use Rattle.cjt_reading.proofs.Laws.TakingLaws.{view-shown}

@@ -4,8 +4,8 @@ use denote.Ref.{now}
 use native.Mathlib.Omega.{arith}
 use mathlib.Core.Path.{sym, ap, _∙_}
 use Rattle.cjt_rules.specs.CjtViews.{cjtShown}
-use Rattle.mbus_rules.specs.Host.{chars}
-use Rattle.mbus_characters.proofs.Laws.PairLaws.{length-characters}
+use Rattle.base_characters.specs.Characters.{chars}
+use Rattle.base_characters.proofs.Laws.PairLaws.{length-characters}
 use Rattle.cjt_reading.proofs.Laws.TakingLaws.{none-is, taken-far, near-refused, near-count, near-sum, near-passed}
 use Rattle.cjt_reading.proofs.pairs.read_pairs.Statement.{statement}
 use Rattle.cjt_reading.proofs.pairs.read_pairs.Tie as tie

@@ -1,7 +1,7 @@
 -- `cjt_reading::parts::two_digits` meets its contract. Assumes nothing.
 use borrow.Author.Needs.{needs}
 use native.Mathlib.Omega.{arith}
-use Rattle.mbus_rules.specs.Digits.{digitsOf}
+use Rattle.base_digits.specs.Digits.{digitsOf}
 use Rattle.cjt_reading.proofs.parts.two_digits.Statement.{statement}
 use Rattle.cjt_reading.proofs.parts.two_digits.Tie as tie
 

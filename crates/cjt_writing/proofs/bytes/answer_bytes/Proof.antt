@@ -1,7 +1,7 @@
 -- `cjt_writing::bytes::answer_bytes` meets its contract. Assumes nothing.
 use mathlib.Core.Path.{ap, _∙_}
-use Rattle.mbus_rules.specs.Digits.{packed}
-use Rattle.mbus_rules.specs.Writing.{closed}
+use Rattle.base_digits.specs.Digits.{packed}
+use Rattle.base_characters.specs.Closing.{closed}
 use borrow.Author.Needs.{needs}
 use Rattle.cjt_writing.proofs.bytes.answer_bytes.Statement.{statement}
 use Rattle.cjt_writing.proofs.bytes.answer_bytes.Tie as tie

@@ -1,5 +1,5 @@
 -- `cjt_writing::bytes::clock_bytes` meets its contract. Assumes nothing.
-use Rattle.mbus_rules.specs.Digits.{packed}
+use Rattle.base_digits.specs.Digits.{packed}
 use borrow.Author.Needs.{needs}
 use Rattle.cjt_writing.proofs.bytes.clock_bytes.Statement.{statement}
 use Rattle.cjt_writing.proofs.bytes.clock_bytes.Tie as tie

@@ -4,7 +4,7 @@ use mathlib.Core.Path.{_≡_, refl, sym, _∙_}
 use native.Mathlib.Nat.{zero-add}
 use lib.ListN.{length}
 use borrow.Author.Needs.{needs}
-use Rattle.bytes_lent.proofs.Laws.PieceLaws.{Pieced, pieced-none, pieced-length, pieced-next, pieced-full}
+use Rattle.base_lent.proofs.Laws.PieceLaws.{Pieced, pieced-none, pieced-length, pieced-next, pieced-full}
 use Rattle.cjt_rules.specs.CjtWriting.{bytesOfQuantity}
 use Rattle.cjt_writing.proofs.Laws.Framing.{quantity-length}
 use Rattle.cjt_writing.proofs.bytes.quantities_bytes.Statement.{statement}

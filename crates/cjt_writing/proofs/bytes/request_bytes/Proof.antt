@@ -1,6 +1,6 @@
 -- `cjt_writing::bytes::request_bytes` meets its contract. Assumes nothing.
 use mathlib.Core.Path.{ap, _∙_}
-use Rattle.mbus_rules.specs.Writing.{closed}
+use Rattle.base_characters.specs.Closing.{closed}
 use borrow.Author.Needs.{needs}
 use Rattle.cjt_writing.proofs.bytes.request_bytes.Statement.{statement}
 use Rattle.cjt_writing.proofs.bytes.request_bytes.Tie as tie

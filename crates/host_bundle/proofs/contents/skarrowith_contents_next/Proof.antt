@@ -2,7 +2,7 @@
 use borrow.Author.Needs.{needs}
 use mathlib.Core.Path.{sym, _∙_}
 use denote.Ref.{now}
-use Rattle.mbus_rules.specs.Answers.{reads, refusal}
+use Rattle.base_rules.specs.Answers.{reads, refusal}
 use Rattle.bundle_columns.specs.Lookups.{nextKept}
 use Rattle.bundle_columns.proofs.Laws.Shown.{shownNext-same}
 use Rattle.host_bundle.proofs.Laws.Lent.{gives-value, gives-number}

@@ -1,8 +1,8 @@
 -- `host_bundle::contents::skarrowith_contents_row` meets its contract: 101 where the lists are none, and else the row. Assumes nothing.
 use borrow.Author.Needs.{needs}
 use denote.Ref.{now}
-use Rattle.bytes_lent.specs.Lent.{done}
-use Rattle.bytes_lent.proofs.Laws.LentLaws.{leaves-all}
+use Rattle.base_lent.specs.Lent.{done}
+use Rattle.base_lent.proofs.Laws.LentLaws.{leaves-all}
 use mathlib.Core.Path.{refl}
 use Rattle.bundle_columns.proofs.Laws.Looking.{taken, not-taken}
 use Rattle.host_bundle.specs.Rows.{rowRecord}

@@ -3,7 +3,7 @@ use borrow.Author.Needs.{needs}
 use mathlib.Core.Path.{_∙_}
 use native.Mathlib.Omega.{arith}
 use denote.Ref.{now}
-use Rattle.mbus_rules.proofs.Laws.ByteLaws.{bytes-each}
+use Rattle.base_rules.proofs.Laws.ByteLaws.{bytes-each}
 use Rattle.mbus_entries.proofs.Laws.TryLaws.{wide-unfit, wide-tried}
 use Rattle.mbus_entries.proofs.entry.try_digits.Statement.{statement}
 use Rattle.mbus_entries.proofs.entry.try_digits.Tie as tie

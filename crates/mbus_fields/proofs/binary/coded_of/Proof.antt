@@ -9,8 +9,8 @@ use mir.Syntax.{w64}
 use mir.Val.{toZ}
 use mir.ValLaws.{toZ-ofZ}
 use lib.ListN.{length, take, length-take}
-use Rattle.mbus_rules.specs.Bytes.{Bytes}
-use Rattle.mbus_rules.proofs.Laws.ByteLaws.{bytes-each, bytes-take}
+use Rattle.base_rules.specs.Bytes.{Bytes}
+use Rattle.base_rules.proofs.Laws.ByteLaws.{bytes-each, bytes-take}
 use Rattle.mbus_fields.proofs.Laws.CodeLaws.{word-inside, coded-word}
 use Rattle.mbus_fields.proofs.binary.coded_of.Statement.{statement}
 use Rattle.mbus_fields.proofs.binary.coded_of.Tie as tie

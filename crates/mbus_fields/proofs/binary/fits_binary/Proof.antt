@@ -5,7 +5,7 @@ use mathlib.Core.Path.{sym, ap, _∙_}
 use lib.IntN.{natAbs}
 use mir.Syntax.{w64}
 use mir.ValLaws.{toZ-ofZ}
-use Rattle.mbus_rules.specs.Signs.{belowZero}
+use Rattle.base_numbers.specs.TwosComplement.{belowZero}
 use Rattle.mbus_fields.proofs.Laws.CodeLaws.{fits-below, fits-above}
 use Rattle.mbus_fields.proofs.binary.fits_binary.Statement.{statement}
 use Rattle.mbus_fields.proofs.binary.fits_binary.Tie as tie

@@ -1,5 +1,5 @@
 -- `mbus_fields::digits::is_below_zero` meets its contract. Assumes nothing.
-use Rattle.mbus_rules.proofs.Laws.Negation.{below-tested}
+use Rattle.base_numbers.proofs.Laws.Negation.{below-tested}
 use Rattle.mbus_fields.proofs.digits.is_below_zero.Statement.{statement}
 use Rattle.mbus_fields.proofs.digits.is_below_zero.Tie as tie
 

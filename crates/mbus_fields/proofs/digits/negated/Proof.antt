@@ -3,7 +3,7 @@ use lib.IntN.{pos, negℤ}
 use mir.Syntax.{w64}
 use mir.ValLaws.{toZ-ofZ}
 use borrow.Author.Needs.{needs}
-use Rattle.mbus_rules.proofs.Laws.Negation.{negation-fits, negated}
+use Rattle.base_numbers.proofs.Laws.Negation.{negation-fits, negated}
 use Rattle.mbus_fields.proofs.digits.negated.Statement.{statement}
 use Rattle.mbus_fields.proofs.digits.negated.Tie as tie
 

@@ -3,11 +3,11 @@ use borrow.Author.Needs.{needs}
 use Prim.Native.Nat.{min}
 use mathlib.Core.Bool.{Bool, false, cond}
 use mathlib.Core.Path.{_≡_, sym, ap, _∙_}
-use Rattle.mbus_rules.specs.Digits.{overNine}
-use Rattle.mbus_rules.specs.Lists.{any}
-use Rattle.bytes_numbers.specs.Numbers.{bytesOf}
-use Rattle.mbus_fields.specs.declared.digits.Packed.{Packed}
-use Rattle.mbus_fields.specs.Fields.{packedOf, markOf, signOn, markedIn}
+use Rattle.base_digits.specs.Digits.{overNine, packedOf}
+use Rattle.base_rules.specs.Lists.{any}
+use Rattle.base_numbers.specs.Numbers.{bytesOf}
+use Rattle.base_digits.specs.declared.Packed.{Packed}
+use Rattle.mbus_fields.specs.Fields.{markOf, signOn, markedIn}
 use Rattle.mbus_fields.proofs.Laws.MarkLaws.{word-small}
 use Rattle.mbus_fields.proofs.digits.signed_in.Statement.{statement}
 use Rattle.mbus_fields.proofs.digits.signed_in.Tie as tie

@@ -7,8 +7,8 @@ use mathlib.Core.Bool.{true}
 use lib.IntN.{pos, natAbs}
 use mir.Syntax.{w64}
 use mir.ValLaws.{toZ-ofZ}
-use Rattle.mbus_rules.specs.Signs.{belowZero}
-use Rattle.mbus_rules.proofs.Laws.Negation.{negation-fits, under, size-whole, risen, turned, below-tested, above-cast}
+use Rattle.base_numbers.specs.TwosComplement.{belowZero}
+use Rattle.base_numbers.proofs.Laws.Negation.{negation-fits, under, size-whole, risen, turned, below-tested, above-cast}
 use Rattle.mbus_fields.proofs.digits.size_of.Statement.{statement}
 use Rattle.mbus_fields.proofs.digits.size_of.Tie as tie
 

@@ -3,8 +3,8 @@ use borrow.Author.Needs.{needs}
 use Prim.Native.Nat.{ℕ, _<_}
 use native.Mathlib.Omega.{arith}
 use denote.Ref.{now}
-use Rattle.mbus_rules.specs.Lists.{at}
-use Rattle.mbus_fields.proofs.Laws.GatherLaws.{number-fits}
+use Rattle.base_rules.specs.Lists.{at}
+use Rattle.base_digits.proofs.Laws.GatherLaws.{number-fits}
 use Rattle.mbus_fields.proofs.headers.header_of.Statement.{statement}
 use Rattle.mbus_fields.proofs.headers.header_of.Tie as tie
 

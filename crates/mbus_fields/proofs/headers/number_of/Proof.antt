@@ -4,9 +4,9 @@ use Prim.Native.Nat.{ℕ}
 use mathlib.Core.Path.{ap, _∙_}
 use native.Mathlib.Omega.{arith}
 use denote.Ref.{now}
-use Rattle.bytes_numbers.specs.Numbers.{bytesOf}
-use Rattle.mbus_fields.specs.Fields.{packedOf}
-use Rattle.mbus_fields.proofs.Laws.GatherLaws.{word-packed}
+use Rattle.base_numbers.specs.Numbers.{bytesOf}
+use Rattle.base_digits.specs.Digits.{packedOf}
+use Rattle.base_digits.proofs.Laws.GatherLaws.{word-packed}
 use Rattle.mbus_fields.proofs.headers.number_of.Statement.{statement}
 use Rattle.mbus_fields.proofs.headers.number_of.Tie as tie
 

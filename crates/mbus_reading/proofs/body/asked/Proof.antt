@@ -2,7 +2,7 @@
 use borrow.Author.Needs.{needs}
 use mathlib.Core.Path.{sym, ap, _∙_}
 use Rattle.mbus_rules.specs.declared.Request.{Request}
-use Rattle.mbus_rules.specs.Answers.{reads}
+use Rattle.base_rules.specs.Answers.{reads}
 use Rattle.mbus_rules.specs.Telegrams.{shown}
 use Rattle.mbus_shape.specs.Shapes.{askedOf}
 use Rattle.mbus_reading.proofs.body.asked.Statement.{statement}

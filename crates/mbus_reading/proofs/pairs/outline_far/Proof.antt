@@ -3,11 +3,10 @@ use borrow.Author.Needs.{needs}
 use denote.Ref.{now}
 use native.Mathlib.Omega.{arith}
 use mathlib.Core.Path.{sym, ap, _∙_}
-use Rattle.mbus_rules.specs.Characters.{byteOf}
-use Rattle.mbus_rules.specs.Host.{chars}
-use Rattle.mbus_rules.proofs.Laws.ListLaws.{at-bytes}
+use Rattle.base_characters.specs.Characters.{byteOf, chars}
+use Rattle.base_characters.proofs.Laws.CharacterLaws.{at-bytes}
 use Rattle.mbus_rules.specs.Views.{viewed}
-use Rattle.mbus_characters.proofs.Laws.PairLaws.{length-characters}
+use Rattle.base_characters.proofs.Laws.PairLaws.{length-characters}
 use Rattle.mbus_reading.proofs.Laws.TakingLaws.{far-line}
 use Rattle.mbus_reading.proofs.pairs.outline_far.Statement.{statement}
 use Rattle.mbus_reading.proofs.pairs.outline_far.Tie as tie

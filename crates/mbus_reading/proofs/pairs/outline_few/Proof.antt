@@ -6,11 +6,10 @@ use native.Mathlib.Omega.{arith}
 use mathlib.Core.List.{map}
 use mathlib.Core.Path.{sym, ap, _∙_}
 use lib.ListN.{take}
-use Rattle.mbus_rules.specs.Characters.{byteOf}
-use Rattle.mbus_rules.specs.Host.{chars}
-use Rattle.mbus_rules.specs.Lists.{total}
+use Rattle.base_characters.specs.Characters.{byteOf, chars}
+use Rattle.base_rules.specs.Lists.{total}
 use Rattle.mbus_rules.specs.Views.{viewed}
-use Rattle.mbus_characters.proofs.Laws.PairLaws.{length-characters}
+use Rattle.base_characters.proofs.Laws.PairLaws.{length-characters}
 use Rattle.mbus_reading.proofs.Laws.TakingLaws.{taken-as, cut-count}
 use Rattle.mbus_reading.proofs.Laws.FewLaws.{few-is, none-is}
 use Rattle.mbus_reading.proofs.pairs.outline_few.Statement.{statement}

@@ -5,9 +5,9 @@ use Prim.Native.Nat.{ℕ}
 use native.Mathlib.Omega.{arith}
 use mathlib.Core.Path.{sym, ap, _∙_}
 use lib.ListN.{take, length-replicate}
-use Rattle.mbus_rules.specs.Host.{chars}
+use Rattle.base_characters.specs.Characters.{chars}
 use Rattle.mbus_rules.specs.Views.{viewed}
-use Rattle.mbus_characters.proofs.Laws.PairLaws.{length-characters}
+use Rattle.base_characters.proofs.Laws.PairLaws.{length-characters}
 use Rattle.mbus_reading.specs.Taking.{TakenBytes}
 use Rattle.mbus_reading.proofs.Laws.TakingLaws.{taken-some, taken-as, cut-count, taken-frame}
 use Rattle.mbus_reading.proofs.pairs.outline_many.Statement.{statement}

@@ -7,10 +7,9 @@ use denote.Ref.{now}
 use borrow.Author.Tests.{lt-ltb, le-ltb}
 use lib.ListN.{length}
 use mathlib.Core.List.{List}
-use Rattle.mbus_rules.specs.Lists.{any}
-use Rattle.mbus_rules.specs.Characters.{over}
-use Rattle.mbus_rules.specs.Host.{chars}
-use Rattle.bytes_lent.proofs.Laws.Copying.{copied-length}
+use Rattle.base_rules.specs.Lists.{any}
+use Rattle.base_characters.specs.Characters.{over, chars}
+use Rattle.base_lent.proofs.Laws.Copying.{copied-length}
 use Rattle.mbus_reading.proofs.Laws.BodyLaws.{rest-is}
 use Rattle.mbus_reading.proofs.Laws.FewLaws.{Walked, walked-none, walked-over, walked-odd, walked-next, walked-all}
 use Rattle.mbus_reading.proofs.pairs.take_few.Statement.{statement}

@@ -8,9 +8,9 @@ use borrow.Author.Tests.{ltb-true}
 use lib.Dec.{ltb}
 use lib.ListN.{length, getD}
 use Rattle.mbus_rules.specs.declared.UnitRow.{UnitRow}
-use Rattle.mbus_rules.specs.Lists.{any}
+use Rattle.base_rules.specs.Lists.{any}
 use Rattle.mbus_rules.specs.Quantities.{table}
-use Rattle.mbus_rules.proofs.Laws.ListLaws.{Gathered, gathered-none, gathered-next, gathered-all}
+use Rattle.base_rules.proofs.Laws.ListLaws.{Gathered, gathered-none, gathered-next, gathered-all}
 use Rattle.mbus_rules.proofs.Laws.RowLaws.{all-at}
 use Rattle.mbus_telegrams.proofs.table.any_missing.Statement.{statement}
 use Rattle.mbus_telegrams.proofs.table.any_missing.Tie as tie

@@ -4,8 +4,8 @@ use mathlib.Core.Path.{ap, _∙_}
 use mir.Syntax.{w64}
 use mir.Val.{ofZ}
 use mir.ValLaws.{toZ-ofZ}
-use Rattle.bytes_numbers.specs.Numbers.{bytesOf}
-use Rattle.bytes_numbers.proofs.Laws.TwosComplement.{word-bytes}
+use Rattle.base_numbers.specs.Numbers.{bytesOf}
+use Rattle.base_numbers.proofs.Laws.TwosComplement.{word-bytes}
 use Rattle.mbus_writing.proofs.bytes.binary_eight.Statement.{statement}
 use Rattle.mbus_writing.proofs.bytes.binary_eight.Tie as tie
 

@@ -1,6 +1,6 @@
 -- `mbus_writing::bytes::packed_six` meets its contract. Assumes nothing.
 use borrow.Author.Needs.{needs}
-use Rattle.mbus_rules.specs.Digits.{packed}
+use Rattle.base_digits.specs.Digits.{packed}
 use Rattle.mbus_writing.proofs.bytes.packed_six.Statement.{statement}
 use Rattle.mbus_writing.proofs.bytes.packed_six.Tie as tie
 

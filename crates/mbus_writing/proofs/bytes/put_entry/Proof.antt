@@ -8,7 +8,7 @@ use lib.ListN.{length, take}
 use lib.Seq.{length-take-le}
 use Rattle.mbus_rules.specs.Quantities.{widthOf}
 use Rattle.mbus_rules.specs.Writing.{longest}
-use Rattle.bytes_lent.specs.Copying.{copied}
+use Rattle.base_lent.specs.Copying.{copied}
 use Rattle.mbus_writing.proofs.Laws.Laying.{EntryCut, entry-cut, entry-laid}
 use Rattle.mbus_writing.proofs.bytes.put_entry.Statement.{statement}
 use Rattle.mbus_writing.proofs.bytes.put_entry.Tie as tie

@@ -3,11 +3,10 @@ use borrow.Author.Needs.{needs}
 use Prim.Native.Nat.{_≤_}
 use mathlib.Core.Bool.{true}
 use mathlib.Core.Path.{_≡_, sym, ap, _∙_}
-use native.Mathlib.Omega.{arith}
 use lib.IntN.{natAbs}
 use mir.Syntax.{w64}
 use mir.ValLaws.{toZ-ofZ}
-use Rattle.mbus_rules.specs.Signs.{belowZero}
+use Rattle.base_numbers.specs.TwosComplement.{belowZero}
 use Rattle.mbus_writing.proofs.Laws.Laying.{sign-wide}
 use Rattle.mbus_writing.proofs.bytes.signed_six.Statement.{statement}
 use Rattle.mbus_writing.proofs.bytes.signed_six.Tie as tie

@@ -1,18 +1,17 @@
 -- `mbus_writing::bytes::value_bytes` meets its contract, case by case. Assumes nothing.
 use borrow.Author.Needs.{needs}
 use Prim.Native.Nat.{ℕ}
-use mathlib.Core.Bool.{true}
 use mathlib.Core.List.{List, [], _∷_, _++_}
-use mathlib.Core.Path.{_≡_, ap, _∙_}
+use mathlib.Core.Path.{ap, _∙_}
 use native.Mathlib.Omega.{arith}
 use borrow.Author.Tests.{leb-true}
 use lib.Dec.{leb}
 use mir.Syntax.{w64}
 use mir.ValLaws.{toZ-ofZ}
 use Rattle.mbus_rules.specs.Signs.{fitsSigned}
-use Rattle.mbus_rules.specs.Binary.{binaryBytes}
+use Rattle.base_numbers.specs.TwosComplement.{binaryBytes}
 use Rattle.mbus_rules.specs.Moments.{dateExists, timeExists, weekdayExists}
-use Rattle.mbus_rules.proofs.Laws.TestLaws.{every}
+use Rattle.base_rules.proofs.Laws.TestLaws.{every}
 use Rattle.mbus_writing.specs.Laying.{signedSix}
 use Rattle.mbus_writing.proofs.bytes.value_bytes.Statement.{statement}
 use Rattle.mbus_writing.proofs.bytes.value_bytes.Tie as tie

@@ -1,6 +1,6 @@
 -- `Meter::measure` meets its contract: 70, the return, then 71. Assumes nothing.
 use mathlib.Core.Path.{_≡_, sym, ap, _∙_}
-use Rattle.mbus_rules.specs.Answers.{Answer, reads, refusal}
+use Rattle.base_rules.specs.Answers.{Answer, reads, refusal}
 use Rattle.meter_template.specs.declared.Pair.{Pair}
 use Rattle.meter_template.specs.Templates.{sumOf, shownSum}
 use Rattle.meter_template.proofs.Laws.TemplateLaws.{shownSum-same}

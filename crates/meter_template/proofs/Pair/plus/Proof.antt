@@ -3,7 +3,7 @@ use mathlib.Core.Bool.{_||_}
 use mathlib.Core.Path.{_≡_, sym, ap₂, _∙_}
 use borrow.Author.Needs.{needs}
 use native.Mathlib.Omega.{arith}
-use Rattle.mbus_rules.proofs.Laws.Tests.{neither}
+use Rattle.base_rules.proofs.Laws.Tests.{neither}
 use Rattle.meter_template.specs.Templates.{passes, overflows}
 use Rattle.meter_template.proofs.Laws.Walks.{pass-fits}
 use Rattle.meter_template.proofs.Pair.plus.Statement.{statement}

@@ -1,0 +1,2 @@
+-- Packed digits.
+pub mod Digits

@@ -1,0 +1,15 @@
+-- `bytes_numbers::bytes_of` meets its contract. Assumes nothing.
+use borrow.Author.Needs.{needs}
+use mathlib.Core.Path.{refl}
+use Rattle.base_numbers.specs.Numbers.{bytesOf}
+use Rattle.base_numbers.proofs.bytes_of.Statement.{statement}
+use Rattle.base_numbers.proofs.bytes_of.Tie as tie
+
+returns : tie.Need-returns
+unfolding bytesOf
+returns c = refl
+
+pub bytes-of-spec : {M : Type 1} → statement M
+bytes-of-spec =
+    tie.close
+    (tie.spec (λ c. search needs) (λ c. search needs) (λ c. search needs) (λ c. search needs) (λ c. search needs) (λ c. search needs) (λ c. search needs) (λ c. search needs) returns)

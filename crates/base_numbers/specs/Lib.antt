@@ -1,0 +1,4 @@
+-- Numbers low byte first.
+pub mod Numbers
+pub mod Records
+pub mod TwosComplement

@@ -1,5 +1,0 @@
--- What follows from the definitions, invariants of loops among it.
-pub mod Numbers
-pub mod NumberLaws
-pub mod RecordLaws
-pub mod TwosComplement

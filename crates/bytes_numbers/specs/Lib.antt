@@ -1,3 +1,0 @@
--- Numbers low byte first.
-pub mod Numbers
-pub mod Records

@@ -1,3 +1,0 @@
--- Records: values as bytes of a fixed size.
-pub mod Recorded
-pub mod Telegrams

@@ -1,9 +1,0 @@
--- What follows from the definitions, invariants of loops among it.
-pub mod ParityLaws
-pub mod PairLaws
-pub mod PartLaws
-pub mod SumLaws
-pub mod StoreLaws
-pub mod FlagLaws
-pub mod WalkLaws
-pub mod GatherLaws

@@ -1,2 +1,0 @@
--- What one walk over characters gathers.
-pub mod Gathering

@@ -1,0 +1,2 @@
+-- What follows from the definitions, invariants of loops among it.
+pub mod TelegramLaws

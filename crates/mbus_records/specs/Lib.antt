@@ -1,0 +1,2 @@
+-- Records: values as bytes of a fixed size.
+pub mod Telegrams

@@ -1,0 +1,448 @@
+-- What a verdict means in terms of the rows: the exchange of a position behind some rows, against its last sent row and the rows heard since.
+use Prim.Native.Nat.{ℕ, suc, _+_}
+use mathlib.Core.Bool.{Bool, true, false, cond, not, _&&_, _||_}
+use mathlib.Core.List.{List, [], _∷_, _++_, append-nil, append-assoc}
+use mathlib.Core.Path.{_≡_, refl, sym, ap, _∙_}
+use native.Mathlib.Nat.{add-zero, zero-add}
+use native.Mathlib.Omega.{arith}
+use borrow.Author.Tests.{leb-true, leb-false, le-ltb, lt-ltb, eqb-true, eq-eqb, not-true}
+use lib.Dec.{leb, ltb, eqb}
+use lib.ListN.{length, getD}
+use Rattle.base_rules.specs.Answers.{Answer, reads, refusal, refuse, follow}
+use Rattle.base_characters.specs.Characters.{chars}
+use Rattle.base_rules.specs.Lists.{any}
+use Rattle.mbus_rules.specs.declared.Request.{Request}
+use Rattle.mbus_rules.specs.declared.Request.the-variants.{Read, Enter, Leave}
+use Rattle.mbus_rules.specs.declared.View.{View}
+use Rattle.mbus_rules.specs.declared.View.the-variants as views
+use Rattle.base_rules.proofs.Laws.ListLaws.{any-append}
+use Rattle.base_rules.proofs.Laws.Tests.{by-test}
+use Rattle.bench_clock.specs.declared.Clock.{Clock}
+use Rattle.bench_clock.specs.Times.{late}
+use Rattle.bench_clock.specs.Wakes.{isWake}
+use Rattle.exchange_replies.specs.Fits.{fits}
+use Rattle.exchange_steps.specs.declared.Bench.{Bench}
+use Rattle.exchange_steps.specs.declared.Bench.the-variants.{Idle, Busy}
+use Rattle.exchange_steps.specs.declared.Cause.{Cause}
+use Rattle.exchange_steps.specs.declared.Cause.the-variants.{Silent}
+use Rattle.exchange_steps.specs.declared.Exchange.{Exchange}
+use Rattle.exchange_steps.specs.declared.State.the-variants.{Resend, Well, Failed}
+use Rattle.exchange_steps.specs.Steps.{mostSends, failed, causeOf, afterLine, waits, asksResend, asksFor, begun, sending, moved, past}
+use Rattle.exchange_steps.specs.Steps.{heardIn, sentIn, resentIn, heardOn, isWell, endsWell, shownStep}
+use Rattle.exchange_steps.specs.Histories.{exchangeAfter, stands}
+use Rattle.exchange_steps.proofs.Laws.Steps.{by-cond, step-cases, step-taken, uncalled, asks-only, resent-same}
+use Rattle.bundle_check.specs.Records.{Recorded}
+use Rattle.bundle_check.specs.Walks.{endOf}
+use Rattle.run_counting.specs.Counting.{isSent, rowView, looked, sendEnd, beginsFrom, countsAfter, counts, onward, keptIf, lookedAt, numbersFrom, numbersOf}
+use Rattle.run_counting.specs.Exchanges.{rowClock}
+use Rattle.run_verdicts.specs.declared.Verdict.{Verdict}
+use Rattle.run_verdicts.specs.declared.Verdict.the-variants.{Counts, LeftOver, Second, Unasked}
+use Rattle.run_verdicts.specs.Verdicts.{unfitting, decidedBy, heardVerdict, afterHeard, waited, resentOn, sentAs, sentVerdict, afterSent}
+use Rattle.run_verdicts.specs.Verdicts.{verdictAfter, benchAfter, toldTo, benchOf, verdictsFrom, verdictsOf}
+use Rattle.run_verdicts.specs.Words.{verdictBehind, stretchOf, heardSince, heardBehind, isCounts, readSent, asksRead}
+use Rattle.run_verdicts.proofs.Laws.Telling.{end-append}
+
+-- ---- the exchange behind a send of a request, and whether a row heard since began at or after its end
+
+record Outstanding (request : Request) (end : ℕ) (heard : Bool) (b : Bench) : Type 0 where
+  x : Exchange
+  is : b ≡ Busy x
+  same : x .request ≡ request
+  ended : x .began .0 ≡ end
+  waiting : waits (x .state) ≡ not heard
+  last : heard ≡ false → x .last .0 ≡ end
+
+-- no line leaves an exchange waiting
+failed-waits-not : (sends : ℕ) (cause : Cause) → waits (failed sends cause) ≡ false
+failed-waits-not sends cause = go (ltb sends mostSends)
+  where
+    go : (more : Bool) → waits (cond more (Resend cause) (Failed cause)) ≡ false
+    go true = refl
+    go false = refl
+
+line-decides : (request : Request) (sends : ℕ) (silent : Bool) (view : View) → waits (afterLine request sends silent view) ≡ false
+line-decides request sends silent view = go silent (fits request view)
+  where
+    go : (silent fit : Bool) → waits (cond silent (failed sends Silent) (cond fit Well (failed sends (causeOf view)))) ≡ false
+    go true fit = failed-waits-not sends Silent
+    go false true = refl
+    go false false = failed-waits-not sends (causeOf view)
+
+heard-on : (request : Request) (end t : ℕ) (now : View) (heard : Bool) (b : Bench) → Outstanding request end heard b
+    → Outstanding request end (heard || (leb end t || false)) (afterHeard b now (rowClock t))
+heard-on request end t now true b o =
+    let x = o .x in
+    let stays : stands (Busy x) (heardIn x now (rowClock t)) ≡ Busy x =
+    ap (stands (Busy x))
+    (uncalled x (rowClock t) (waits (x .state)) (moved x (afterLine (x .request) (x .sends) (past x (rowClock t)) now) (rowClock t)) (o .waiting)) in
+    record { x = x; is = rw (o .is) stays; same = o .same; ended = o .ended; waiting = o .waiting; last = o .last }
+heard-on request end t now false b o =
+    let x = o .x in
+    let next = moved x (afterLine (x .request) (x .sends) (past x (rowClock t)) now) (rowClock t) in
+    let e = o .last refl in
+    by-test (leb end t)
+    (λ f. let taken : heardIn x now (rowClock t) ≡ reads next =
+    step-taken x (rowClock t) (waits (x .state)) next (omega (arith, leb-true end t f)) (o .waiting) in
+    rw f (record {
+      x = next;
+      is = rw (o .is) (ap (stands (Busy x)) taken);
+      same = o .same;
+      ended = o .ended;
+      waiting = line-decides (x .request) (x .sends) (past x (rowClock t)) now;
+      last = λ d. let z : _≡_ {A = ℕ} 0 1 = cc in absurd (omega arith);
+    }))
+    (λ f. let early : stands (Busy x) (heardIn x now (rowClock t)) ≡ Busy x = rw (lt-ltb t (x .last .0) (omega (arith, leb-false end t f))) in
+    rw f (record { x = x; is = rw (o .is) early; same = o .same; ended = o .ended; waiting = o .waiting; last = o .last }))
+
+-- a send of a request: the exchange takes it as a resend, or begins another
+sent-on : (b : Bench) (request : Request) (end : ℕ) → Outstanding request end false (afterSent b (views.Asks request) (rowClock end))
+sent-on Idle request end = record { x = begun request (rowClock end); is = refl; same = refl; ended = refl; waiting = refl; last = λ d. refl }
+sent-on (Busy x) request end = go (asksFor (x .request) (views.Asks request)) refl
+  where
+    t : Clock
+    t = rowClock end
+
+    P : Answer Exchange → Type 0
+    P a = Outstanding request end false (Busy (exchangeAfter (begun request t) a))
+
+    fresh : (n : ℕ) → P (refusal n)
+    fresh n = record { x = begun request t; is = refl; same = refl; ended = refl; waiting = refl; last = λ d. refl }
+
+    asked : (a : Answer Exchange) → P (follow a (λ y. refuse 43 true (reads y)))
+    asked (refusal n) = fresh n
+    asked (reads y) = fresh 43
+
+    go : (same : Bool) → asksFor (x .request) (views.Asks request) ≡ same → P (resentIn x (views.Asks request) t)
+    go true e =
+        let own : request ≡ x .request = cc (asks-only (x .request) (views.Asks request) e) in
+        rw (resent-same x (views.Asks request) t e)
+        (step-cases x t P (asksResend (x .state) (x .sends)) (sending (x .request) (x .sends + 1) t) fresh
+        (λ l c. record { x = sending (x .request) (x .sends + 1) t; is = refl; same = sym own; ended = refl; waiting = refl; last = λ d. refl }))
+    go false e = rw e (asked (sentIn x t))
+
+-- ---- the exchange of a position against its last sent row and the rows heard since
+
+abbrev After : View → ℕ → Bool → Bench → Type 0
+After (views.Asks request) end heard b = Outstanding request end heard b
+After (views.Refused n) end heard b = b ≡ Idle
+After views.Ack end heard b = b ≡ Idle
+After (views.Data answers) end heard b = b ≡ Idle
+
+abbrev Behind : Bool → View → ℕ → Bool → Bench → Type 0
+Behind true view end heard b = After view end heard b
+Behind false view end heard b = b ≡ Idle
+
+abbrev Stands : List Recorded → Bench → Type 0
+Stands [] b = b ≡ Idle
+Stands (send ∷ since) b = Behind (isSent send) (rowView send) (sendEnd send) (any (beginsFrom (sendEnd send)) since) b
+
+idle-hears : (b : Bench) (now : View) (t : Clock) → b ≡ Idle → afterHeard b now t ≡ Idle
+idle-hears b now t e = rw e
+
+stands-heard : (stretch : List Recorded) (k : Recorded) (b : Bench) → isSent k ≡ false → Stands stretch b
+    → Stands (onward stretch k) (afterHeard b (rowView k) (rowClock (k .time)))
+unfolding any
+stands-heard [] k b h s = rw (h, h) (idle-hears b (rowView k) (rowClock (k .time)) s)
+stands-heard (send ∷ since) k b h s =
+    rw (h, any-append (beginsFrom (sendEnd send)) since (k ∷ []))
+    (go (isSent send) (rowView send) (any (beginsFrom (sendEnd send)) since) s)
+  where
+    t : Clock
+    t = rowClock (k .time)
+
+    go : (sent : Bool) (view : View) (heard : Bool) → Behind sent view (sendEnd send) heard b
+        → Behind sent view (sendEnd send) (heard || (beginsFrom (sendEnd send) k || false)) (afterHeard b (rowView k) t)
+    go false view heard s = idle-hears b (rowView k) t s
+    go true (views.Asks request) heard s = heard-on request (sendEnd send) (k .time) (rowView k) heard b s
+    go true (views.Refused n) heard s = idle-hears b (rowView k) t s
+    go true views.Ack heard s = idle-hears b (rowView k) t s
+    go true (views.Data answers) heard s = idle-hears b (rowView k) t s
+
+stands-sent : (stretch : List Recorded) (k : Recorded) (b : Bench) → isSent k ≡ true
+    → Stands (onward stretch k) (afterSent b (rowView k) (rowClock (sendEnd k)))
+unfolding any
+stands-sent stretch k b h = rw (h, h) (go (rowView k))
+  where
+    go : (view : View) → After view (sendEnd k) false (afterSent b view (rowClock (sendEnd k)))
+    go (views.Asks request) = sent-on b request (sendEnd k)
+    go (views.Refused n) = refl
+    go views.Ack = refl
+    go (views.Data answers) = refl
+
+-- a row that is looked at, and one that is not
+both : (a b : Bool) → (a && b) ≡ true → (a ≡ true) × (b ≡ true)
+both true true e = (refl, refl)
+both true false e = let z : _≡_ {A = ℕ} 0 1 = cc in absurd (omega arith)
+both false b e = let z : _≡_ {A = ℕ} 0 1 = cc in absurd (omega arith)
+
+looked-row : (position : ℕ) (k : Recorded) → looked position k ≡ true → (k .position ≡ position) × (isWake (chars (k .body)) ≡ false)
+unfolding looked
+looked-row position k e =
+    let p = both (eqb (k .position) position) (not (isWake (chars (k .body)))) e in
+    (eqb-true (k .position) position (p .0), not-true (isWake (chars (k .body))) (p .1))
+
+pub told-not : (position : ℕ) (k : Recorded) (b : Bench) → looked position k ≡ false → toldTo position b k ≡ b
+unfolding looked benchAfter
+told-not position k b e = go (eqb (k .position) position) (isWake (chars (k .body))) refl refl e
+  where
+    go : (own wake : Bool) → eqb (k .position) position ≡ own → isWake (chars (k .body)) ≡ wake → (own && not wake) ≡ false → toldTo position b k ≡ b
+    go false wake p w f = rw p
+    go true true p w f = rw (p, w)
+    go true false p w f = let z : _≡_ {A = ℕ} 0 1 = cc in absurd (omega arith)
+
+stands-on : (position : ℕ) (stretch : List Recorded) (k : Recorded) (b : Bench) → looked position k ≡ true → Stands stretch b
+    → Stands (onward stretch k) (toldTo position b k)
+unfolding benchAfter
+stands-on position stretch k b e s =
+    let p = looked-row position k e in
+    rw (eq-eqb (k .position) position (p .0), p .1)
+    (by-cond (Stands (onward stretch k)) (isSent k) (afterSent (waited b (rowClock (k .time))) (rowView k) (rowClock (sendEnd k)))
+    (afterHeard b (rowView k) (rowClock (k .time))) (λ h. stands-sent stretch k (waited b (rowClock (k .time))) h) (λ h. stands-heard stretch k b h s))
+
+stands-all : (position : ℕ) (stretch : List Recorded) (b : Bench) (ks : List Recorded) → Stands stretch b
+    → Stands (endOf onward stretch (lookedAt position ks)) (endOf (toldTo position) b ks)
+unfolding endOf lookedAt
+stands-all position stretch b [] s = s
+stands-all position stretch b (k ∷ ks) s =
+    by-test (looked position k)
+    (λ e. rw e (stands-all position (onward stretch k) (toldTo position b k) ks (stands-on position stretch k b e s)))
+    (λ e. rw (e, told-not position k b e) (stands-all position stretch b ks s))
+
+stands-so : (position : ℕ) (before : List Recorded) → Stands (stretchOf position before) (benchOf position before)
+stands-so position before = stands-all position [] Idle before refl
+
+-- ---- so a heard row has the verdict that the rows say
+
+heard-verdict : (stretch : List Recorded) (k : Recorded) (b : Bench) → Stands stretch b
+    → heardVerdict b (rowView k) (rowClock (k .time)) ≡ heardBehind stretch k
+heard-verdict [] k b s = rw s
+heard-verdict (send ∷ since) k b s = go (isSent send) (rowView send) s
+  where
+    idle : b ≡ Idle → heardVerdict b (rowView k) (rowClock (k .time)) ≡ Unasked
+    idle e = rw e
+
+    go : (sent : Bool) (view : View) → Behind sent view (sendEnd send) (any (beginsFrom (sendEnd send)) since) b
+        → heardVerdict b (rowView k) (rowClock (k .time)) ≡ cond sent (heardSince view (sendEnd send) since k) Unasked
+    go false view s = idle s
+    go true (views.Asks request) s = rw (s .is, s .ended, s .same, s .waiting) (flip (any (beginsFrom (sendEnd send)) since))
+      where
+        flip : (heard : Bool)
+            → cond (ltb (k .time) (sendEnd send)) LeftOver (cond (not heard) (decidedBy request (late (sendEnd send) (k .time)) (rowView k)) Second)
+            ≡ cond (ltb (k .time) (sendEnd send)) LeftOver (cond heard Second (decidedBy request (late (sendEnd send) (k .time)) (rowView k)))
+        flip true = refl
+        flip false = refl
+    go true (views.Refused n) s = idle s
+    go true views.Ack s = idle s
+    go true (views.Data answers) s = idle s
+
+pub heard-means : (before : List Recorded) (k : Recorded) → isWake (chars (k .body)) ≡ false → isSent k ≡ false
+    → verdictBehind before k ≡ heardBehind (stretchOf (k .position) before) k
+unfolding verdictAfter
+heard-means before k w h = rw (w, h) (heard-verdict (stretchOf (k .position) before) k (benchOf (k .position) before) (stands-so (k .position) before))
+
+-- ---- what has no part in it
+
+pub others-told-not : (position : ℕ) (front : List Recorded) (k : Recorded) (later : List Recorded) → looked position k ≡ false
+    → benchOf position (front ++ (k ∷ later)) ≡ benchOf position (front ++ later)
+unfolding endOf
+others-told-not position front k later e =
+    end-append (toldTo position) Idle front (k ∷ later)
+    ∙ ap (λ (b : Bench). endOf (toldTo position) b later) (told-not position k (endOf (toldTo position) Idle front) e)
+    ∙ sym (end-append (toldTo position) Idle front later)
+
+-- ---- the verdict at a place
+
+pub verdict-there : (before : List Recorded) (k : Recorded) (later : List Recorded)
+    → getD (verdictsOf (before ++ (k ∷ later))) (length before) Unasked ≡ verdictBehind before k
+unfolding verdictsFrom
+verdict-there before k later = go [] before
+  where
+    go : (done before : List Recorded)
+        → getD (verdictsFrom done (before ++ (k ∷ later))) (length before) Unasked ≡ verdictAfter (benchOf (k .position) (done ++ before)) k
+    go done [] = ap (λ (l : List Recorded). verdictAfter (benchOf (k .position) l) k) (sym (append-nil done))
+    go done (j ∷ before) =
+        go (done ++ (j ∷ [])) before ∙ ap (λ (l : List Recorded). verdictAfter (benchOf (k .position) l) k) (append-assoc done (j ∷ []) before)
+
+-- ---- counts for reads is 2026-04's
+
+decides-counts : (request : Request) (silent : Bool) (now : View) → isCounts (decidedBy request silent now) ≡ (not silent && fits request now)
+decides-counts request true now = refl
+decides-counts request false now = go (fits request now) now
+  where
+    go : (fit : Bool) (now : View) → isCounts (cond fit Counts (unfitting now)) ≡ (true && fit)
+    go true now = refl
+    go false (views.Refused n) = refl
+    go false views.Ack = refl
+    go false (views.Asks other) = refl
+    go false (views.Data answers) = refl
+
+counted-heard : (stretch : List Recorded) (k : Recorded) → isSent k ≡ false → counts stretch k ≡ (asksRead stretch && isCounts (heardBehind stretch k))
+counted-heard [] k h = refl
+counted-heard (send ∷ since) k h = rw h (go (isSent send) (rowView send))
+  where
+    end : ℕ
+    end = sendEnd send
+
+    none : (a : Bool) → (a && false) ≡ false
+    none true = refl
+    none false = refl
+
+    read : (address : ℕ) (heard later : Bool) → leb end (k .time) ≡ later
+        → (not heard && later && not (late end (k .time)) && fits (Read address) (rowView k))
+        ≡ isCounts (cond (ltb (k .time) end) LeftOver (cond heard Second (decidedBy (Read address) (late end (k .time)) (rowView k))))
+    read address true true e = rw (le-ltb (k .time) end (leb-true end (k .time) e))
+    read address true false e = rw (lt-ltb (k .time) end (leb-false end (k .time) e))
+    read address false true e = rw (le-ltb (k .time) end (leb-true end (k .time) e)) (sym (decides-counts (Read address) (late end (k .time)) (rowView k)))
+    read address false false e = rw (lt-ltb (k .time) end (leb-false end (k .time) e))
+
+    go : (sent : Bool) (view : View)
+        → (sent && true && countsAfter view end since k) ≡ ((sent && readSent view) && isCounts (cond sent (heardSince view end since k) Unasked))
+    go false view = refl
+    go true (views.Asks (Read address)) = read address (any (beginsFrom end) since) (leb end (k .time)) refl
+    go true (views.Asks (Enter address method)) = refl
+    go true (views.Asks (Leave address)) = refl
+    go true (views.Refused n) = refl
+    go true views.Ack = refl
+    go true (views.Data answers) = refl
+
+-- a sent row does not count, by either
+sent-never : (b : Bench) (view : View) (end : Clock) → isCounts (sentVerdict b view end) ≡ false
+sent-never b (views.Refused n) end = refl
+sent-never b views.Ack end = refl
+sent-never b (views.Asks request) end = go (resentOn b (views.Asks request) end)
+  where
+    go : (a : Answer Exchange) → isCounts (sentAs a) ≡ false
+    go (refusal n) = refl
+    go (reads x) = refl
+sent-never b (views.Data answers) end = refl
+
+counted-sent : (stretch : List Recorded) (k : Recorded) → isSent k ≡ true → counts stretch k ≡ false
+counted-sent [] k h = refl
+counted-sent (send ∷ since) k h = rw h (go (isSent send))
+  where
+    go : (sent : Bool) → (sent && false && countsAfter (rowView send) (sendEnd send) since k) ≡ false
+    go true = refl
+    go false = refl
+
+pub counts-as-judged : (position : ℕ) (before : List Recorded) (k : Recorded) → looked position k ≡ true
+    → counts (stretchOf position before) k ≡ (asksRead (stretchOf position before) && isCounts (verdictBehind before k))
+unfolding verdictAfter
+counts-as-judged position before k e =
+    let p = looked-row position k e in
+    by-test (isSent k)
+    (λ h. counted-sent (stretchOf position before) k h
+    ∙ rw (p .1, h, sent-never (waited (benchOf (k .position) before) (rowClock (k .time))) (rowView k) (rowClock (sendEnd k)))
+    (sym (none (asksRead (stretchOf position before)))))
+    (λ h. counted-heard (stretchOf position before) k h
+    ∙ ap (λ (v : Verdict). asksRead (stretchOf position before) && isCounts v)
+    (sym (heard-means before k (p .1) h ∙ ap (λ (q : ℕ). heardBehind (stretchOf q before) k) (p .0))))
+  where
+    none : (a : Bool) → (a && false) ≡ false
+    none true = refl
+    none false = refl
+
+-- each row adds its number to those of 2026-04 exactly then
+numbers-append : (position i : ℕ) (stretch ks : List Recorded) (k : Recorded)
+    → numbersFrom position i stretch (ks ++ (k ∷ []))
+    ≡ numbersFrom position i stretch ks ++ keptIf (looked position k && counts (endOf onward stretch (lookedAt position ks)) k) (i + length ks) []
+unfolding numbersFrom endOf lookedAt
+numbers-append position i stretch [] k = go (looked position k) (counts stretch k) (sym (add-zero i))
+  where
+    go : (look count : Bool) {j : ℕ} → i ≡ j → cond look (keptIf count i []) [] ≡ keptIf (look && count) j []
+    go true true e = ap (λ (n : ℕ). n ∷ []) e
+    go true false e = refl
+    go false count e = refl
+numbers-append position i stretch (j ∷ ks) k = go (λ s. numbers-append position (suc i) s ks k) (looked position j) (counts stretch j)
+  where
+    place : suc i + length ks ≡ i + suc (length ks)
+    place = omega arith
+
+    rest : List Recorded → List ℕ
+    rest s = numbersFrom position (suc i) s ks
+
+    last : List Recorded → ℕ → List ℕ
+    last s n = keptIf (looked position k && counts (endOf onward s (lookedAt position ks)) k) n []
+
+    go : ((s : List Recorded) → numbersFrom position (suc i) s (ks ++ (k ∷ [])) ≡ rest s ++ last s (suc i + length ks)) → (look count : Bool)
+        → cond look (keptIf count i (numbersFrom position (suc i) (onward stretch j) (ks ++ (k ∷ [])))) (numbersFrom position (suc i) stretch (ks ++ (k ∷ [])))
+        ≡ cond look (keptIf count i (rest (onward stretch j))) (rest stretch)
+        ++ keptIf (looked position k && counts (endOf onward stretch (keptIf look j (lookedAt position ks))) k) (i + suc (length ks)) []
+    go on true true =
+        let s = onward stretch j in
+        ap (λ (l : List ℕ). i ∷ l) (on s ∙ ap (λ (n : ℕ). rest s ++ last s n) place)
+    go on true false =
+        let s = onward stretch j in
+        on s ∙ ap (λ (n : ℕ). rest s ++ last s n) place
+    go on false count = on stretch ∙ ap (λ (n : ℕ). rest stretch ++ last stretch n) place
+
+pub numbers-as-judged : (position : ℕ) (before : List Recorded) (k : Recorded)
+    → numbersOf position (before ++ (k ∷ []))
+    ≡ numbersOf position before
+    ++ keptIf (looked position k && (asksRead (stretchOf position before) && isCounts (verdictBehind before k))) (length before) []
+numbers-as-judged position before k =
+    numbers-append position 0 [] before k
+    ∙ by-test (looked position k)
+    (λ e. rw (e, counts-as-judged position before k e, zero-add (length before)))
+    (λ e. rw e)
+
+-- ---- a row counts exactly where the exchange ends well by it
+
+line-well : (request : Request) (sends : ℕ) (silent : Bool) (view : View) → isWell (afterLine request sends silent view) ≡ (not silent && fits request view)
+line-well request sends silent view = go silent (fits request view) (ltb sends mostSends)
+  where
+    go : (silent fit more : Bool)
+        → isWell (cond silent (cond more (Resend Silent) (Failed Silent)) (cond fit Well (cond more (Resend (causeOf view)) (Failed (causeOf view)))))
+        ≡ (not silent && fit)
+    go true fit true = refl
+    go true fit false = refl
+    go false true more = refl
+    go false false true = refl
+    go false false false = refl
+
+well-so : (request : Request) (end t : ℕ) (now : View) (heard : Bool) (b : Bench) → Outstanding request end heard b
+    → isCounts (heardVerdict b now (rowClock t)) ≡ endsWell (shownStep (heardOn b now (rowClock t)))
+well-so request end t now true b o =
+    let x = o .x in
+    let next = moved x (afterLine (x .request) (x .sends) (past x (rowClock t)) now) (rowClock t) in
+    rw (o .is, o .waiting) (go (ltb t (x .began .0))
+    ∙ ap (λ (a : Answer Exchange). endsWell (shownStep a)) (sym (uncalled x (rowClock t) false next refl)))
+  where
+    go : (early : Bool) → isCounts (cond early LeftOver Second) ≡ false
+    go true = refl
+    go false = refl
+well-so request end t now false b o =
+    let x = o .x in
+    let next = moved x (afterLine (x .request) (x .sends) (past x (rowClock t)) now) (rowClock t) in
+    let e = o .last refl in
+    let began = o .ended in
+    by-test (leb end t)
+    (λ f. let from = leb-true end t f in
+    rw (o .is, o .waiting, le-ltb t (x .began .0) (omega arith), le-ltb t (x .last .0) (omega arith))
+    (decides-counts (x .request) (past x (rowClock t)) now ∙ sym (line-well (x .request) (x .sends) (past x (rowClock t)) now)))
+    (λ f. let before = leb-false end t f in rw (o .is, lt-ltb t (x .began .0) (omega arith), lt-ltb t (x .last .0) (omega arith)))
+
+pub ends-well : (before : List Recorded) (k : Recorded) → isWake (chars (k .body)) ≡ false → isSent k ≡ false
+    → isCounts (verdictBehind before k) ≡ endsWell (shownStep (heardOn (benchOf (k .position) before) (rowView k) (rowClock (k .time))))
+unfolding verdictAfter
+ends-well before k w h = rw (w, h) (go (stretchOf (k .position) before) (stands-so (k .position) before))
+  where
+    b : Bench
+    b = benchOf (k .position) before
+
+    Well-so : Type 0
+    Well-so = isCounts (heardVerdict b (rowView k) (rowClock (k .time))) ≡ endsWell (shownStep (heardOn b (rowView k) (rowClock (k .time))))
+
+    idle : b ≡ Idle → Well-so
+    idle e = ap (λ (c : Bench). isCounts (heardVerdict c (rowView k) (rowClock (k .time)))) e
+        ∙ sym (ap (λ (c : Bench). endsWell (shownStep (heardOn c (rowView k) (rowClock (k .time))))) e)
+
+    by : (sent : Bool) (view : View) (end : ℕ) (heard : Bool) → Behind sent view end heard b → Well-so
+    by false view end heard s = idle s
+    by true (views.Asks request) end heard s = well-so request end (k .time) (rowView k) heard b s
+    by true (views.Refused n) end heard s = idle s
+    by true views.Ack end heard s = idle s
+    by true (views.Data answers) end heard s = idle s
+
+    go : (stretch : List Recorded) → Stands stretch b → Well-so
+    go [] s = idle s
+    go (send ∷ since) s = by (isSent send) (rowView send) (sendEnd send) (any (beginsFrom (sendEnd send)) since) s
