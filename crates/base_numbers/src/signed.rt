@@ -1,16 +1,43 @@
-// Whole numbers as words in two's complement. Written so that the back end sees that nothing is to be done.
+// Whole numbers, their sign and size, and as words in two's complement. Written so that the back end sees that nothing is to be done.
 ghost use mathlib.Core.Path.{_≡_};
-ghost use Prim.Native.Nat.{_^_, _<_};
-ghost use lib.IntN.{negsuc};
+ghost use mathlib.Core.Bool.{true};
+ghost use Prim.Native.Nat.{_^_, _<_, _-_};
+ghost use lib.IntN.{negsuc, natAbs};
 ghost use mir.Syntax.{w64};
 ghost use mir.Val.{toZ, ofZ};
+ghost use Rattle.base_numbers.specs.TwosComplement.{belowZero};
+
+// The number is below zero.
+pub fn is_below_zero(count: i64) -> bool
+    ensures { λ r. ⌜ r ≡ belowZero count ⌝ }
+{
+    count < 0
+}
+
+// How much a number below zero is below -1: the type holds the negation of one more than it.
+fn beneath(count: i64) -> u64
+    requires { ⌜ belowZero count ≡ true ⌝ }
+    ensures { λ r. ⌜ (r ≡ natAbs count - 1) × (r < 2 ^ 63) ⌝ }
+{
+    (-(count + 1)) as u64
+}
+
+// The size of a number, without its sign.
+pub fn size_of(count: i64) -> u64
+    ensures { λ r. ⌜ r ≡ natAbs count ⌝ }
+{
+    if count < 0 {
+        return beneath(count) + 1;
+    }
+    count as u64
+}
 
 // The word that a number is in two's complement.
 pub fn word_of(count: i64) -> u64
     ensures { λ r. ⌜ r ≡ ofZ w64 count ⌝ }
 {
     if count < 0 {
-        return 0xFFFF_FFFF_FFFF_FFFF - (-(count + 1)) as u64;
+        return 0xFFFF_FFFF_FFFF_FFFF - beneath(count);
     }
     count as u64
 }

@@ -5,11 +5,11 @@ ghost use lib.ListN.{length};
 ghost use Rattle.bundle_rows.specs.Rows.{mostRows, firstOffset};
 ghost use Rattle.bundle_check.specs.Bundles.{mostBytes};
 ghost use Rattle.bundle_adding.specs.Writing.{rowsPlaced, contentsGrown};
+use base_lent::lay;
+use base_numbers::put_number;
 use bundle_rows::Row;
 use bundle_rows::row_bytes;
 use bundle_rows::unchecked_row;
-use base_lent::lay;
-use base_numbers::put_number;
 
 // Each row gets the offset that its body has, the first body at a place and each next one behind it.
 fn place_rows(buffer: &mut [u8], count: usize, first: usize)

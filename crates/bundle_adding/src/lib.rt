@@ -8,6 +8,7 @@ ghost use Rattle.bundle_adding.specs.Adding.{newRecord, lastTime, buffer
 ghost use Rattle.bundle_adding.specs.Shown.{Adds};
 use crate::bodies::move_bodies;
 use crate::growing::grow_contents;
+use base_characters::pairs::any_over;
 use bundle_check::Checked;
 use bundle_check::MOST_BYTES;
 use bundle_check::check;
@@ -15,7 +16,6 @@ use bundle_rows::MOST_ROWS;
 use bundle_rows::Row;
 use bundle_rows::unchecked_row;
 use bundle_rows::wrong_field;
-use base_characters::pairs::any_over;
 
 mod bodies;
 mod growing;

@@ -7,9 +7,9 @@ ghost use Rattle.base_rules.specs.Answers.{reads};
 ghost use Rattle.bundle_check.specs.Bundles.{countOf, opened, checkRows, checkOf};
 ghost use Rattle.bundle_check.specs.Shown.{shownChecked};
 use crate::walk::walk_rows;
-use bundle_rows::MOST_ROWS;
-use base_numbers::number_at;
 use base_characters::pairs::any_over;
+use base_numbers::number_at;
+use bundle_rows::MOST_ROWS;
 
 pub mod rows;
 mod walk;

@@ -10,12 +10,12 @@ ghost use Rattle.bundle_columns.specs.Record.{columnsSize, columnsIn, co
 ghost use Rattle.bundle_columns.specs.Lookups.{rowKept, bodyKept, nextKept};
 ghost use Rattle.bundle_columns.specs.Shown.{countKept, shownNext};
 use crate::scanning::next_place;
+use base_numbers::number_at;
 use bundle_check::Checked;
 use bundle_check::rows::BodyFound;
 use bundle_check::rows::RowFound;
 use bundle_rows::MOST_ROWS;
 use bundle_rows::Row;
-use base_numbers::number_at;
 
 pub mod making;
 mod scanning;

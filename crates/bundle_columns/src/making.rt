@@ -16,11 +16,11 @@ use crate::LENGTHS;
 use crate::OFFSETS;
 use crate::POSITIONS;
 use crate::TIMES;
+use base_numbers::number_at;
+use base_numbers::put_number;
 use bundle_check::Checked;
 use bundle_check::check;
 use bundle_rows::MOST_ROWS;
-use base_numbers::number_at;
-use base_numbers::put_number;
 
 // A field of row i: so many bytes at a place in its twelve; 0 where there is no such row.
 fn field(bundle: &[u8], count: usize, place: usize, width: usize, i: usize) -> u64

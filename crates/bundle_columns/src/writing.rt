@@ -9,10 +9,10 @@ ghost use Rattle.bundle_columns.specs.Record.{columnsSize, columnsIn};
 ghost use Rattle.bundle_columns.specs.Shown.{contentsInto, Turns};
 use crate::count_in;
 use crate::kept_row;
-use bundle_check::Checked;
-use bundle_rows::row_bytes;
 use base_lent::lay;
 use base_numbers::put_number;
+use bundle_check::Checked;
+use bundle_rows::row_bytes;
 
 // So many rows of the lists, one behind the other, behind the count.
 fn put_rows(columns: &[u8], count: usize, out: &mut [u8])

@@ -5,9 +5,9 @@ ghost use lib.ListN.{length, take, drop};
 ghost use Rattle.base_characters.specs.Characters.{chars};
 ghost use Rattle.bundle_rows.specs.Fields.{wrongPosition, wrongField};
 ghost use Rattle.bundle_rows.specs.Rows.{rowOf, blankRow, uncheckedRow, bytesOfRow, bodyIn, uncheckedCharacters, Puts};
+use base_characters::pairs::character_at;
 use base_numbers::bytes_of;
 use base_numbers::number_at;
-use base_characters::pairs::character_at;
 
 // The most rows of a bundle.
 pub const MOST_ROWS: usize = 512;

@@ -5,10 +5,10 @@ ghost use lib.ListN.{length};
 ghost use Rattle.bundle_check.specs.Bundles.{mostBytes};
 ghost use Rattle.bundle_salvage.specs.Salvaging.{ruleOf, leadingRows};
 ghost use Rattle.bundle_salvage.specs.Writing.{ContentsWhole};
+use base_characters::pairs::any_over;
 use bundle_rows::Row;
 use bundle_rows::unchecked_row;
 use bundle_rows::wrong_field;
-use base_characters::pairs::any_over;
 
 // How many rows, the rule that the next one breaks or 0, and where their bodies end.
 pub(crate) struct Leading {

@@ -9,11 +9,11 @@ ghost use Rattle.bundle_check.specs.Records.{recordsOf, bundleOf};
 ghost use Rattle.bundle_check.specs.RowRules.{bodiesEnd};
 ghost use Rattle.bundle_salvage.specs.Salvaging.{newLength};
 ghost use Rattle.bundle_salvage.specs.Writing.{loweredRows, InPlace};
+use base_lent::lay;
+use base_numbers::put_number;
 use bundle_rows::Row;
 use bundle_rows::row_bytes;
 use bundle_rows::unchecked_row;
-use base_lent::lay;
-use base_numbers::put_number;
 
 // The rows that are kept, each with its offset lower by the rows that are dropped.
 fn put_rows(damaged: &[u8], kept: usize, count: usize, out: &mut [u8])

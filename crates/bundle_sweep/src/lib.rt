@@ -8,9 +8,9 @@ ghost use Rattle.bundle_sweep.specs.Sweeping.{sweptBundle};
 ghost use Rattle.bundle_sweep.specs.Shown.{Sweeps};
 use crate::drawing::draw_rows;
 use crate::placing::place_bodies;
+use base_numbers::put_number;
 use bundle_check::Checked;
 use bundle_check::check;
-use base_numbers::put_number;
 
 mod drawing;
 mod moving;

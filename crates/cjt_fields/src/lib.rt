@@ -3,9 +3,9 @@ ghost use mathlib.Core.Path.{_≡_};
 ghost use Rattle.cjt_rules.specs.CjtAddresses.{heatType};
 ghost use Rattle.cjt_rules.specs.CjtClocks.{wrongClock};
 ghost use Rattle.cjt_rules.specs.CjtUnits.{energyCode, powerCode, flowCode, volumeCode, wrongUnits};
+use base_calendar::days_of;
 use cjt_rules::CjtAnswer;
 use cjt_rules::CjtClock;
-use base_calendar::days_of;
 
 // The type is one of the seven.
 pub fn is_heat_type(sort: u8) -> bool

@@ -14,6 +14,7 @@ ghost use Rattle.cjt_rules.specs.CjtViews.{cjtShown};
 ghost use Rattle.cjt_reading.specs.CjtParts.{Skips};
 use crate::parts::tells_in;
 use crate::parts::wrong_listed;
+use base_digits::packed_in;
 use base_numbers::byte_at;
 use base_numbers::number_at;
 use cjt_fields::is_heat_type;
@@ -22,7 +23,6 @@ use cjt_rules::CjtAddress;
 use cjt_rules::CjtReading;
 use cjt_rules::CjtRequest;
 use cjt_rules::CjtTelegram;
-use base_digits::packed_in;
 
 // A request's length byte.
 const ASKS: u8 = 0x03;

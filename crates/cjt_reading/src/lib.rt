@@ -3,11 +3,11 @@ ghost use mathlib.Core.Path.{_≡_};
 ghost use Rattle.cjt_rules.specs.CjtLines.{readCjtLine};
 ghost use Rattle.cjt_rules.specs.CjtViews.{cjtShown};
 ghost use Rattle.cjt_reading.specs.CjtParts.{farFrom};
-use cjt_rules::CjtReading;
-use frame::read_in;
 use base_characters::line::gather;
 use base_characters::line::soundness_of;
 use base_rules::Outcome;
+use cjt_rules::CjtReading;
+use frame::read_in;
 
 mod frame;
 pub mod pairs;

@@ -7,12 +7,12 @@ ghost use Rattle.cjt_reading.specs.CjtParts.{viewedAs};
 use crate::MOST;
 use crate::far_of;
 use crate::frame::read_in;
-use cjt_rules::CjtReading;
-use cjt_rules::CjtTelegram;
-use cjt_rules::CjtView;
 use base_characters::pairs::gather;
 use base_characters::pairs::soundness_of;
 use base_rules::Outcome;
+use cjt_rules::CjtReading;
+use cjt_rules::CjtTelegram;
+use cjt_rules::CjtView;
 
 // The whole answer of reading a line.
 fn read_pairs(bytes: &[u8]) -> CjtReading

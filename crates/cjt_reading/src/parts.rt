@@ -5,13 +5,13 @@ ghost use Prim.Native.Nat.{_≤_};
 ghost use Rattle.base_digits.specs.Digits.{digitsOf};
 ghost use Rattle.cjt_rules.specs.CjtClocks.{clockOf};
 ghost use Rattle.cjt_rules.specs.CjtLines.{part, valueFrom, wrongPart, wrongListed, tellsIn};
+use base_digits::packed_in;
 use base_numbers::byte_at;
 use base_numbers::number_at;
 use cjt_fields::wrong_clock;
 use cjt_rules::CjtAnswer;
 use cjt_rules::CjtClock;
 use cjt_rules::CjtQuantity;
-use base_digits::packed_in;
 
 // A digit of at most eight bytes from a place on is over nine.
 fn wrong_at(d: &[u8], place: usize, width: usize) -> bool

@@ -7,6 +7,8 @@ ghost use Rattle.base_lent.specs.Pieces.{pieces};
 ghost use Rattle.base_digits.specs.Digits.{packed};
 ghost use Rattle.base_characters.specs.Closing.{closed};
 ghost use Rattle.cjt_rules.specs.CjtWriting.{bytesOfParty, bytesOfQuantity, bytesOfClock, bytesListed, bytesOfTelegram};
+use base_characters::sum_of;
+use base_digits::two_digits;
 use base_lent::lay;
 use cjt_rules::CjtAddress;
 use cjt_rules::CjtAnswer;
@@ -14,8 +16,6 @@ use cjt_rules::CjtClock;
 use cjt_rules::CjtQuantity;
 use cjt_rules::CjtRequest;
 use cjt_rules::CjtTelegram;
-use base_characters::sum_of;
-use base_digits::two_digits;
 
 // The digits in seven bytes, nothing has more; the first of them are the digits in so many.
 fn packed_seven(n: u64) -> [u8; 7]

@@ -2,13 +2,13 @@
 ghost use lib.ListN.{length};
 ghost use Rattle.cjt_rules.specs.CjtWriting.{writeCjtLine};
 ghost use Rattle.base_characters.specs.Carrying.{Writes};
+use base_characters::carrying::Written;
+use base_characters::carrying::write_bytes;
 use bytes::answer_bytes;
 use bytes::request_bytes;
 use cjt_rules::CjtAnswer;
 use cjt_rules::CjtRequest;
 use cjt_rules::CjtTelegram;
-use base_characters::carrying::Written;
-use base_characters::carrying::write_bytes;
 use unwritten::unwritten_answer;
 use unwritten::unwritten_request;
 

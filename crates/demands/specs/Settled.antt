@@ -9,7 +9,7 @@ use Rattle.mbus_rules.specs.declared.Telegram.{Telegram}
 use Rattle.base_rules.specs.Answers.{Answer}
 use Rattle.base_lent.specs.Lent.{Leaves}
 use Rattle.base_characters.specs.declared.carrying.Written.{Written}
-use Rattle.mbus_writing.specs.Answering.{WritesLine}
+use Rattle.base_characters.specs.Carrying.{Writes}
 use Rattle.mbus_either.specs.declared.Either.{Either}
 use Rattle.mbus_either.specs.Stretches.{HandsEither}
 use Rattle.serial_marks.specs.declared.Unmarked.{Unmarked}
@@ -46,6 +46,8 @@ use Rattle.host_bundle.specs.Salvaging.{SalvagesIn}
 use Rattle.host_sweep.specs.Sweeping.{SweepsIn}
 use Rattle.run_verdicts.specs.declared.Verdict.{Verdict}
 use Rattle.host_verdicts.specs.Told.{GivesVerdicts}
+use Rattle.mbus_rules.specs.Writing.{writeLine}
+use lib.ListN.{length}
 
 -- Any two results that the promise allows are the same. (A result is the answer, and beside it what is left in each thing lent.)
 abbrev pub Settled : {R : Type 0} → (R → Type 0) → Type 0
@@ -62,7 +64,7 @@ two-equations a b x y p q i = (equation a (x .0) (y .0) (p .0) (q .0) i, equatio
 
 -- ---- records of equations, in Rattle
 
-pub writing-settled : (t : Telegram) (before : List ℕ) → Settled (λ (x : Written × List ℕ). WritesLine t before (x .1) (x .0))
+pub writing-settled : (t : Telegram) (before : List ℕ) → Settled (λ (x : Written × List ℕ). Writes (writeLine t (length before)) before (x .1) (x .0))
 writing-settled t before x y p q = two-equations _ _ x y (p .answer, p .places) (q .answer, q .places)
 
 pub unmarking-settled : (bytes before : List ℕ) → Settled (λ (x : Unmarked × List ℕ). Unmarks bytes before (x .1) (x .0))

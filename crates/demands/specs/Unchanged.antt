@@ -12,7 +12,7 @@ use Rattle.base_rules.specs.Answers.{Answer, refusal, within, follow}
 use Rattle.mbus_rules.specs.Writing.{writeLine}
 use Rattle.base_lent.specs.Lent.{told, stored, done, Leaves}
 use Rattle.base_characters.specs.declared.carrying.Written.{Written}
-use Rattle.mbus_writing.specs.Answering.{WritesLine}
+use Rattle.base_characters.specs.Carrying.{Writes}
 use Rattle.mbus_either.specs.declared.Either.{Either}
 use Rattle.mbus_either.specs.Interfaces.{findEither}
 use Rattle.mbus_either.specs.Stretches.{StretchOf, HandsEither}
@@ -72,7 +72,7 @@ by-answer leaves before u a n after e l = l ∙ ap leaves e ∙ u n
 
 module _ (n : ℕ) where
   pub writing-unchanged : (t : Telegram) (before after : List ℕ) (r : Written) → writeLine t (length before) ≡ refusal n
-      → WritesLine t before after r → after ≡ before
+      → Writes (writeLine t (length before)) before after r → after ≡ before
   writing-unchanged t before after r e p = by-answer (stored (λ (line : List ℕ). line) before) before (λ m. refl) (writeLine t (length before)) n after e
       (p .places)
 

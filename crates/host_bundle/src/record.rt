@@ -2,10 +2,10 @@
 ghost use mathlib.Core.Path.{_≡_};
 ghost use Rattle.base_lent.specs.Lent.{needs};
 ghost use Rattle.host_bundle.specs.Rows.{rowRecord, rowFound, GivesRow};
-use bundle_check::rows::RowFound;
-use bundle_rows::Row;
 use base_lent::store;
 use base_numbers::bytes_of;
+use bundle_check::rows::RowFound;
+use bundle_rows::Row;
 
 // The bytes of a row's record.
 pub(crate) const ROW_BYTES: usize = 12;

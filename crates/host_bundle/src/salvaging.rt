@@ -1,8 +1,8 @@
 // Salvaging a run bundle cut short (2026-11 of document 02), for the bench host.
 ghost use Rattle.host_bundle.specs.Salvaging.{SalvagesIn};
+use base_numbers::put_record;
 use bundle_salvage::SalvageTold;
 use bundle_salvage::salvage;
-use base_numbers::put_record;
 
 // 0, the new bundle, and what is told of it; or 256 plus 21, 30 to 33 or 38.
 #[no_mangle]

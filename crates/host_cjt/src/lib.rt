@@ -4,15 +4,15 @@ ghost use Rattle.base_lent.specs.Lent.{done, Leaves};
 ghost use Rattle.cjt_rules.specs.CjtWriting.{writeCjtLine};
 ghost use Rattle.mbus_records.specs.Telegrams.{entryBytes};
 ghost use Rattle.host_cjt.specs.CjtCalls.{writeCjtFor, entryCjtFor};
+use base_characters::carrying::Written;
 use base_lent::lay;
 use cjt_energy::Converted;
 use cjt_energy::entry_for;
+use cjt_records::cjt_from;
 use cjt_rules::CjtReading;
 use cjt_rules::CjtTelegram;
 use cjt_writing::write_line;
-use cjt_records::cjt_from;
 use mbus_records::telegrams::entry_bytes;
-use base_characters::carrying::Written;
 
 pub mod reading;
 

@@ -7,10 +7,10 @@ ghost use Rattle.host_cjt.specs.CjtCalls.{readCjtFor};
 use base_lent::store;
 use cjt_reading::pairs::outline_of;
 use cjt_reading::read_line;
+use cjt_records::cjt_bytes;
 use cjt_rules::CjtReading;
 use cjt_rules::CjtTelegram;
 use cjt_rules::CjtView;
-use cjt_records::cjt_bytes;
 
 // The host's number of a telegram.
 fn kind_number(telegram: CjtTelegram) -> u32

@@ -4,16 +4,16 @@ ghost use Rattle.mbus_rules.specs.Writing.{writeLine};
 ghost use Rattle.base_lent.specs.Lent.{Leaves};
 ghost use Rattle.mbus_records.specs.Telegrams.{telegramBytes};
 ghost use Rattle.host_lines.specs.Calls.{readFor, kindOf, writeFor, requestFor};
+use base_characters::carrying::Written;
 use base_lent::store;
+use base_rules::Outcome;
+use mbus_reading::read_line;
 use mbus_records::telegrams::telegram_bytes;
 use mbus_records::telegrams::telegram_from;
-use mbus_reading::read_line;
-use base_rules::Outcome;
 use mbus_rules::Telegram;
 use mbus_telegrams::kinds::kind_in;
 use mbus_telegrams::kinds::kind_number;
 use mbus_telegrams::plain;
-use base_characters::carrying::Written;
 use mbus_writing::write_line;
 
 // Reads a line into a telegram's record, and answers its kind.

@@ -1,12 +1,12 @@
 // Answers, written to standard output word by word.
+use base_numbers::signed::is_below_zero;
+use base_numbers::signed::size_of;
+use base_rules::Outcome;
 use libc::STDOUT_FILENO;
-use mbus_fields::digits::is_below_zero;
-use mbus_fields::digits::size_of;
 use mbus_rules::Entry;
 use mbus_rules::Header;
 use mbus_rules::Kind;
 use mbus_rules::Moment;
-use base_rules::Outcome;
 use mbus_rules::Reading;
 use mbus_rules::Telegram;
 use mbus_rules::Value;

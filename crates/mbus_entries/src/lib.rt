@@ -7,8 +7,8 @@ ghost use Rattle.mbus_rules.specs.Entries.{readEntries};
 ghost use Rattle.mbus_entries.specs.Walking.{entriesShown, unmarked, outcomeAfter, isRefusal};
 use crate::entry::Tried;
 use crate::entry::next_entry;
-use mbus_rules::Entry;
 use base_rules::Outcome;
+use mbus_rules::Entry;
 use mbus_telegrams::blank_entry;
 use mbus_telegrams::table::any_missing;
 

@@ -5,11 +5,11 @@ ghost use Prim.Native.Nat.{_+_, _-_, _^_, _≤_, min};
 ghost use lib.ListN.{take};
 ghost use Rattle.base_numbers.specs.TwosComplement.{fitsBinary};
 ghost use Rattle.mbus_fields.specs.Fields.{codedOf};
-use crate::digits::is_below_zero;
 use crate::digits::mark_of;
-use crate::digits::size_of;
 use base_numbers::number_at;
 use base_numbers::signed::count_of;
+use base_numbers::signed::is_below_zero;
+use base_numbers::signed::size_of;
 
 // What the bytes hold in binary: the highest bit is set, and the number that they are.
 pub struct Coded {

@@ -3,8 +3,7 @@ ghost use mathlib.Core.Path.{_≡_};
 ghost use mathlib.Core.Bool.{cond};
 ghost use Prim.Native.Nat.{_-_, _^_, _<_, _≤_, min};
 ghost use lib.Dec.{leb};
-ghost use lib.IntN.{pos, negℤ, natAbs};
-ghost use Rattle.base_numbers.specs.TwosComplement.{belowZero};
+ghost use lib.IntN.{pos, negℤ};
 ghost use Rattle.mbus_fields.specs.Fields.{markOf, signOn, markedIn, signedBy, wideBy, wideOf};
 use base_digits::Packed;
 use base_digits::packed_in;
@@ -104,23 +103,6 @@ fn unmarked(word: u64, mark: u64) -> u64
     ensures { λ r. ⌜ r ≡ cond (leb mark word) (word - mark) word ⌝ }
 {
     if mark <= word { word - mark } else { word }
-}
-
-// The number is below zero.
-pub fn is_below_zero(count: i64) -> bool
-    ensures { λ r. ⌜ r ≡ belowZero count ⌝ }
-{
-    count < 0
-}
-
-// The size of a number, without its sign.
-pub fn size_of(count: i64) -> u64
-    ensures { λ r. ⌜ r ≡ natAbs count ⌝ }
-{
-    if count < 0 {
-        return (-(count + 1)) as u64 + 1;
-    }
-    count as u64
 }
 
 // A size with a minus sign.

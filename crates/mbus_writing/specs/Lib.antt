@@ -1,3 +1,2 @@
--- What the writer's walks hold on to, and what it answers.
+-- What the writer's walks hold on to.
 pub mod Laying
-pub mod Answering

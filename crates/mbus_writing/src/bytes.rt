@@ -12,13 +12,13 @@ ghost use Rattle.mbus_rules.specs.Moments.{dateExists, timeExists, weekdayExist
 ghost use Rattle.mbus_rules.specs.Writing.{momentBytes, bytesOfHeader, shortFrame, longFrame, bytesOfKind, longest, unwritable};
 ghost use Rattle.mbus_writing.specs.Laying.{signedSix, eightBytes, exists, EntryFits, EntryLaid, EntriesFit, EntriesLaid};
 ghost use Rattle.mbus_writing.specs.Laying.{FrameClosed, BytesLaid, DataFits};
+use base_characters::sum_of;
 use base_digits::two_digits;
 use base_lent::lay;
 use base_numbers::bytes_of;
+use base_numbers::signed::is_below_zero;
+use base_numbers::signed::size_of;
 use base_numbers::signed::word_of;
-use base_characters::sum_of;
-use mbus_fields::digits::is_below_zero;
-use mbus_fields::digits::size_of;
 use mbus_fields::quantities::width_of;
 use mbus_rules::Entry;
 use mbus_rules::Header;

@@ -1,7 +1,8 @@
 // Line writing.
 mod bytes;
 
-ghost use Rattle.mbus_writing.specs.Answering.{WritesLine};
+ghost use lib.ListN.{length};
+ghost use Rattle.mbus_rules.specs.Writing.{writeLine};
 ghost use Rattle.base_characters.specs.Carrying.{Writes};
 use base_characters::carrying::Written;
 use base_characters::carrying::write_bytes;
@@ -15,7 +16,7 @@ pub const LONGEST: usize = 89;
 // Writes the line of a telegram into the first places and nothing beyond. Where no accepted line reads as the telegram
 // that is 20, where there are fewer places than characters 21, and all places stay as they were.
 pub fn write_line(telegram: Telegram, out: &mut [u16]) -> Written
-    ensures { λ r. ⌜ WritesLine telegram (now (out .entry)) (now (out .exit)) r ⌝ }
+    ensures { λ r. ⌜ Writes (writeLine telegram (length (now (out .entry)))) (now (out .entry)) (now (out .exit)) r ⌝ }
 {
     let unwritable = is_unwritable(telegram);
     if unwritable {
@@ -23,9 +24,5 @@ pub fn write_line(telegram: Telegram, out: &mut [u16]) -> Written
     }
     let mut bytes = [0u8; LONGEST];
     let count = put_bytes(telegram, &mut bytes);
-    if out.len() < count {
-        return Written::Refused(21);
-    }
-    carry(&bytes[..count], out);
-    Written::Length(count)
+    write_bytes(&bytes[..count], out)
 }

@@ -2,10 +2,10 @@
 // by value; a refused step hands it back as it stood.
 ghost use mathlib.Core.Path.{_≡_};
 ghost use Rattle.meter_steps.specs.Meters.{begunMeter, setUp, heardAt, measuredAt, shownSetup, shownMeterStep};
+use base_rules::Outcome;
 use bench_clock::Clock;
 use instructions::acknowledgement;
 use mbus_reading::outline_of;
-use base_rules::Outcome;
 use mbus_rules::Telegram;
 use meter_template::Pair;
 use meter_template::Sum;

@@ -4,7 +4,7 @@ ghost use mathlib.Core.Bool.{_||_};
 ghost use Rattle.mbus_rules.specs.Quantities.{energy, volume};
 ghost use Rattle.meter_template.specs.Templates.{isDataKind, holds, unfitTemplate, valueCount, totalIn, pairIn, counted, filledEntry, filled};
 ghost use Rattle.meter_template.specs.Templates.{lacks, nextAccess, raised, dataWith, passes, sumOf, shownSum};
-use mbus_fields::digits::size_of;
+use base_numbers::signed::size_of;
 use mbus_fields::quantities::quantity_of;
 use mbus_rules::Decimal;
 use mbus_rules::Entry;

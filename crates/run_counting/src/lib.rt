@@ -6,13 +6,13 @@ ghost use Rattle.bundle_rows.specs.Rows.{mostRows};
 ghost use Rattle.bundle_check.specs.Bundles.{checkOf};
 ghost use Rattle.run_counting.specs.Counting.{countingOf};
 ghost use Rattle.run_counting.specs.Shown.{shownCounting, Numbers};
+use base_rules::Outcome;
 use bundle_check::Checked;
 use bundle_check::check;
 use bundle_rows::MOST_ROWS;
 use bundle_rows::wrong_position;
 use ear::Ear;
 use ear::turn_at;
-use base_rules::Outcome;
 
 mod ear;
 

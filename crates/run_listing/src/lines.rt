@@ -15,12 +15,12 @@ use crate::texts::begin;
 use crate::texts::blank;
 use crate::texts::with;
 use crate::texts::with_number;
-use bundle_rows::unchecked_row;
 use base_lent::lay;
-use run_words::Column;
-use run_words::column_of;
+use bundle_rows::unchecked_row;
 use mbus_rules::Request;
 use mbus_rules::View;
+use run_words::Column;
+use run_words::column_of;
 
 // The word refused and the number.
 pub(crate) fn refused(n: u16) -> Line

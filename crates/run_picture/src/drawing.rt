@@ -34,9 +34,9 @@ use crate::page::Page;
 use bundle_rows::MOST_ROWS;
 use bundle_rows::unchecked_row;
 use run_listing::put_word;
-use text_filling::fill;
 use run_verdicts::Ruling;
 use run_verdicts::Verdict;
+use text_filling::fill;
 
 // The head: sizes, colours, title and legend.
 fn put_head(out: &mut [u8], at: usize, page: Page) -> usize

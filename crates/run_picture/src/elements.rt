@@ -10,8 +10,8 @@ use crate::filling::put_pair;
 use crate::filling::put_text;
 use crate::pace::less;
 use crate::page::Page;
-use text_filling::fill;
 use run_verdicts::Verdict;
+use text_filling::fill;
 
 // The whole is so wide and so high.
 pub(crate) fn put_opens(out: &mut [u8], at: usize, page: Page) -> usize

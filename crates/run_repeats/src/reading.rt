@@ -7,9 +7,9 @@ ghost use Rattle.bundle_rows.specs.Rows.{uncheckedRow};
 ghost use Rattle.run_counting.specs.Ears.{rowWith, rowIn};
 ghost use Rattle.run_repeats.specs.Repeats.{tellsData, givesReading, sameParts};
 ghost use Rattle.run_repeats.specs.Marks.{rowMark, DataAt};
+use base_lent::is_same;
 use bundle_rows::Row;
 use bundle_rows::unchecked_row;
-use base_lent::is_same;
 use mbus_reading::pairs::outline_of;
 use mbus_rules::View;
 

@@ -6,12 +6,12 @@ ghost use Rattle.run_calendar.specs.Days.{interval};
 ghost use Rattle.run_counting.specs.Counting.{numbersOf};
 ghost use Rattle.run_replay.specs.Errors.{wrongInterval, errorOfFigures, replayOf};
 ghost use Rattle.run_replay.specs.Shown.{shownReplay};
+use base_rules::Outcome;
 use bench_indication::Indication;
 use bench_indication::rises::error_of_rises;
 use figures::Figures;
 use figures::VOLUME_MOST;
 use figures::figures_at;
-use base_rules::Outcome;
 use run_calendar::interval;
 use run_counting::counting;
 

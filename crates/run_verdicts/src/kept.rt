@@ -10,10 +10,10 @@ use crate::Verdicts;
 use crate::refused;
 use crate::walking::row_from;
 use crate::walking::walk;
+use base_rules::Outcome;
 use bundle_check::Checked;
 use bundle_columns::count_in;
 use bundle_rows::wrong_field;
-use base_rules::Outcome;
 
 // Whether 34 applies to a row, and whether 35 does.
 pub(crate) struct Faults {

@@ -3,10 +3,10 @@ ghost use mathlib.Core.Path.{_≡_};
 ghost use Rattle.base_rules.specs.Answers.{refusal};
 ghost use Rattle.run_verdicts.specs.Answering.{verdictsIn};
 ghost use Rattle.run_verdicts.specs.Shown.{shownVerdicts};
+use base_rules::Outcome;
 use bundle_check::Checked;
 use bundle_check::check;
 use bundle_rows::MOST_ROWS;
-use base_rules::Outcome;
 use walking::walk;
 
 mod judging;

@@ -18,7 +18,7 @@ use Rattle.mbus_rules.specs.Telegrams.{bare, shown}
 use Rattle.mbus_rules.specs.Writing.{lineOf, unwritable, writeLine, longest}
 use Rattle.base_characters.specs.declared.carrying.Written.{Written}
 use Rattle.base_characters.specs.declared.carrying.Written.the-variants as writtens
-use Rattle.mbus_writing.specs.Answering as answering
+use Rattle.base_characters.specs.Carrying as answering
 use Rattle.base_lent.specs.Copying.{copied}
 use Rattle.base_lent.specs.Lent.{told, needs, Leaves}
 use Rattle.base_lent.proofs.Laws.LentLaws.{none-copied, leaves-copied}
@@ -78,7 +78,7 @@ write-length : (a : Answer (List ℕ)) {w : Written} {n : ℕ} → w ≡ answeri
 write-length (refusal m) e f = cc
 write-length (reads s) e f = cc
 
-module _ (t : Telegram) {out after : List ℕ} {w : Written} (l : answering.WritesLine t out after w) where
+module _ (t : Telegram) {out after : List ℕ} {w : Written} (l : answering.Writes (writeLine t (length out)) out after w) where
   pub not-written : {n : ℕ} → w ≡ writtens.Refused n → Line (writeLine t (length out)) out after (256 + n)
   not-written f = record { answer = write-told (writeLine t (length out)) (l .answer) f; left = l .places }
 
@@ -92,7 +92,7 @@ few t true v g e f = let z : _≡_ {A = ℕ} 0 1 = cc in absurd (omega arith)
 few t false true g e f = let z : _≡_ {A = ℕ} 0 1 = cc in absurd (omega arith)
 few t false false g {w} {n} e f = let same : length (lineOf t) ≡ n = cc in rw (← same) (longest-line t g)
 
-pub written-few : (t : Telegram) {out after : List ℕ} {w : Written} {n : ℕ} → answering.WritesLine t out after w → w ≡ writtens.Length n → n ≤ longest
+pub written-few : (t : Telegram) {out after : List ℕ} {w : Written} {n : ℕ} → answering.Writes (writeLine t (length out)) out after w → w ≡ writtens.Length n → n ≤ longest
 written-few t {out} l f = few t (unwritable t) (ltb (length out) (length (lineOf t))) refl (l .answer) f
 
 module _ (b out : List ℕ) {s : Reading} (e : s ≡ shown (telegramFrom b)) where

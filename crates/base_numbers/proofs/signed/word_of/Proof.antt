@@ -1,13 +1,13 @@
--- `bytes_numbers::signed::word_of` meets its contract: below zero, one more than the number is turned round. Assumes nothing.
-use native.Mathlib.Omega.{arith}
-use Prim.Native.Nat.{_-_}
+-- `base_numbers::signed::word_of` meets its contract. Assumes nothing.
+use borrow.Author.Needs.{needs}
 use mathlib.Core.Path.{_≡_, sym, ap, _∙_}
 use mathlib.Core.Bool.{true}
-use lib.IntN.{pos, natAbs}
+use Prim.Native.Nat.{_-_}
+use lib.IntN.{natAbs}
 use mir.Syntax.{w64}
 use mir.ValLaws.{toZ-ofZ}
 use Rattle.base_numbers.specs.TwosComplement.{belowZero}
-use Rattle.base_numbers.proofs.Laws.Negation.{negation-fits, under, risen, turned, below-tested, above-cast}
+use Rattle.base_numbers.proofs.Laws.Negation.{below-tested, above-cast}
 use Rattle.base_numbers.proofs.Laws.TwosComplement.{word-below, word-above}
 use Rattle.base_numbers.proofs.signed.word_of.Statement.{statement}
 use Rattle.base_numbers.proofs.signed.word_of.Tie as tie
@@ -15,40 +15,18 @@ use Rattle.base_numbers.proofs.signed.word_of.Tie as tie
 below : (c : tie.Then1) → belowZero (c .before .args .count) ≡ true
 below c = sym (below-tested (c .before .args .count) (c .before .fits .count)) ∙ c .if1 .taken
 
-add-result : tie.Need-add-result
-add-result c = rw (risen (c .before .args .count) (c .before .fits .count) (below c))
-    (negation-fits (natAbs (c .before .args .count) - 1) (under (c .before .args .count) (c .before .fits .count) (below c)))
+beneath-requires : tie.Need-beneath-requires
+beneath-requires c κs = rw (toZ-ofZ w64 (c .before .args .count) (c .before .fits .count)) (below c)
 
-sub-result : tie.Need-sub-result
-sub-result c = rw (turned (c .before .args .count) (c .before .fits .count) (below c))
-    (record { sfits = under (c .before .args .count) (c .before .fits .count) (below c) })
+-- what is beneath is that of the number itself
+so : (c : tie.After-beneath) → c .beneath .result ≡ natAbs (c .before .before .args .count) - 1
+so c = rw (toZ-ofZ w64 (c .before .before .args .count) (c .before .before .fits .count)) at (c .beneath .ensures .0)
+
+returns : tie.Need-returns
+returns c = let a = c .before .before in rw (so c) (word-below (a .args .count) (below (c .before)))
 
 cast-result : tie.Need-cast-result
 cast-result c =
-    let u = under (c .before .args .count) (c .before .fits .count) (below c) in
-    rw (
-      turned (c .before .args .count) (c .before .fits .count) (below c),
-      toZ-ofZ w64 (pos (natAbs (c .before .args .count) - 1)) (record { sfits = u }),
-    ) (tt, omega arith)
-
-sub-result-2 : tie.Need-sub-result-2
-sub-result-2 c =
-    let u = under (c .before .args .count) (c .before .fits .count) (below c) in
-    rw (
-      turned (c .before .args .count) (c .before .fits .count) (below c),
-      toZ-ofZ w64 (pos (natAbs (c .before .args .count) - 1)) (record { sfits = u }),
-    ) (omega arith)
-
-returns : tie.Need-returns
-returns c =
-    let u = under (c .before .args .count) (c .before .fits .count) (below c) in
-    rw (
-      turned (c .before .args .count) (c .before .fits .count) (below c),
-      toZ-ofZ w64 (pos (natAbs (c .before .args .count) - 1)) (record { sfits = u }),
-    ) (word-below (c .before .args .count) (below c))
-
-cast-result-2 : tie.Need-cast-result-2
-cast-result-2 c =
     let z = c .before .args .count in
     let f = c .before .fits .count in
     rw (toZ-ofZ w64 z f) (above-cast z f (sym (below-tested z f) ∙ c .if1 .left))
@@ -60,6 +38,4 @@ returns-2 c =
     ap natAbs (toZ-ofZ w64 z f) ∙ word-above z (sym (below-tested z f) ∙ c .if1 .left)
 
 pub word-of-spec : {M : Type 1} → statement M
-word-of-spec =
-    tie.close
-    (tie.spec add-result sub-result cast-result sub-result-2 returns cast-result-2 returns-2)
+word-of-spec = tie.close (tie.spec beneath-requires (λ c. search needs) returns cast-result returns-2)
