@@ -33,7 +33,7 @@ use Rattle.mbus_search.specs.Searching.{accepts, Begins, Spot, findIn}
 use Rattle.mbus_after.specs.After.{BeginsAfter, TimedSpot, findAfter}
 use Rattle.mbus_length.specs.declared.HowLong.{HowLong}
 use Rattle.mbus_length.specs.declared.HowLong.the-variants.{Known, NotYet, NoLine}
-use Rattle.mbus_length.specs.Wholes.{lineLength, Agree}
+use Rattle.mbus_length.specs.Lengths.{lineLength, Agree}
 use Rattle.mbus_either.specs.declared.Interface.the-variants.{Mbus, Optical}
 use Rattle.mbus_either.specs.Interfaces.{LiveLine, liveOn, findEither}
 use Rattle.host_either.specs.Finding.{lineInterface}

@@ -13,7 +13,7 @@ use Rattle.bundle_check.specs.Walks.{someWrong, endOf}
 use Rattle.bundle_check.specs.Bundles.{checkOf}
 use Rattle.bundle_check.specs.Example.{sixteen}
 use Rattle.bench_clock.specs.Wakes.{isWake}
-use Rattle.run_words.specs.Columns.{columnOf}
+use Rattle.run_listing.specs.LineColumn.{columnOf}
 use Rattle.text_filling.specs.Texts.{text}
 use Rattle.text_filling.specs.Decimals.{digitsIn}
 use Rattle.run_listing.specs.Listings.{refusedText, wordOf, rowText, linesFor, listed, listingOf}

@@ -81,7 +81,7 @@ use Rattle.meter_record.specs.MeterRecords.{meterSize, meterBytes, meterIn, unr
 use Rattle.host_lines.specs.Calls.{readFor, writeFor, requestFor}
 use Rattle.host_search.specs.Finding.{findFor}
 use Rattle.host_either.specs.Finding.{eitherFor}
-use Rattle.host_capture.specs.Calls.{lengthNumber, afterFor}
+use Rattle.host_incoming.specs.Calls.{lengthNumber, afterFor}
 use Rattle.host_bench.specs.Calls.{errorFor}
 use Rattle.host_replay.specs.Calls.{replayFor}
 use Rattle.host_exchange.specs.Calls as exchanges

@@ -39,7 +39,7 @@ use Rattle.run_repeats.specs.Meaning.{SameTelegrams}
 use Rattle.run_repeats.proofs.Laws.Meaning as meaning
 use Rattle.run_repeats.proofs.Laws.Naming as naming
 use Rattle.run_repeats.proofs.Laws.Putting as putting
-use Rattle.host_repeats.specs.Repeating.{RepeatsIn}
+use Rattle.host_verdicts.specs.Repeating.{RepeatsIn}
 use Rattle.demands.specs.Refusals.{By, bundleNumbers, bundle-by}
 use Rattle.demands.specs.Settled.{Settled, equation, two-equations, gives-settled}
 

@@ -33,13 +33,13 @@ use Rattle.run_picture.specs.declared.Drawn.{Drawn}
 use Rattle.run_picture.specs.Shown.{Draws}
 use Rattle.host_picture.specs.Pictured.{DrawsIn}
 use Rattle.host_words.specs.Saying.{Says}
-use Rattle.host_serial.specs.Calls.{UnmarksFor}
+use Rattle.host_incoming.specs.Unmarking.{UnmarksFor}
 use Rattle.exchange_steps.specs.declared.Exchange.{Exchange}
 use Rattle.host_exchange.specs.Calls as exchanges
 use Rattle.meter_steps.specs.Meters.{Deed}
 use Rattle.host_meter.specs.Calls as meters
 use Rattle.mbus_length.specs.declared.HowLong.{HowLong}
-use Rattle.host_capture.specs.Calls.{TellsLength}
+use Rattle.host_incoming.specs.Calls.{TellsLength}
 use Rattle.host_bundle.specs.Lent.{Gives}
 use Rattle.host_bundle.specs.Bundled.{AddsIn, ListsIn}
 use Rattle.host_bundle.specs.Salvaging.{SalvagesIn}

@@ -43,7 +43,7 @@ use Rattle.meter_steps.specs.Meters.{Deed}
 use Rattle.host_meter.specs.Calls as meters
 use Rattle.mbus_length.specs.declared.HowLong.{HowLong}
 use Rattle.mbus_length.specs.declared.HowLong.the-variants.{NotYet, NoLine}
-use Rattle.host_capture.specs.Calls.{lengthNumber, lengthLeft, TellsLength}
+use Rattle.host_incoming.specs.Calls.{lengthNumber, lengthLeft, TellsLength}
 use Rattle.host_bundle.specs.Lent.{Gives, leftIn}
 use Rattle.host_bundle.specs.Bundled.{AddsIn, ListsIn}
 use Rattle.host_bundle.specs.Salvaging.{salvageFor, SalvagesIn}

@@ -11,7 +11,7 @@ use Rattle.base_rules.specs.Lists.{at, any}
 use Rattle.base_characters.specs.Characters.{odd, byteOf}
 use Rattle.mbus_rules.specs.Lines.{Accepted}
 use Rattle.mbus_length.specs.declared.HowLong.the-variants.{Known, NotYet, NoLine}
-use Rattle.mbus_length.specs.Wholes.{lineLength, Agree}
+use Rattle.mbus_length.specs.Lengths.{lineLength, Agree}
 use Rattle.mbus_length.proofs.Laws.Meaning
 
 -- Every accepted line that begins with these characters, or that they begin with, has the length that is told.

@@ -1,2 +1,3 @@
 -- What follows from the definitions, invariants of loops among it.
 pub mod CallLaws
+pub mod Resistances

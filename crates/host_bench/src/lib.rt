@@ -12,6 +12,8 @@ use bench_clock::write_wake;
 use bench_indication::Indication;
 use bench_indication::error_of;
 
+pub mod resistance;
+
 // Writes a wake-up of so many characters.
 #[no_mangle]
 pub extern "C" fn skarrowith_write_wake(count: usize, out: &mut [u16]) -> u32

@@ -19,6 +19,7 @@ use run_verdicts::kept::verdicts_kept;
 use run_verdicts::verdicts_in;
 
 mod record;
+pub mod repeats;
 
 // The verdict of a row, or refused by 30 to 37 or 39.
 pub(crate) enum VerdictFound {

@@ -1,6 +1,6 @@
 // When a line is whole: how many characters it has, by the first of them.
 ghost use mathlib.Core.Path.{_≡_};
-ghost use Rattle.mbus_length.specs.Wholes.{unsoundIn, lineLength};
+ghost use Rattle.mbus_length.specs.Lengths.{unsoundIn, lineLength};
 use base_characters::line::low_at;
 use base_characters::line::soundness_of;
 use base_rules::Outcome;

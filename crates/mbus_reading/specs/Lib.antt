@@ -1,3 +1,3 @@
 -- What reading holds on to between the characters and the telegram.
-pub mod Outlines
+pub mod Bodies
 pub mod Taking

@@ -8,7 +8,7 @@ ghost use Rattle.mbus_rules.specs.Telegrams.{shown};
 ghost use Rattle.mbus_rules.specs.Views.{viewed};
 ghost use Rattle.mbus_entries.specs.Walking.{entriesShown};
 ghost use Rattle.mbus_shape.specs.Shapes.{askedOf, frameBy};
-ghost use Rattle.mbus_reading.specs.Outlines.{bodyOf};
+ghost use Rattle.mbus_reading.specs.Bodies.{bodyOf};
 use base_rules::Outcome;
 use mbus_entries::Entries;
 use mbus_entries::read_entries;

@@ -2,3 +2,4 @@
 pub mod Listings
 pub mod Writing
 pub mod Shown
+pub mod LineColumn

@@ -7,9 +7,9 @@ use Rattle.base_rules.specs.Answers.{Answer, reads, refusal}
 use Rattle.mbus_rules.specs.declared.Request.the-variants.{Read, Enter, Leave}
 use Rattle.mbus_rules.specs.declared.View.{View}
 use Rattle.mbus_rules.specs.declared.View.the-variants.{Refused, Ack, Asks, Data}
-use Rattle.run_words.specs.declared.Column.{Column}
-use Rattle.run_words.specs.declared.Column.the-variants.{Wake, Reads}
-use Rattle.run_words.specs.Columns.{columnOf}
+use Rattle.run_listing.specs.declared.line_column.Column.{Column}
+use Rattle.run_listing.specs.declared.line_column.Column.the-variants.{Wake, Reads}
+use Rattle.run_listing.specs.LineColumn.{columnOf}
 use Rattle.bundle_rows.specs.declared.Row.{Row}
 use Rattle.bundle_rows.specs.Rows.{bodyIn}
 use Rattle.base_characters.specs.Characters.{chars}

@@ -16,6 +16,7 @@ use lines::word_of;
 use text_filling::put;
 use texts::with;
 
+pub mod line_column;
 mod lines;
 mod texts;
 

@@ -10,6 +10,8 @@ ghost use Rattle.bundle_rows.specs.Rows.{uncheckedRow, bodyIn};
 ghost use Rattle.text_filling.specs.Texts.{text};
 ghost use Rattle.run_listing.specs.Listings.{refusedText, wordFor, wordOf, directionText, rowText, lineFor, linesFor};
 ghost use Rattle.run_listing.specs.Writing.{lineText, Holds};
+use crate::line_column::Column;
+use crate::line_column::column_of;
 use crate::texts::Line;
 use crate::texts::begin;
 use crate::texts::blank;
@@ -19,8 +21,6 @@ use base_lent::lay;
 use bundle_rows::unchecked_row;
 use mbus_rules::Request;
 use mbus_rules::View;
-use run_words::Column;
-use run_words::column_of;
 
 // The word refused and the number.
 pub(crate) fn refused(n: u16) -> Line

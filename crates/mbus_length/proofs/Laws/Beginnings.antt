@@ -11,7 +11,7 @@ use Rattle.base_characters.specs.Characters.{over, odd}
 use Rattle.base_rules.proofs.Laws.Tests.{neither}
 use Rattle.mbus_length.specs.declared.HowLong.{HowLong}
 use Rattle.mbus_length.specs.declared.HowLong.the-variants.{Known, NotYet, NoLine}
-use Rattle.mbus_length.specs.Wholes.{unsoundIn}
+use Rattle.mbus_length.specs.Lengths.{unsoundIn}
 
 -- where none of the first characters passes a test, none of fewer of them does
 clean : (test : ℕ → Bool) (w : List ℕ) (m n k : ℕ) → m ≤ n → any test (take n w) ≡ false → any test (take m (take k w)) ≡ false

@@ -22,7 +22,7 @@ use Rattle.mbus_shape.specs.First.{leftBy}
 use Rattle.mbus_shape.proofs.Laws.FirstLaws.{framed-some, long-six, left-framed, same-long, left-before, left-grows, left-same, left-past}
 use Rattle.mbus_length.specs.declared.HowLong.{HowLong}
 use Rattle.mbus_length.specs.declared.HowLong.the-variants.{Known, NotYet, NoLine}
-use Rattle.mbus_length.specs.Wholes.{unsoundIn, lacksCount, lengthBy, lineLength, Agree}
+use Rattle.mbus_length.specs.Lengths.{unsoundIn, lacksCount, lengthBy, lineLength, Agree}
 use Rattle.mbus_length.proofs.Laws.Beginnings
 
 answer : (s : List ℕ) → 1 ≤ length s → lineLength s ≡ lengthBy s (leftBy (map byteOf s))

@@ -19,7 +19,7 @@ use Rattle.base_characters.specs.Gathering.{sound}
 use Rattle.mbus_length.specs.declared.HowLong.{HowLong}
 use Rattle.mbus_length.specs.declared.HowLong.the-variants.{Known, NotYet, NoLine}
 use Rattle.mbus_shape.specs.First.{leftBy}
-use Rattle.mbus_length.specs.Wholes.{unsoundIn, lacksCount, lineLength}
+use Rattle.mbus_length.specs.Lengths.{unsoundIn, lacksCount, lineLength}
 
 -- ---- the characters that are there
 

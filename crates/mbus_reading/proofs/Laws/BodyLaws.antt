@@ -21,7 +21,7 @@ use Rattle.mbus_rules.specs.Lines.{readData}
 use Rattle.mbus_rules.specs.Views.{viewed}
 use Rattle.mbus_entries.specs.Walking.{entriesShown}
 use Rattle.mbus_entries.specs.declared.Entries.{Entries}
-use Rattle.mbus_reading.specs.Outlines.{bodyOf}
+use Rattle.mbus_reading.specs.Bodies.{bodyOf}
 
 -- what follows the header, as the code cuts it out
 pub rest-is : (d : List ℕ) (n : ℕ) → take (length d - n) (drop n d) ≡ drop n d

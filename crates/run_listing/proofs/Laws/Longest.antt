@@ -32,8 +32,8 @@ use Rattle.bundle_check.specs.RowRules.{wrongRows, wrongPlaces, bodiesEnd}
 use Rattle.bundle_check.specs.Bundles.{mostBytes, countOf, contentsOf, bodiesOf, checkOf}
 use Rattle.bundle_check.proofs.Laws.Accepted.{accepted-sound}
 use Rattle.text_filling.specs.Texts.{text}
-use Rattle.run_words.specs.declared.Column.the-variants.{Wake, Reads}
-use Rattle.run_words.specs.Columns.{columnOf}
+use Rattle.run_listing.specs.declared.line_column.Column.the-variants.{Wake, Reads}
+use Rattle.run_listing.specs.LineColumn.{columnOf}
 use Rattle.bench_clock.specs.Wakes.{isWake}
 use Rattle.text_filling.specs.Decimals.{decimal}
 use Rattle.text_filling.proofs.Laws.DecimalLaws.{decimal-few}

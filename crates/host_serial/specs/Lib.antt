@@ -1,2 +1,0 @@
--- What unmarking answers to C, and what it leaves in memory that was lent to it.
-pub mod Calls
