@@ -8,11 +8,11 @@ use Rattle.mbus_rules.specs.declared.Request.{Request}
 use Rattle.base_rules.specs.Answers.{Answer, reads, refusal}
 use Rattle.base_characters.specs.Flips.{Place, flips}
 use Rattle.mbus_rules.specs.Lines.{readLine}
-use Rattle.mbus_rules.specs.Views.{viewed}
+use Rattle.mbus_rules.specs.Outlines.{outlined}
 use Rattle.mbus_rules.specs.Writing.{lineOf}
 use Rattle.mbus_shape.specs.Shapes.{askedOf}
 use Rattle.exchange_steps.specs.declared.Exchange.{Exchange}
-use Rattle.exchange_steps.specs.declared.Bench.the-variants.{Busy}
+use Rattle.exchange_steps.specs.declared.Slot.the-variants.{Busy}
 use Rattle.exchange_steps.specs.Steps.{begun, heardIn, tickIn, sendEndedOn}
 use Rattle.exchange_steps.specs.Histories.{exchangeAfter}
 use Rattle.meter_template.specs.declared.Pair.{Pair}
@@ -33,9 +33,9 @@ pub record Ends : Type 0 where
 -- a resend where one is asked for, and where the exchange has ended the same request begun anew.
 abbrev pub ownEnds : Ends
 ownEnds = record {
-  heard = λ x line t. heardIn x (viewed (readLine line)) t;
+  heard = λ x line t. heardIn x (outlined (readLine line)) t;
   tick = λ x t. tickIn x t;
-  sent = λ x t. sendEndedOn (Busy x) (viewed (reads (askedOf (x .request)))) t;
+  sent = λ x t. sendEndedOn (Busy x) (outlined (reads (askedOf (x .request)))) t;
   hears = λ m line t. heardAt m line t;
   measure = λ m v e t. measuredAt m v e t;
 }

@@ -8,10 +8,10 @@ use Rattle.base_rules.specs.declared.Outcome.the-variants as outcomes
 use Rattle.base_rules.specs.Lists.{total}
 use Rattle.cjt_rules.specs.declared.CjtReading.{CjtReading}
 use Rattle.cjt_rules.specs.declared.CjtReading.the-variants as readings
-use Rattle.cjt_rules.specs.declared.CjtView.{CjtView}
-use Rattle.cjt_rules.specs.declared.CjtView.the-variants as views
+use Rattle.cjt_rules.specs.declared.CjtOutline.{CjtOutline}
+use Rattle.cjt_rules.specs.declared.CjtOutline.the-variants as outlines
 use Rattle.cjt_rules.specs.CjtFrames.{pastFE}
-use Rattle.cjt_rules.specs.CjtViews.{cjtViewOf}
+use Rattle.cjt_rules.specs.CjtOutlines.{cjtOutlineOf}
 
 -- so many FE bytes are skipped, and the sum without them
 pub record Skips (b : List ℕ) (n : ℕ) : Type 0 where
@@ -25,7 +25,7 @@ abbrev pub farFrom : Outcome → ℕ
 farFrom (outcomes.Refused n) = n
 farFrom outcomes.Accepted = 80
 
--- the view of a program's reading
-abbrev pub viewedAs : CjtReading → CjtView
-viewedAs (readings.Refused n) = views.Refused n
-viewedAs (readings.Read t) = cjtViewOf t
+-- the outline of a program's reading
+abbrev pub outlinedAs : CjtReading → CjtOutline
+outlinedAs (readings.Refused n) = outlines.Refused n
+outlinedAs (readings.Read t) = cjtOutlineOf t

@@ -10,7 +10,7 @@ ghost use Rattle.cjt_rules.specs.CjtFrames.{pastFE, wrongFrame, wrongFrameSum};
 ghost use Rattle.cjt_rules.specs.CjtAddresses.{partyBytes, partyOf, wrongParty};
 ghost use Rattle.cjt_rules.specs.CjtLines.{asksWith, listedBytes, tellsWith, wrongMark, wrongListed, readCjtFrame};
 ghost use Rattle.cjt_rules.specs.CjtUnits.{wrongUnits};
-ghost use Rattle.cjt_rules.specs.CjtViews.{cjtShown};
+ghost use Rattle.cjt_rules.specs.CjtOutlines.{cjtShown};
 ghost use Rattle.cjt_reading.specs.CjtParts.{Skips};
 use crate::parts::tells_in;
 use crate::parts::wrong_listed;

@@ -1,7 +1,7 @@
 // CJ/T 188 line reading: the whole answer of 02's rules, and which telegram a line is.
 ghost use mathlib.Core.Path.{_≡_};
 ghost use Rattle.cjt_rules.specs.CjtLines.{readCjtLine};
-ghost use Rattle.cjt_rules.specs.CjtViews.{cjtShown};
+ghost use Rattle.cjt_rules.specs.CjtOutlines.{cjtShown};
 ghost use Rattle.cjt_reading.specs.CjtParts.{farFrom};
 use base_characters::line::gather;
 use base_characters::line::soundness_of;

@@ -2,17 +2,17 @@
 ghost use mathlib.Core.Path.{_≡_};
 ghost use Rattle.base_characters.specs.Characters.{chars};
 ghost use Rattle.cjt_rules.specs.CjtLines.{readCjtLine};
-ghost use Rattle.cjt_rules.specs.CjtViews.{cjtShown, cjtViewed};
-ghost use Rattle.cjt_reading.specs.CjtParts.{viewedAs};
+ghost use Rattle.cjt_rules.specs.CjtOutlines.{cjtShown, cjtOutlined};
+ghost use Rattle.cjt_reading.specs.CjtParts.{outlinedAs};
 use crate::MOST;
 use crate::far_of;
 use crate::frame::read_in;
 use base_characters::pairs::gather;
 use base_characters::pairs::soundness_of;
 use base_rules::Outcome;
+use cjt_rules::CjtOutline;
 use cjt_rules::CjtReading;
 use cjt_rules::CjtTelegram;
-use cjt_rules::CjtView;
 
 // The whole answer of reading a line.
 fn read_pairs(bytes: &[u8]) -> CjtReading
@@ -37,22 +37,22 @@ fn read_pairs(bytes: &[u8]) -> CjtReading
 }
 
 // Which of the two telegrams was read.
-fn view_of(reading: CjtReading) -> CjtView
-    ensures { λ r. ⌜ r ≡ viewedAs reading ⌝ }
+fn outlined(reading: CjtReading) -> CjtOutline
+    ensures { λ r. ⌜ r ≡ outlinedAs reading ⌝ }
 {
     match reading {
-        CjtReading::Refused(n) => CjtView::Refused(n),
+        CjtReading::Refused(n) => CjtOutline::Refused(n),
         CjtReading::Read(telegram) => match telegram {
-            CjtTelegram::Request(_) => CjtView::Request,
-            CjtTelegram::Answer(_) => CjtView::Answer,
+            CjtTelegram::Request(_) => CjtOutline::Request,
+            CjtTelegram::Answer(_) => CjtOutline::Answer,
         },
     }
 }
 
 // Which of the two telegrams a line is, or what it is refused by.
-pub fn outline_of(bytes: &[u8]) -> CjtView
-    ensures { λ r. ⌜ r ≡ cjtViewed (readCjtLine (chars (now (bytes .entry)))) ⌝ }
+pub fn outline_of(bytes: &[u8]) -> CjtOutline
+    ensures { λ r. ⌜ r ≡ cjtOutlined (readCjtLine (chars (now (bytes .entry)))) ⌝ }
 {
     let reading = read_pairs(bytes);
-    view_of(reading)
+    outlined(reading)
 }

@@ -6,7 +6,7 @@ ghost use lib.ListN.{length};
 ghost use Rattle.base_lent.specs.Pieces.{pieces};
 ghost use Rattle.base_numbers.specs.Numbers.{bytesOf};
 ghost use Rattle.base_numbers.specs.Records.{wordsOf};
-ghost use Rattle.cjt_rules.specs.CjtViews.{cjtShown};
+ghost use Rattle.cjt_rules.specs.CjtOutlines.{cjtShown};
 ghost use Rattle.cjt_records.specs.CjtRecords.{broadcastByte, addressNumber, headBytes, quantityBytes, quantitiesOf, clockBytes, tailBytes, cjtBytes};
 ghost use Rattle.cjt_records.specs.CjtRecords.{numberIn, quantityIn, clockIn, addressIn, tellsInRecord, cjtIn, cjtFrom};
 use base_lent::is_same;

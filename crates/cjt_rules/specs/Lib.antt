@@ -4,7 +4,7 @@ pub mod CjtAddresses
 pub mod CjtUnits
 pub mod CjtClocks
 pub mod CjtLines
-pub mod CjtViews
+pub mod CjtOutlines
 pub mod CjtWriting
 pub mod CjtSizes
 pub mod CjtHost

@@ -60,7 +60,7 @@ pub enum CjtReading {
 }
 
 // Which of the two a line is, or the number of its refusal.
-pub enum CjtView {
+pub enum CjtOutline {
     Refused(u16),
     Request,
     Answer,

@@ -18,7 +18,7 @@ use Rattle.cjt_rules.specs.CjtFrames.{pastFE, asksLength, wrongFrame, wrongFram
 use Rattle.cjt_rules.specs.CjtAddresses.{wrongParty}
 use Rattle.cjt_rules.specs.CjtUnits.{wrongUnits}
 use Rattle.cjt_rules.specs.CjtLines.{wrongMark, asksWith, listedBytes, tellsWith, wrongListed, readCjtFrame, readCjtLine}
-use Rattle.cjt_rules.specs.CjtViews.{cjtShown}
+use Rattle.cjt_rules.specs.CjtOutlines.{cjtShown}
 use Rattle.cjt_rules.specs.CjtWriting.{cjtLineOf, unwritten, writeCjtLine}
 use Rattle.demands.specs.Refusals.{By}
 use Rattle.demands.specs.Settled.{Settled, two-equations}

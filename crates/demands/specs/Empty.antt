@@ -15,7 +15,7 @@ use Rattle.mbus_rules.specs.declared.Kind.the-variants.{Ack, Read}
 use Rattle.mbus_rules.specs.declared.Request.the-variants.{Enter}
 use Rattle.mbus_rules.specs.declared.Request.the-variants as requests
 use Rattle.mbus_rules.specs.declared.Telegram.{Telegram}
-use Rattle.mbus_rules.specs.declared.View.the-variants.{Asks}
+use Rattle.mbus_rules.specs.declared.Outline.the-variants.{Asks}
 use Rattle.base_rules.specs.Lists.{at, any, total}
 use Rattle.base_characters.specs.Characters.{over, byteOf, odd, carrier}
 use Rattle.base_rules.specs.Answers.{Answer, reads, refusal}
@@ -23,7 +23,7 @@ use Rattle.mbus_rules.specs.Telegrams.{ack, readOf, enterOf, blank}
 use Rattle.mbus_rules.specs.TelegramSizes.{Sized}
 use Rattle.mbus_rules.specs.Host.{lineNumber}
 use Rattle.mbus_rules.specs.Lines.{readBody, readLine, Accepted}
-use Rattle.mbus_rules.specs.Views.{viewed}
+use Rattle.mbus_rules.specs.Outlines.{outlined}
 use Rattle.mbus_rules.specs.Writing.{lineOf, unwritable, writeLine}
 use Rattle.base_characters.specs.Flips.{Place, Places, flips, repeated}
 use Rattle.mbus_rules.proofs.Laws.LineLaws.{bare-sized}
@@ -43,8 +43,8 @@ use Rattle.exchange_replies.specs.Fits.{fits}
 use Rattle.exchange_steps.specs.declared.Cause.the-variants.{Silent}
 use Rattle.exchange_steps.specs.declared.State.the-variants.{Waiting, Resend, Well}
 use Rattle.exchange_steps.specs.declared.Exchange.{Exchange}
-use Rattle.exchange_steps.specs.declared.Bench.{Bench}
-use Rattle.exchange_steps.specs.declared.Bench.the-variants.{Idle, Busy}
+use Rattle.exchange_steps.specs.declared.Slot.{Slot}
+use Rattle.exchange_steps.specs.declared.Slot.the-variants.{Idle, Busy}
 use Rattle.exchange_steps.specs.Steps.{asksResend, sending, begun, moved, step, sentIn, sendEndedOn, tickOn, isWell}
 use Rattle.exchange_steps.specs.Histories.{Step, sendEnded, heard, tick, answer, stands, Send, noted, run, sendsMade, Ask}
 use Rattle.exchange_steps.specs.Values.{clockAt}
@@ -246,7 +246,7 @@ rules-answer = meter.enter-answered
 abbrev pub KeepsSilent : (Meter → Event → Answer Deed) → Type 0
 KeepsSilent step =
     (m : Meter) (line : List ℕ) (t : Clock) → earlier (m .last .0) (t .0) ≡ false
-    → instructs (λ q. true) (m .core .address) (viewed (readLine line)) ≡ false → step m (hear line t) ≡ reads (quiet (returned t (m .core)))
+    → instructs (λ q. true) (m .core .address) (outlined (readLine line)) ≡ false → step m (hear line t) ≡ reads (quiet (returned t (m .core)))
 
 pub rules-keep-silent : KeepsSilent stepOf
 rules-keep-silent = meter.others-silent
@@ -271,8 +271,8 @@ enter-obeyed : obeys isEnter fresh (hear enterLine (clockAt 0)) ≡ true
 unfolding readLine readBody any odd onesIn total carrier lineOf
 enter-obeyed = refl
 
-ack-asks-nothing : instructs (λ q. true) 0 (viewed (readLine (0x1E5 ∷ []))) ≡ false
-ack-asks-nothing = ap (λ (a : Answer Telegram). instructs (λ q. true) 0 (viewed a)) ack-read
+ack-asks-nothing : instructs (λ q. true) 0 (outlined (readLine (0x1E5 ∷ []))) ≡ false
+ack-asks-nothing = ap (λ (a : Answer Telegram). instructs (λ q. true) 0 (outlined a)) ack-read
 
 -- one that is mute, whatever it does beside
 pub meter-is-mute : (step : Meter → Event → Answer Deed) → ((m : Meter) (e : Event) → speaks (step m e) ≡ 0) → AnswersEnter step → ⊥
@@ -292,28 +292,28 @@ meter-answers-all step loud d =
 
 -- ---- an exchange, by what is answered to a step: how it stands after a history, and the sends that were made
 
-abbrev nextBy : (Bench → Step → Answer Exchange) → Bench → Step → Bench
+abbrev nextBy : (Slot → Step → Answer Exchange) → Slot → Step → Slot
 nextBy program b s = stands b (program b s)
 
-unfoldable pub runBy : (Bench → Step → Answer Exchange) → Bench → List Step → Bench
+unfoldable pub runBy : (Slot → Step → Answer Exchange) → Slot → List Step → Slot
 runBy program b [] = b
 runBy program b (s ∷ h) = runBy program (nextBy program b s) h
 
-unfoldable pub madeBy : (Bench → Step → Answer Exchange) → Bench → List Send → List Step → List Send
+unfoldable pub madeBy : (Slot → Step → Answer Exchange) → Slot → List Send → List Step → List Send
 madeBy program b sends [] = sends
 madeBy program b sends (s ∷ h) = madeBy program (nextBy program b s) (noted b s (program b s) sends) h
 
-run-by : (b : Bench) (h : List Step) → runBy answer b h ≡ run b h
+run-by : (b : Slot) (h : List Step) → runBy answer b h ≡ run b h
 unfolding runBy run
 run-by b [] = refl
 run-by b (s ∷ h) = run-by (stands b (answer b s)) h
 
-made-by : (b : Bench) (sends : List Send) (h : List Step) → madeBy answer b sends h ≡ sendsMade b sends h
+made-by : (b : Slot) (sends : List Send) (h : List Step) → madeBy answer b sends h ≡ sendsMade b sends h
 unfolding madeBy sendsMade
 made-by b sends [] = refl
 made-by b sends (s ∷ h) = made-by (stands b (answer b s)) (noted b s (answer b s) sends) h
 
-abbrev pub TakesReplies : (Bench → Step → Answer Exchange) → Type 0
+abbrev pub TakesReplies : (Slot → Step → Answer Exchange) → Type 0
 TakesReplies program =
     (h : List Step) (x : Exchange) → runBy program Idle h ≡ Busy x → (send : Send) (others : List Send) (line : List ℕ) (t : Clock) (telegram : Telegram)
     → x .state ≡ Waiting
@@ -321,26 +321,26 @@ TakesReplies program =
     → x .last .0 ≤ t .0
     → t .0 ≤ send .end .0 + replyTime
     → readLine line ≡ reads telegram
-    → fits (x .request) (viewed (reads telegram)) ≡ true
+    → fits (x .request) (outlined (reads telegram)) ≡ true
     → program (Busy x) (heard line t) ≡ reads (moved x Well t)
 
 pub rules-take-replies : TakesReplies answer
 rules-take-replies h x e send others line t telegram w m =
     exchange.takes-reply h x (sym (run-by Idle h) ∙ e) send others line t telegram w (sym (made-by Idle [] h) ∙ m)
 
-abbrev pub ReportsSends : (Bench → Step → Answer Exchange) → Type 0
+abbrev pub ReportsSends : (Slot → Step → Answer Exchange) → Type 0
 ReportsSends program = (h : List Step) (x : Exchange) → runBy program Idle h ≡ Busy x → x .sends ≡ length (madeBy program Idle [] h)
 
 pub rules-report-sends : ReportsSends answer
 rules-report-sends h x e = rw (made-by Idle [] h) (exchange.sends-reported h x (sym (run-by Idle h) ∙ e) .0)
 
-abbrev pub SendsOneRequest : (Bench → Step → Answer Exchange) → Type 0
+abbrev pub SendsOneRequest : (Slot → Step → Answer Exchange) → Type 0
 SendsOneRequest program = (h : List Step) (x : Exchange) → runBy program Idle h ≡ Busy x → Ask (x .request) (madeBy program Idle [] h)
 
 pub rules-send-one-request : SendsOneRequest answer
 rules-send-one-request h x e = rw (made-by Idle [] h) (exchange.sends-reported h x (sym (run-by Idle h) ∙ e) .2)
 
-abbrev pub BeginsAgain : (Bench → Step → Answer Exchange) → Type 0
+abbrev pub BeginsAgain : (Slot → Step → Answer Exchange) → Type 0
 BeginsAgain program =
     (x : Exchange) (telegram : Telegram) (t : Clock) → x .state ≡ Well
     → program (Busy x) (sendEnded telegram t) ≡ program Idle (sendEnded telegram t)
@@ -369,25 +369,25 @@ wellIn (refusal n) = false
 wellIn (reads x) = isWell (x .state)
 
 -- One that decides all on its first send and only shows two more: whatever it answers to a line after the second send, it does not end well.
-module _ (program : Bench → Step → Answer Exchange) (ticks : (b : Bench) (t : Clock) → program b (tick t) ≡ tickOn b t)
-    (sends : (b : Bench) (telegram : Telegram) (t : Clock) → program b (sendEnded telegram t) ≡ sendEndedOn b (viewed (reads telegram)) t) where
+module _ (program : Slot → Step → Answer Exchange) (ticks : (b : Slot) (t : Clock) → program b (tick t) ≡ tickOn b t)
+    (sends : (b : Slot) (telegram : Telegram) (t : Clock) → program b (sendEnded telegram t) ≡ sendEndedOn b (outlined (reads telegram)) t) where
   abbrev again : Step
   again = sendEnded (enterOf 0xFE 0x90) (clockAt 451)
 
   first : nextBy program (nextBy program Idle (sendEnded (enterOf 0xFE 0x90) (clockAt 0))) (tick (clockAt 451)) ≡ Busy asking
   first =
-      ap (λ (b : Bench). nextBy program b (tick (clockAt 451))) (ap (stands Idle) (sends Idle (enterOf 0xFE 0x90) (clockAt 0)))
+      ap (λ (b : Slot). nextBy program b (tick (clockAt 451))) (ap (stands Idle) (sends Idle (enterOf 0xFE 0x90) (clockAt 0)))
       ∙ ap (stands (Busy atStart)) (ticks (Busy atStart) (clockAt 451))
 
   second : runBy program Idle resent ≡ Busy (sending (Enter 0xFE 0x90) 2 (clockAt 451))
   unfolding runBy
-  second = ap (λ (b : Bench). nextBy program b again) first ∙ ap (stands (Busy asking)) (sends (Busy asking) (enterOf 0xFE 0x90) (clockAt 451))
+  second = ap (λ (b : Slot). nextBy program b again) first ∙ ap (stands (Busy asking)) (sends (Busy asking) (enterOf 0xFE 0x90) (clockAt 451))
 
   made-two : madeBy program Idle [] resent ≡ enterSent 451 ∷ enterSent 0 ∷ []
   unfolding madeBy
   made-two =
       let once : List Send = noted Idle (sendEnded (enterOf 0xFE 0x90) (clockAt 0)) (program Idle (sendEnded (enterOf 0xFE 0x90) (clockAt 0))) [] in
-      ap (λ (b : Bench). noted b again (program b again) once) first
+      ap (λ (b : Slot). noted b again (program b again) once) first
       ∙ ap (λ (a : Answer Exchange). noted (Busy asking) again a once) (sends (Busy asking) (enterOf 0xFE 0x90) (clockAt 451))
       ∙ ap (λ (a : Answer Exchange). enterSent 451 ∷ noted Idle (sendEnded (enterOf 0xFE 0x90) (clockAt 0)) a [])
       (sends Idle (enterOf 0xFE 0x90) (clockAt 0))
@@ -400,7 +400,7 @@ module _ (program : Bench → Step → Answer Exchange) (ticks : (b : Bench) (t 
       true≢false (sym (ap wellIn r) ∙ deaf x (0x1E5 ∷ []) (clockAt 451) (lit< tt))
 
 -- one that reports one send, however many were made
-abbrev reportsOne : Bench → Step → Answer Exchange
+abbrev reportsOne : Slot → Step → Answer Exchange
 reportsOne Idle s = answer Idle s
 reportsOne (Busy x) (sendEnded telegram t) = step x t (asksResend (x .state) (x .sends)) (sending (x .request) 1 t)
 reportsOne (Busy x) (heard line t) = answer (Busy x) (heard line t)
@@ -411,7 +411,7 @@ unfolding runBy madeBy
 reports-another-count d = omega (arith, d resent (sending (Enter 0xFE 0x90) 1 (clockAt 451)) refl)
 
 -- one that takes the end of any send for a resend's
-abbrev takesAnySend : Bench → Step → Answer Exchange
+abbrev takesAnySend : Slot → Step → Answer Exchange
 takesAnySend Idle s = answer Idle s
 takesAnySend (Busy x) (sendEnded telegram t) = sentIn x t
 takesAnySend (Busy x) (heard line t) = answer (Busy x) (heard line t)

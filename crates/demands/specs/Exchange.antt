@@ -9,16 +9,16 @@ use Rattle.bench_clock.specs.declared.Clock.{Clock}
 use Rattle.bench_clock.specs.Times.{replyTime, earlier}
 use Rattle.mbus_rules.specs.declared.Request.{Request}
 use Rattle.mbus_rules.specs.declared.Telegram.{Telegram}
-use Rattle.mbus_rules.specs.declared.View.the-variants.{Asks}
+use Rattle.mbus_rules.specs.declared.Outline.the-variants.{Asks}
 use Rattle.base_rules.specs.Answers.{reads, refusal}
 use Rattle.mbus_rules.specs.Lines.{readLine}
-use Rattle.mbus_rules.specs.Views.{viewed}
+use Rattle.mbus_rules.specs.Outlines.{outlined}
 use Rattle.exchange_replies.specs.Fits.{fits}
 use Rattle.exchange_steps.specs.declared.Cause.{Cause}
 use Rattle.exchange_steps.specs.declared.Cause.the-variants.{Silent}
 use Rattle.exchange_steps.specs.declared.State.the-variants.{Waiting, Resend, Well, Failed}
 use Rattle.exchange_steps.specs.declared.Exchange.{Exchange}
-use Rattle.exchange_steps.specs.declared.Bench.the-variants.{Idle, Busy}
+use Rattle.exchange_steps.specs.declared.Slot.the-variants.{Idle, Busy}
 use Rattle.exchange_steps.specs.Steps.{causeOf, ended, sending, begun, moved}
 use Rattle.exchange_steps.specs.Histories.{Step, sendEnded, heard, tick, answer, next, run, after, Send, made, Ask, EndedWell, SendFails, GivesWay}
 use Rattle.exchange_steps.proofs.Laws.Theorems
@@ -27,10 +27,10 @@ use Rattle.exchange_steps.proofs.Laws.Theorems
 
 module _ (telegram : Telegram) (t : Clock) where
   -- Given none, it begins an exchange of the request, whatever the time; ack and data are refused by 42.
-  pub none-begins : (request : Request) → viewed (reads telegram) ≡ Asks request → answer Idle (sendEnded telegram t) ≡ reads (begun request t)
+  pub none-begins : (request : Request) → outlined (reads telegram) ≡ Asks request → answer Idle (sendEnded telegram t) ≡ reads (begun request t)
   none-begins request asks = Theorems.none-begins telegram t request asks
 
-  pub none-refuses : ((request : Request) → viewed (reads telegram) ≡ Asks request → ⊥) → answer Idle (sendEnded telegram t) ≡ refusal 42
+  pub none-refuses : ((request : Request) → outlined (reads telegram) ≡ Asks request → ⊥) → answer Idle (sendEnded telegram t) ≡ refusal 42
   none-refuses other = Theorems.none-refuses telegram t other
 
   module _ (x : Exchange) where
@@ -79,15 +79,15 @@ module _ (h : List Step) (x : Exchange) (stood : after h ≡ Busy x) where
       → x .last .0 ≤ t .0
       → t .0 ≤ send .end .0 + replyTime
       → readLine line ≡ reads telegram
-      → fits (x .request) (viewed (reads telegram)) ≡ true
+      → fits (x .request) (outlined (reads telegram)) ≡ true
       → answer (Busy x) (heard line t) ≡ reads (moved x Well t)
   takes-reply = Theorems.takes-reply h x stood
 
   module _ (send : Send) (others : List Send) (t : Clock) (waiting : x .state ≡ Waiting) (last-send : made h ≡ send ∷ others)
       (in-order : x .last .0 ≤ t .0) where
     -- A line in time that does not fit fails the send: the first and second then ask for a resend, the third ends the exchange with its cause.
-    pub fails-by-line : (line : List ℕ) → t .0 ≤ send .end .0 + replyTime → fits (x .request) (viewed (readLine line)) ≡ false
-        → SendFails h x (causeOf (viewed (readLine line))) t (answer (Busy x) (heard line t))
+    pub fails-by-line : (line : List ℕ) → t .0 ≤ send .end .0 + replyTime → fits (x .request) (outlined (readLine line)) ≡ false
+        → SendFails h x (causeOf (outlined (readLine line))) t (answer (Busy x) (heard line t))
     fails-by-line = Theorems.fails-by-line h x stood send others t waiting last-send in-order
 
     -- Past the window every line is silence, as a tick is, and fails the send in the same way.
@@ -98,11 +98,11 @@ module _ (h : List Step) (x : Exchange) (stood : after h ≡ Busy x) where
   module _ (cause : Cause) (asked : x .state ≡ Resend cause) where
     -- Where a resend is asked for, the end of a send of the same request is the next send; a different request, ack and data are 43.
     module _ (telegram : Telegram) (t : Clock) (in-order : x .last .0 ≤ t .0) where
-      pub resend-recorded : viewed (reads telegram) ≡ Asks (x .request)
+      pub resend-recorded : outlined (reads telegram) ≡ Asks (x .request)
           → answer (Busy x) (sendEnded telegram t) ≡ reads (sending (x .request) (x .sends + 1) t)
       resend-recorded = Theorems.resend-recorded h x stood cause asked telegram t in-order
 
-      pub another-refused : (viewed (reads telegram) ≡ Asks (x .request) → ⊥) → answer (Busy x) (sendEnded telegram t) ≡ refusal 43
+      pub another-refused : (outlined (reads telegram) ≡ Asks (x .request) → ⊥) → answer (Busy x) (sendEnded telegram t) ≡ refusal 43
       another-refused = Theorems.another-refused h x stood cause asked telegram t in-order
 
     -- A line that is heard meanwhile changes nothing.

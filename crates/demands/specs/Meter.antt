@@ -7,12 +7,12 @@ use Rattle.bench_clock.specs.declared.Clock.{Clock}
 use Rattle.bench_clock.specs.Times.{earlier}
 use Rattle.mbus_rules.specs.declared.Request.the-variants.{Enter}
 use Rattle.mbus_rules.specs.declared.Telegram.{Telegram}
-use Rattle.mbus_rules.specs.declared.View.the-variants as views
+use Rattle.mbus_rules.specs.declared.Outline.the-variants as outlines
 use Rattle.base_rules.specs.Answers.{reads, refusal}
 use Rattle.mbus_rules.specs.Lines.{readLine}
 use Rattle.mbus_rules.specs.Telegrams.{ack}
 use Rattle.mbus_rules.specs.TelegramSizes.{Sized}
-use Rattle.mbus_rules.specs.Views.{viewed}
+use Rattle.mbus_rules.specs.Outlines.{outlined}
 use Rattle.meter_template.specs.Templates.{raised, dataWith, plus}
 use Rattle.meter_steps.specs.declared.Meter.{Meter}
 use Rattle.meter_steps.specs.declared.Mode.the-variants.{Use, Verifying}
@@ -43,7 +43,7 @@ read-answered = HistoryLaws.read-answered
 
 -- and every other line gets silence, and changes nothing but the return.
 pub others-silent : (m : Meter) (line : List ℕ) (t : Clock) → earlier (m .last .0) (t .0) ≡ false
-    → instructs (λ q. true) (m .core .address) (viewed (readLine line)) ≡ false → stepOf m (hear line t) ≡ reads (quiet (returned t (m .core)))
+    → instructs (λ q. true) (m .core .address) (outlined (readLine line)) ≡ false → stepOf m (hear line t) ≡ reads (quiet (returned t (m .core)))
 others-silent = HistoryLaws.others-silent
 
 -- Whatever a meter that was set up answers, after any history, can be written; its line reads as it; and it is the ack or comes from
@@ -56,7 +56,7 @@ meter-answers = answers-proper
 
 -- Enter puts it in verification with that method, from then on.
 pub enter-verifies : (m : Meter) (line : List ℕ) (t : Clock) (a s : ℕ)
-    → earlier (m .last .0) (t .0) ≡ false → viewed (readLine line) ≡ views.Asks (Enter a s) → addressed (m .core .address) (Enter a s) ≡ true
+    → earlier (m .last .0) (t .0) ≡ false → outlined (readLine line) ≡ outlines.Asks (Enter a s) → addressed (m .core .address) (Enter a s) ≡ true
     → afterEvent m (hear line t) .core .mode ≡ Verifying s t
 enter-verifies = HistoryLaws.enter-verifies
 

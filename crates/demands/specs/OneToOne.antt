@@ -28,7 +28,7 @@ use Rattle.mbus_either.specs.Interfaces.{eitherShown}
 use Rattle.mbus_either.proofs.Laws.Lines as eithers
 use Rattle.exchange_steps.specs.Steps as exchanges
 use Rattle.exchange_steps.proofs.Laws.Steps as steps
-use Rattle.exchange_record.specs.Exchanges.{shownBench}
+use Rattle.exchange_record.specs.Exchanges.{shownSlot}
 use Rattle.meter_template.specs.Templates.{shownSum}
 use Rattle.meter_template.proofs.Laws.TemplateLaws as sums
 use Rattle.meter_steps.specs.declared.Meter.{Meter}
@@ -112,7 +112,7 @@ error-apart = errors.shownIndication-same
 pub exchange-apart : Apart exchanges.shownStep
 exchange-apart = steps.shownStep-same
 
-pub exchange-record-apart : Apart shownBench
+pub exchange-record-apart : Apart shownSlot
 exchange-record-apart (refusal m) (refusal n) e = cc
 exchange-record-apart (refusal m) (reads b) e = cc
 exchange-record-apart (reads a) (refusal n) e = cc

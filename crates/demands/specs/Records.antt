@@ -10,11 +10,11 @@ use Rattle.base_rules.specs.Answers.{Answer, reads, refusal}
 use Rattle.base_lent.specs.Lent.{stored}
 use Rattle.mbus_records.specs.Telegrams.{telegramSize, telegramBytes, telegramFrom}
 use Rattle.mbus_records.proofs.Laws.TelegramLaws as telegrams
-use Rattle.exchange_steps.specs.declared.Bench.{Bench}
-use Rattle.exchange_steps.specs.declared.Bench.the-variants.{Idle}
+use Rattle.exchange_steps.specs.declared.Slot.{Slot}
+use Rattle.exchange_steps.specs.declared.Slot.the-variants.{Idle}
 use Rattle.exchange_steps.specs.Histories.{Step, heard, after}
-use Rattle.exchange_record.specs.Exchanges.{benchBytes, benchFrom}
-use Rattle.exchange_record.proofs.Laws.ExchangeLaws.{none-read, bench-written}
+use Rattle.exchange_record.specs.Exchanges.{slotBytes, slotFrom}
+use Rattle.exchange_record.proofs.Laws.ExchangeLaws.{none-read, slot-written}
 use Rattle.exchange_record.proofs.Laws.Runs as runs
 use Rattle.exchange_record.proofs.Laws.Runs.{AskedBy, TimesFit}
 use Rattle.host_exchange.specs.Calls as exchanges
@@ -44,19 +44,19 @@ telegram-taken = telegrams.telegram-written
 -- ---- an exchange, or none
 
 -- None is 24 bytes of 0.
-pub none-is-zeros : benchFrom (replicate 24 0) ≡ reads Idle
+pub none-is-zeros : slotFrom (replicate 24 0) ≡ reads Idle
 none-is-zeros = none-read
 
 -- After every history of steps from none, at times of 64 bits.
-pub exchange-read-back : (h : List Step) → TimesFit h → benchFrom (benchBytes (after h)) ≡ reads (after h)
+pub exchange-read-back : (h : List Step) → TimesFit h → slotFrom (slotBytes (after h)) ≡ reads (after h)
 exchange-read-back = runs.run-read-back
 
 -- An exchange that is taken stands so after some history from none (of a request at an address that is a byte), and so does none.
-pub exchange-taken : (b : List ℕ) (w : Bench) → benchFrom b ≡ reads w → AskedBy w → (benchBytes w ≡ b) × ((h : List Step) × (after h ≡ w))
-exchange-taken b w e a = (bench-written b w e, runs.taken-by-run b w e a)
+pub exchange-taken : (b : List ℕ) (w : Slot) → slotFrom b ≡ reads w → AskedBy w → (slotBytes w ≡ b) × ((h : List Step) × (after h ≡ w))
+exchange-taken b w e a = (slot-written b w e, runs.taken-by-run b w e a)
 
 -- So from zeros the record is, after any calls, that of what their steps lead to, one exchange after another;
-pub record-follows : (h : List Step) → TimesFit h → recordAfter (replicate 24 0) h ≡ benchBytes (after h)
+pub record-follows : (h : List Step) → TimesFit h → recordAfter (replicate 24 0) h ≡ slotBytes (after h)
 record-follows = lives.record-follows
 
 -- and a line heard is such a step wherever there is room for the reply.

@@ -18,8 +18,8 @@ use Rattle.bench_clock.specs.Gaps.{gapOf}
 use Rattle.bench_clock.specs.Wakes.{outsideWake, wakeOf}
 use Rattle.mbus_rules.specs.declared.Entry.{Entry}
 use Rattle.mbus_rules.specs.declared.Telegram.{Telegram}
-use Rattle.mbus_rules.specs.declared.View.{View}
-use Rattle.mbus_rules.specs.declared.View.the-variants as views
+use Rattle.mbus_rules.specs.declared.Outline.{Outline}
+use Rattle.mbus_rules.specs.declared.Outline.the-variants as outlines
 use Rattle.base_rules.specs.Lists.{at, any}
 use Rattle.base_characters.specs.Characters.{over, odd, byteOf, chars}
 use Rattle.base_rules.specs.Answers.{Answer, reads, refusal, refuse, within, follow}
@@ -30,7 +30,7 @@ use Rattle.mbus_rules.specs.Entries.{entryOf, unfit, wrongDigit, wrongTime, see
 use Rattle.mbus_rules.specs.Telegrams.{ack, readOf, dataOf, bare}
 use Rattle.mbus_rules.specs.Lines.{isAck, isShort, field, isCommand, isData, commandOf, readBody, readLine}
 use Rattle.mbus_rules.specs.Lines.{wrongStart, wrongCount, wrongLengths, wrongEnd, wrongSum}
-use Rattle.mbus_rules.specs.Views.{viewed}
+use Rattle.mbus_rules.specs.Outlines.{outlined}
 use Rattle.mbus_rules.specs.Writing.{lineOf, unwritable, writeLine}
 use Rattle.bench_indication.specs.Errors.{indicationOf}
 use Rattle.bench_indication.specs.Errors as errors
@@ -41,8 +41,8 @@ use Rattle.mbus_length.specs.declared.HowLong.the-variants.{Known, NotYet, NoLi
 use Rattle.mbus_either.specs.Interfaces.{liveOn, orOptical, findEither}
 use Rattle.mbus_either.specs.declared.Interface.the-variants.{Optical}
 use Rattle.exchange_steps.specs.declared.Exchange.{Exchange}
-use Rattle.exchange_steps.specs.declared.Bench.{Bench}
-use Rattle.exchange_steps.specs.declared.Bench.the-variants.{Idle, Busy}
+use Rattle.exchange_steps.specs.declared.Slot.{Slot}
+use Rattle.exchange_steps.specs.declared.Slot.the-variants.{Idle, Busy}
 use Rattle.exchange_steps.specs.Steps.{afterLine, afterTick, waits, asksResend, inProgress, asksFor, sending, moved, past, step, sentIn, startWith, sendEndedIn}
 use Rattle.exchange_steps.specs.Histories.{sendEnded, heard, tick, answer}
 use Rattle.meter_template.specs.Templates as templates
@@ -76,7 +76,7 @@ use Rattle.host_words.specs.Saying.{zeroEnded, fitted}
 use Rattle.host_meaning.specs.Meanings.{meaningOf, meaningFor}
 use Rattle.base_lent.specs.Recorded.{noRecord, recorded}
 use Rattle.mbus_records.specs.Telegrams.{telegramSize, telegramBytes, telegramIn, telegramFrom}
-use Rattle.exchange_record.specs.Exchanges.{exchangeBytes, exchangeIn, reached, exchangeFrom, noneBytes, benchFrom}
+use Rattle.exchange_record.specs.Exchanges.{exchangeBytes, exchangeIn, reached, exchangeFrom, noneBytes, slotFrom}
 use Rattle.meter_record.specs.MeterRecords.{meterSize, meterBytes, meterIn, unreached, meterFrom}
 use Rattle.host_lines.specs.Calls.{readFor, writeFor, requestFor}
 use Rattle.host_search.specs.Finding.{findFor}
@@ -290,18 +290,18 @@ error-by m1 m2 s1 s2 =
 
 -- ---- the exchange: each step
 
-start-by : (v : View) (t : Clock) → By (42 ∷ []) (startWith v t)
+start-by : (v : Outline) (t : Clock) → By (42 ∷ []) (startWith v t)
 unfolding By any
-start-by (views.Refused n) t = refl
-start-by views.Ack t = refl
-start-by (views.Asks q) t = tt
-start-by (views.Data a) t = refl
+start-by (outlines.Refused n) t = refl
+start-by outlines.Ack t = refl
+start-by (outlines.Asks q) t = tt
+start-by (outlines.Data a) t = refl
 
 called-by : (x : Exchange) (t : Clock) (called : Bool) (y : Exchange) → By (40 ∷ 41 ∷ []) (step x t called y)
 unfolding any
 called-by x t called y = refuse-by _ 40 (earlier (x .last .0) (t .0)) _ refl (refuse-by _ 41 (not called) _ refl (reads-by _ y))
 
-sending-by : (b : Bench) (v : View) (t : Clock) → By (40 ∷ 41 ∷ 42 ∷ 43 ∷ []) (sendEndedIn b v t)
+sending-by : (b : Slot) (v : Outline) (t : Clock) → By (40 ∷ 41 ∷ 42 ∷ 43 ∷ []) (sendEndedIn b v t)
 unfolding any
 sending-by Idle v t = more (42 ∷ []) _ _ refl (start-by v t)
 sending-by (Busy x) v t =
@@ -312,18 +312,18 @@ sending-by (Busy x) v t =
 -- The end of a send: 42 where there is none, and of what there is else 40, 41 and 43 too.
 module _ (telegram : Telegram) (t : Clock) where
   pub begin-by : By (42 ∷ []) (answer Idle (sendEnded telegram t))
-  begin-by = start-by (viewed (reads telegram)) t
+  begin-by = start-by (outlined (reads telegram)) t
 
-  pub send-by : (b : Bench) → By (40 ∷ 41 ∷ 42 ∷ 43 ∷ []) (answer b (sendEnded telegram t))
-  send-by b = sending-by (inProgress b) (viewed (reads telegram)) t
+  pub send-by : (b : Slot) → By (40 ∷ 41 ∷ 42 ∷ 43 ∷ []) (answer b (sendEnded telegram t))
+  send-by b = sending-by (inProgress b) (outlined (reads telegram)) t
 
 -- Lines and ticks: 40 and 41, and of none 41.
-pub line-by : (b : Bench) (line : List ℕ) (t : Clock) → By (40 ∷ 41 ∷ []) (answer b (heard line t))
+pub line-by : (b : Slot) (line : List ℕ) (t : Clock) → By (40 ∷ 41 ∷ []) (answer b (heard line t))
 unfolding any
 line-by Idle line t = refusal-by Exchange _ 41 refl
-line-by (Busy x) line t = called-by x t (waits (x .state)) (moved x (afterLine (x .request) (x .sends) (past x t) (viewed (readLine line))) t)
+line-by (Busy x) line t = called-by x t (waits (x .state)) (moved x (afterLine (x .request) (x .sends) (past x t) (outlined (readLine line))) t)
 
-pub tick-by : (b : Bench) (t : Clock) → By (40 ∷ 41 ∷ []) (answer b (tick t))
+pub tick-by : (b : Slot) (t : Clock) → By (40 ∷ 41 ∷ []) (answer b (tick t))
 unfolding any
 tick-by Idle t = refusal-by Exchange _ 41 refl
 tick-by (Busy x) t = called-by x t (waits (x .state)) (moved x (afterTick (x .sends) (past x t)) t)
@@ -502,7 +502,7 @@ recorded-by written taken b = refuse-by _ noRecord (not (same b (written (taken 
 pub telegram-record-by : (b : List ℕ) → By (101 ∷ []) (telegramFrom b)
 telegram-record-by b = recorded-by telegramBytes telegramIn b
 
-pub exchange-record-by : (b : List ℕ) → By (101 ∷ []) (benchFrom b)
+pub exchange-record-by : (b : List ℕ) → By (101 ∷ []) (slotFrom b)
 unfolding any
 exchange-record-by b =
     cond-by _ (same b noneBytes) _ _ (reads-by _ Idle)
@@ -576,23 +576,23 @@ module _ (b : List ℕ) (t : ℕ) where
   abbrev time : Clock
   time = record { 0 = t }
 
-  stood-by : (ns : List ℕ) → less (101 ∷ []) ns ≡ true → By ns (benchFrom b)
+  stood-by : (ns : List ℕ) → less (101 ∷ []) ns ≡ true → By ns (slotFrom b)
   stood-by ns l = more (101 ∷ []) ns _ l (exchange-record-by b)
 
   pub send-ended-for-by : (kind address method : ℕ) → By (101 ∷ 40 ∷ 41 ∷ 42 ∷ 43 ∷ []) (sendEndedFor b kind address method t)
   unfolding any
   send-ended-for-by kind address method =
-      follow-by _ (benchFrom b) _ (stood-by _ refl)
+      follow-by _ (slotFrom b) _ (stood-by _ refl)
       (λ x. more (40 ∷ 41 ∷ 42 ∷ 43 ∷ []) _ _ refl (send-by (bare (kindIn kind) address method) time x))
 
   pub tick-for-by : By (101 ∷ 40 ∷ 41 ∷ []) (tickFor b t)
   unfolding any
-  tick-for-by = follow-by _ (benchFrom b) _ (stood-by _ refl) (λ x. more (40 ∷ 41 ∷ []) _ _ refl (tick-by x time))
+  tick-for-by = follow-by _ (slotFrom b) _ (stood-by _ refl) (λ x. more (40 ∷ 41 ∷ []) _ _ refl (tick-by x time))
 
   pub heard-for-by : (line reply : List ℕ) → By (101 ∷ 21 ∷ 40 ∷ 41 ∷ []) (exchanges.heardFor b line t reply)
   unfolding any
   heard-for-by line reply =
-      follow-by _ (benchFrom b) _ (stood-by _ refl)
+      follow-by _ (slotFrom b) _ (stood-by _ refl)
       (λ x. needs-by _ telegramSize reply _ refl (more (40 ∷ 41 ∷ []) _ _ refl (line-by x line time)))
 
 -- and of a meter

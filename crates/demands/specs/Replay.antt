@@ -9,7 +9,7 @@ use lib.IntN.{ℤ, pos, negsuc, negℤ, natAbs, _+ℤ_, _-ℤ_, _*ℤ_}
 use lib.ListN.{getD}
 use Rattle.mbus_rules.specs.declared.Moment.{Moment}
 use Rattle.mbus_rules.specs.declared.Request.the-variants.{Read}
-use Rattle.mbus_rules.specs.declared.View.the-variants.{Asks}
+use Rattle.mbus_rules.specs.declared.Outline.the-variants.{Asks}
 use Rattle.base_rules.specs.Answers.{reads, refusal}
 use Rattle.base_characters.specs.Characters.{chars}
 use Rattle.base_rules.specs.Lists.{any}
@@ -27,7 +27,7 @@ use Rattle.exchange_steps.specs.Steps.{begun}
 use Rattle.bundle_rows.specs.Fields.{wrongPosition}
 use Rattle.bundle_check.specs.Bundles.{checkOf}
 use Rattle.bundle_check.specs.Records.{Recorded, recordsOf}
-use Rattle.run_counting.specs.Counting.{isSent, rowView, looked, sendEnd, beginsFrom, counts, keptIf, lookedAt, countedAfter, answersOf, numbersOf}
+use Rattle.run_counting.specs.Counting.{isSent, rowOutline, looked, sendEnd, beginsFrom, counts, keptIf, lookedAt, countedAfter, answersOf, numbersOf}
 use Rattle.run_counting.specs.Exchanges.{rowClock, toldRows, endsWellBy}
 use Rattle.run_counting.proofs.Laws.Exchanges as exchanges
 use Rattle.run_counting.proofs.Laws.Numbering as numbering
@@ -45,7 +45,7 @@ use Rattle.run_replay.proofs.Laws.Replaying as replaying
 -- Behind a send, and rows heard since of which none is sent, a row heard counts exactly when the exchange that the read began, told of those
 -- rows, ends well by it; the rows in front are counted as they were.
 pub counts-as-the-exchange : (front : List Recorded) (send : Recorded) (address : ℕ) (since : List Recorded) (k : Recorded) (later : List Recorded)
-    → isSent send ≡ true → rowView send ≡ Asks (Read address) → any isSent since ≡ false → isSent k ≡ false
+    → isSent send ≡ true → rowOutline send ≡ Asks (Read address) → any isSent since ≡ false → isSent k ≡ false
     → countedAfter [] ((front ++ (send ∷ since)) ++ (k ∷ later))
     ≡ countedAfter [] (front ++ (send ∷ since))
     ++ keptIf (endsWellBy (toldRows (begun (Read address) (rowClock (sendEnd send))) since) k) k (countedAfter (send ∷ (since ++ (k ∷ []))) later)
@@ -56,11 +56,11 @@ counts-as-the-exchange = exchanges.counted-as
 pub what-counts : (send : Recorded) (since : List Recorded) (k : Recorded) → counts (send ∷ since) k ≡ true
     → (isSent k ≡ false)
     × ((address : ℕ)
-    × (rowView send ≡ Asks (Read address))
+    × (rowOutline send ≡ Asks (Read address))
     × (any (beginsFrom (sendEnd send)) since ≡ false)
     × (sendEnd send ≤ k .time)
     × (k .time ≤ sendEnd send + replyTime)
-    × (fits (Read address) (rowView k) ≡ true))
+    × (fits (Read address) (rowOutline k) ≡ true))
 what-counts = meaning.counted-means
 
 -- So an answer that is left over, one that begins before the end of the last send, never counts.
@@ -69,8 +69,8 @@ left-over-never-counts = meaning.left-over
 
 -- And every such row counts, whichever send it replies to.
 pub every-such-row-counts : (send : Recorded) (address : ℕ) (since : List Recorded) (k : Recorded)
-    → isSent send ≡ true → rowView send ≡ Asks (Read address) → isSent k ≡ false → any (beginsFrom (sendEnd send)) since ≡ false
-    → sendEnd send ≤ k .time → k .time ≤ sendEnd send + replyTime → fits (Read address) (rowView k) ≡ true → counts (send ∷ since) k ≡ true
+    → isSent send ≡ true → rowOutline send ≡ Asks (Read address) → isSent k ≡ false → any (beginsFrom (sendEnd send)) since ≡ false
+    → sendEnd send ≤ k .time → k .time ≤ sendEnd send + replyTime → fits (Read address) (rowOutline k) ≡ true → counts (send ∷ since) k ≡ true
 every-such-row-counts = meaning.means-counted
 
 -- The numbers that are told are those of the rows that count.

@@ -9,18 +9,18 @@ use Rattle.base_rules.specs.Answers.{reads}
 use Rattle.base_rules.specs.Bytes.{Bytes}
 use Rattle.base_characters.specs.Characters.{chars}
 use Rattle.mbus_rules.specs.declared.Request.{Request}
-use Rattle.mbus_rules.specs.declared.View.the-variants.{Asks}
+use Rattle.mbus_rules.specs.declared.Outline.the-variants.{Asks}
 use Rattle.bench_clock.specs.Wakes.{isWake}
-use Rattle.exchange_steps.specs.declared.Bench.{Bench}
+use Rattle.exchange_steps.specs.declared.Slot.{Slot}
 use Rattle.exchange_steps.specs.Steps.{heardOn, shownStep, endsWell}
 use Rattle.bundle_check.specs.Bundles.{contentsOf, checkOf}
 use Rattle.bundle_check.specs.Records.{Recorded}
 use Rattle.bundle_columns.specs.Columns.{columnsOf}
 use Rattle.bundle_columns.specs.Record.{columnsBytes}
-use Rattle.run_counting.specs.Counting.{isSent, rowView, looked, sendEnd, keptIf, numbersOf}
+use Rattle.run_counting.specs.Counting.{isSent, rowOutline, looked, sendEnd, keptIf, numbersOf}
 use Rattle.run_counting.specs.Exchanges.{rowClock}
 use Rattle.run_verdicts.specs.declared.Verdict.the-variants.{Wake, First, Resend, LeftOver, Late, Second, WrongKind, Unasked}
-use Rattle.run_verdicts.specs.Verdicts.{verdictAfter, benchOf, verdictsOf}
+use Rattle.run_verdicts.specs.Verdicts.{verdictAfter, slotOf, verdictsOf}
 use Rattle.run_verdicts.specs.Answering.{verdictsIn, verdictsKept}
 use Rattle.run_verdicts.specs.Words.{verdictBehind, stretchOf, heardBehind, isCounts, asksRead}
 use Rattle.run_verdicts.specs.Example.{fourReads}
@@ -56,13 +56,13 @@ what-a-heard-row-is = meaning.heard-means
 -- So behind a request one that begins before the end of the send is left over, and never counts.
 pub left-over-is-told : (before : List Recorded) (k send : Recorded) (since : List Recorded) (request : Request)
     → isWake (chars (k .body)) ≡ false → isSent k ≡ false → stretchOf (k .position) before ≡ send ∷ since → isSent send ≡ true
-    → rowView send ≡ Asks request → k .time < sendEnd send → verdictBehind before k ≡ LeftOver
+    → rowOutline send ≡ Asks request → k .time < sendEnd send → verdictBehind before k ≡ LeftOver
 left-over-is-told before k send since request w h s i r l =
     meaning.heard-means before k w h ∙ ap (λ (x : List Recorded). heardBehind x k) s ∙ rw (i, r, lt-ltb (k .time) (sendEnd send) l)
 
 -- A row heard counts exactly when the exchange of its position, told of the rows before it, ends well by it.
 pub counts-as-the-exchange-ends : (before : List Recorded) (k : Recorded) → isWake (chars (k .body)) ≡ false → isSent k ≡ false
-    → isCounts (verdictBehind before k) ≡ endsWell (shownStep (heardOn (benchOf (k .position) before) (rowView k) (rowClock (k .time))))
+    → isCounts (verdictBehind before k) ≡ endsWell (shownStep (heardOn (slotOf (k .position) before) (rowOutline k) (rowClock (k .time))))
 counts-as-the-exchange-ends = meaning.ends-well
 
 -- For reads that is 2026-04's: each row adds its number to those that count for a position exactly when it is looked at, the last row sent is an
@@ -78,7 +78,7 @@ counts-for-reads = meaning.numbers-as-judged
 -- Rows of other positions and wake-ups, wherever they stand, leave the exchange of a position as it is, and with it every verdict.
 pub others-change-no-verdict : (front : List Recorded) (k : Recorded) (later : List Recorded) (j : Recorded) → looked (j .position) k ≡ false
     → verdictBehind (front ++ (k ∷ later)) j ≡ verdictBehind (front ++ later) j
-others-change-no-verdict front k later j e = ap (λ (b : Bench). verdictAfter b j) (meaning.others-told-not (j .position) front k later e)
+others-change-no-verdict front k later j e = ap (λ (b : Slot). verdictAfter b j) (meaning.others-told-not (j .position) front k later e)
 
 -- The columns of an accepted bundle have the verdicts of the bundle.
 pub columns-as-the-bundle : (b : List ℕ) (n : ℕ) → Bytes b → checkOf b ≡ reads n → verdictsKept (columnsBytes (columnsOf (contentsOf b))) b ≡ verdictsIn b

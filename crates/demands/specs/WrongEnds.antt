@@ -15,7 +15,7 @@ use Rattle.base_characters.specs.Characters.{odd, carrier}
 use Rattle.base_characters.specs.Flips.{flipBit, flips, outside, repeated}
 use Rattle.mbus_rules.specs.Lines.{readBody, readLine}
 use Rattle.mbus_rules.specs.Telegrams.{ack}
-use Rattle.mbus_rules.specs.Views.{viewed}
+use Rattle.mbus_rules.specs.Outlines.{outlined}
 use Rattle.mbus_rules.specs.Writing.{lineOf}
 use Rattle.exchange_steps.specs.declared.Cause.the-variants.{Silent}
 use Rattle.exchange_steps.specs.declared.Exchange.{Exchange}
@@ -72,7 +72,7 @@ clearsAgain = withHears (λ m line t d. record {
     address = d .core .address;
     mode = d .core .mode;
     used = d .core .used;
-    verified = cond (instructs isEnter (m .core .address) (viewed (readLine line))) zeros (d .core .verified);
+    verified = cond (instructs isEnter (m .core .address) (outlined (readLine line))) zeros (d .core .verified);
     template = d .core .template;
   };
   said = d .said;
@@ -89,7 +89,7 @@ acksEveryLine = withHears (λ m line t d. record { core = d .core; said = says a
 -- leave is acked, and the mode stays
 abbrev pub staysOnLeave : Ends
 staysOnLeave = withHears (λ m line t d. record {
-  core = withMode (d .core) (cond (instructs isLeave (m .core .address) (viewed (readLine line))) (m .core .mode) (d .core .mode));
+  core = withMode (d .core) (cond (instructs isLeave (m .core .address) (outlined (readLine line))) (m .core .mode) (d .core .mode));
   said = d .said;
 })
 

@@ -13,8 +13,8 @@ use Rattle.exchange_steps.specs.declared.Cause.the-variants.{Silent, Damaged, W
 use Rattle.exchange_steps.specs.declared.State.{State}
 use Rattle.exchange_steps.specs.declared.State.the-variants.{Waiting, Resend, Well, Failed}
 use Rattle.exchange_steps.specs.declared.Exchange.{Exchange}
-use Rattle.exchange_steps.specs.declared.Bench.{Bench}
-use Rattle.exchange_steps.specs.declared.Bench.the-variants.{Idle, Busy}
+use Rattle.exchange_steps.specs.declared.Slot.{Slot}
+use Rattle.exchange_steps.specs.declared.Slot.the-variants.{Idle, Busy}
 use Rattle.exchange_steps.specs.Steps.{mostSends, past}
 use Rattle.base_lent.specs.Same.{same}
 use Rattle.base_numbers.specs.Numbers.{number}
@@ -113,14 +113,14 @@ exchangeFrom b = follow (recorded exchangeBytes exchangeIn b) (λ x. refuse noRe
 abbrev pub noneBytes : List ℕ
 noneBytes = replicate exchangeSize 0
 
-abbrev pub benchBytes : Bench → List ℕ
-benchBytes Idle = noneBytes
-benchBytes (Busy x) = exchangeBytes x
+abbrev pub slotBytes : Slot → List ℕ
+slotBytes Idle = noneBytes
+slotBytes (Busy x) = exchangeBytes x
 
-abbrev pub benchFrom : List ℕ → Answer Bench
-benchFrom b = cond (same b noneBytes) (reads Idle) (within Busy (exchangeFrom b))
+abbrev pub slotFrom : List ℕ → Answer Slot
+slotFrom b = cond (same b noneBytes) (reads Idle) (within Busy (exchangeFrom b))
 
 -- The program's case for each answer.
-abbrev pub shownBench : Answer Bench → Taken
-shownBench (refusal n) = Refused n
-shownBench (reads b) = Is b
+abbrev pub shownSlot : Answer Slot → Taken
+shownSlot (refusal n) = Refused n
+shownSlot (reads b) = Is b

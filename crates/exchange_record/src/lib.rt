@@ -3,14 +3,14 @@ ghost use mathlib.Core.Path.{_≡_};
 ghost use lib.ListN.{length};
 ghost use Rattle.exchange_steps.specs.Steps.{shownStep};
 ghost use Rattle.exchange_record.specs.Exchanges.{requestBytes, causeNumber, stateNumber, causeIn, exchangeHead, exchangeBytes, requestOf};
-ghost use Rattle.exchange_record.specs.Exchanges.{causeOfNumber, stateOf, exchangeIn, failsBy, standsAt, reached, exchangeFrom, benchFrom, shownBench};
+ghost use Rattle.exchange_record.specs.Exchanges.{causeOfNumber, stateOf, exchangeIn, failsBy, standsAt, reached, exchangeFrom, slotFrom, shownSlot};
 use base_lent::is_same;
 use base_numbers::number_at;
 use base_numbers::put_record;
 use bench_clock::Clock;
-use exchange_steps::Bench;
 use exchange_steps::Cause;
 use exchange_steps::Exchange;
+use exchange_steps::Slot;
 use exchange_steps::State;
 use exchange_steps::Stepped;
 use mbus_rules::Request;
@@ -20,7 +20,7 @@ pub const SIZE: usize = 24;
 
 // None or the exchange whose record the bytes are, or the number by which they are refused.
 pub enum Taken {
-    Is(Bench),
+    Is(Slot),
     Refused(u16),
 }
 
@@ -209,17 +209,17 @@ fn exchange_from(b: &[u8]) -> Stepped
 }
 
 // None, where the bytes are zeros, or the exchange whose record they are, or refused by 101.
-pub fn bench_from(b: &[u8]) -> Taken
-    ensures { λ r. ⌜ r ≡ shownBench (benchFrom (now (b .entry))) ⌝ }
+pub fn slot_from(b: &[u8]) -> Taken
+    ensures { λ r. ⌜ r ≡ shownSlot (slotFrom (now (b .entry))) ⌝ }
 {
     let none = [0u8; 24];
     let idle = is_same(b, &none);
     if idle {
-        return Taken::Is(Bench::Idle);
+        return Taken::Is(Slot::Idle);
     }
     let stood = exchange_from(b);
     match stood {
         Stepped::Refused(n) => Taken::Refused(n),
-        Stepped::To(x) => Taken::Is(Bench::Busy(x)),
+        Stepped::To(x) => Taken::Is(Slot::Busy(x)),
     }
 }

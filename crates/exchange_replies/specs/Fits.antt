@@ -4,8 +4,8 @@ use mathlib.Core.Bool.{Bool, true, false, _||_}
 use lib.Dec.{eqb}
 use Rattle.mbus_rules.specs.declared.Request.{Request}
 use Rattle.mbus_rules.specs.declared.Request.the-variants.{Read, Enter, Leave}
-use Rattle.mbus_rules.specs.declared.View.{View}
-use Rattle.mbus_rules.specs.declared.View.the-variants.{Refused, Ack, Asks, Data}
+use Rattle.mbus_rules.specs.declared.Outline.{Outline}
+use Rattle.mbus_rules.specs.declared.Outline.the-variants.{Refused, Ack, Asks, Data}
 
 -- Ack fits enter and leave.
 abbrev pub ackFits : Request → Bool
@@ -20,7 +20,7 @@ dataFits (Enter asked method) answers = false
 dataFits (Leave asked) answers = false
 
 -- Nothing else fits.
-abbrev pub fits : Request → View → Bool
+abbrev pub fits : Request → Outline → Bool
 fits request (Refused n) = false
 fits request Ack = ackFits request
 fits request (Asks other) = false

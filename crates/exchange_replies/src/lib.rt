@@ -1,8 +1,8 @@
 // Which reply fits which request, whatever the state and the time.
 ghost use mathlib.Core.Path.{_≡_};
 ghost use Rattle.exchange_replies.specs.Fits.{ackFits, dataFits, fits};
+use mbus_rules::Outline;
 use mbus_rules::Request;
-use mbus_rules::View;
 use mbus_telegrams::BROADCAST;
 
 // Ack fits enter and leave.
@@ -27,14 +27,14 @@ fn data_fits(request: Request, answers: u8) -> bool
     }
 }
 
-// Whether a line of this view is a reply to the request.
-pub fn fits(request: Request, view: View) -> bool
-    ensures { λ r. ⌜ r ≡ fits request view ⌝ }
+// Whether a line of this outline is a reply to the request.
+pub fn fits(request: Request, outline: Outline) -> bool
+    ensures { λ r. ⌜ r ≡ fits request outline ⌝ }
 {
-    match view {
-        View::Refused(_) => false,
-        View::Ack => ack_fits(request),
-        View::Asks(_) => false,
-        View::Data(answers) => data_fits(request, answers),
+    match outline {
+        Outline::Refused(_) => false,
+        Outline::Ack => ack_fits(request),
+        Outline::Asks(_) => false,
+        Outline::Data(answers) => data_fits(request, answers),
     }
 }

@@ -8,15 +8,15 @@ use Rattle.bench_clock.specs.declared.Clock.{Clock}
 use Rattle.bench_clock.specs.Times.{replyTime}
 use Rattle.mbus_rules.specs.declared.Request.{Request}
 use Rattle.mbus_rules.specs.declared.Telegram.{Telegram}
-use Rattle.mbus_rules.specs.declared.View.the-variants.{Asks}
+use Rattle.mbus_rules.specs.declared.Outline.the-variants.{Asks}
 use Rattle.base_rules.specs.Answers.{Answer, reads, refusal}
 use Rattle.mbus_rules.specs.Lines.{readLine}
-use Rattle.mbus_rules.specs.Views.{viewed}
+use Rattle.mbus_rules.specs.Outlines.{outlined}
 use Rattle.exchange_steps.specs.declared.Cause.{Cause}
 use Rattle.exchange_steps.specs.declared.State.the-variants.{Waiting, Resend, Well, Failed}
 use Rattle.exchange_steps.specs.declared.Exchange.{Exchange}
-use Rattle.exchange_steps.specs.declared.Bench.{Bench}
-use Rattle.exchange_steps.specs.declared.Bench.the-variants.{Idle, Busy}
+use Rattle.exchange_steps.specs.declared.Slot.{Slot}
+use Rattle.exchange_steps.specs.declared.Slot.the-variants.{Idle, Busy}
 use Rattle.exchange_replies.specs.Fits.{fits}
 use Rattle.exchange_steps.specs.Steps.{inProgress, begun, moved, sendEndedOn, heardOn, tickOn}
 
@@ -27,9 +27,9 @@ pub data Step : Type 0 where
   tick : Clock → Step
 
 -- What is answered to a step.
-abbrev pub answer : Bench → Step → Answer Exchange
-answer b (sendEnded telegram t) = sendEndedOn b (viewed (reads telegram)) t
-answer b (heard line t) = heardOn b (viewed (readLine line)) t
+abbrev pub answer : Slot → Step → Answer Exchange
+answer b (sendEnded telegram t) = sendEndedOn b (outlined (reads telegram)) t
+answer b (heard line t) = heardOn b (outlined (readLine line)) t
 answer b (tick t) = tickOn b t
 
 -- An exchange after a step: as it then stands, and after a refusal as it stood.
@@ -38,14 +38,14 @@ exchangeAfter x (refusal n) = x
 exchangeAfter x (reads y) = y
 
 -- The exchange as it then stands; a refused step leaves it, or none, as it stood.
-abbrev pub stands : Bench → Answer Exchange → Bench
+abbrev pub stands : Slot → Answer Exchange → Slot
 stands b (refusal n) = b
 stands b (reads x) = Busy x
 
-abbrev pub next : Bench → Step → Bench
+abbrev pub next : Slot → Step → Slot
 next b s = stands b (answer b s)
 
-unfoldable pub run : Bench → List Step → Bench
+unfoldable pub run : Slot → List Step → Slot
 run b [] = b
 run b (s ∷ h) = run (next b s) h
 
@@ -55,24 +55,24 @@ pub record Send : Type 0 where
   pub end : Clock
 
 -- A new exchange begins with no sends; one in progress has those made so far.
-abbrev pub madeIn : Bench → List Send → List Send
+abbrev pub madeIn : Slot → List Send → List Send
 madeIn Idle sends = []
 madeIn (Busy x) sends = sends
 
 -- A send is made by a send's end that is accepted, and by nothing else.
-abbrev pub noted : Bench → Step → Answer Exchange → List Send → List Send
+abbrev pub noted : Slot → Step → Answer Exchange → List Send → List Send
 noted b (sendEnded telegram t) (refusal n) sends = sends
 noted b (sendEnded telegram t) (reads x) sends = record { telegram = telegram; end = t } ∷ madeIn (inProgress b) sends
 noted b (heard line t) a sends = sends
 noted b (tick t) a sends = sends
 
 -- The sends made of the exchange that there then is, the last one first.
-unfoldable pub sendsMade : Bench → List Send → List Step → List Send
+unfoldable pub sendsMade : Slot → List Send → List Step → List Send
 sendsMade b sends [] = sends
 sendsMade b sends (s ∷ h) = sendsMade (next b s) (noted b s (answer b s) sends) h
 
 -- From none: how it stands after a history, and the sends made.
-abbrev pub after : List Step → Bench
+abbrev pub after : List Step → Slot
 after h = run Idle h
 
 abbrev pub made : List Step → List Send
@@ -81,11 +81,11 @@ made h = sendsMade Idle [] h
 -- Every send was one of the request.
 unfoldable pub Ask : Request → List Send → Type 0
 Ask request [] = Unit {0}
-Ask request (s ∷ sends) = (viewed (reads (s .telegram)) ≡ Asks request) × Ask request sends
+Ask request (s ∷ sends) = (outlined (reads (s .telegram)) ≡ Asks request) × Ask request sends
 
 -- How an exchange ended well: a line was heard while a send was outstanding, it began at most 450 after that send's end, and
 -- it reads as a telegram that fits the request.
-pub record EndedWell (b : Bench) (sends : List Send) (h : List Step) (x : Exchange) : Type 0 where
+pub record EndedWell (b : Slot) (sends : List Send) (h : List Step) (x : Exchange) : Type 0 where
   pub before : List Step
   pub line : List ℕ
   pub at : Clock
@@ -100,7 +100,7 @@ pub record EndedWell (b : Bench) (sends : List Send) (h : List Step) (x : Exchan
   pub in-time : at .0 ≤ send .end .0 + replyTime
   pub telegram : Telegram
   pub accepted : readLine line ≡ reads telegram
-  pub fitting : fits (x .request) (viewed (reads telegram)) ≡ true
+  pub fitting : fits (x .request) (outlined (reads telegram)) ≡ true
   pub ends : x ≡ moved stood Well at
 
 -- What a failed send leaves, by the sends made: if it was the first or second, it asks for a resend; if it was the third, the exchange ends with
@@ -118,5 +118,5 @@ pub record GivesWay (x : Exchange) (h : List Step) : Type 0 where
   pub later : List Step
   pub history : h ≡ before ++ (sendEnded telegram at ∷ later)
   pub stayed : run (Busy x) before ≡ Busy x
-  pub asks : viewed (reads telegram) ≡ Asks request
+  pub asks : outlined (reads telegram) ≡ Asks request
   pub begins : next (Busy x) (sendEnded telegram at) ≡ Busy (begun request at)

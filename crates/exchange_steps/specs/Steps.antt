@@ -8,18 +8,18 @@ use Rattle.bench_clock.specs.Times.{late, earlier}
 use Rattle.mbus_rules.specs.declared.Request.{Request}
 use Rattle.mbus_rules.specs.declared.Request.the-variants.{Read, Enter, Leave}
 use Rattle.mbus_rules.specs.declared.Telegram.{Telegram}
-use Rattle.mbus_rules.specs.declared.View.{View}
-use Rattle.mbus_rules.specs.declared.View.the-variants as views
+use Rattle.mbus_rules.specs.declared.Outline.{Outline}
+use Rattle.mbus_rules.specs.declared.Outline.the-variants as outlines
 use Rattle.base_rules.specs.Answers.{Answer, reads, refusal, refuse, follow}
 use Rattle.mbus_rules.specs.Telegrams.{blank, shown}
-use Rattle.mbus_rules.specs.Views.{viewed}
+use Rattle.mbus_rules.specs.Outlines.{outlined}
 use Rattle.exchange_steps.specs.declared.Cause.{Cause}
 use Rattle.exchange_steps.specs.declared.Cause.the-variants.{Silent, Damaged, WrongKind}
 use Rattle.exchange_steps.specs.declared.State.{State}
 use Rattle.exchange_steps.specs.declared.State.the-variants.{Waiting, Resend, Well, Failed}
 use Rattle.exchange_steps.specs.declared.Exchange.{Exchange}
-use Rattle.exchange_steps.specs.declared.Bench.{Bench}
-use Rattle.exchange_steps.specs.declared.Bench.the-variants.{Idle, Busy}
+use Rattle.exchange_steps.specs.declared.Slot.{Slot}
+use Rattle.exchange_steps.specs.declared.Slot.the-variants.{Idle, Busy}
 use Rattle.exchange_steps.specs.declared.Stepped.{Stepped}
 use Rattle.exchange_steps.specs.declared.Stepped.the-variants.{To, Refused}
 use Rattle.exchange_steps.specs.declared.Heard.{Heard}
@@ -35,16 +35,16 @@ abbrev pub failed : ℕ → Cause → State
 failed sends cause = cond (ltb sends mostSends) (Resend cause) (Failed cause)
 
 -- A line that does not fit fails its send as damaged (refused line) or wrong kind.
-abbrev pub causeOf : View → Cause
-causeOf (views.Refused n) = Damaged
-causeOf views.Ack = WrongKind
-causeOf (views.Asks other) = WrongKind
-causeOf (views.Data answers) = WrongKind
+abbrev pub causeOf : Outline → Cause
+causeOf (outlines.Refused n) = Damaged
+causeOf outlines.Ack = WrongKind
+causeOf (outlines.Asks other) = WrongKind
+causeOf (outlines.Data answers) = WrongKind
 
 -- Line heard: more than 450 after the send counts as silence and the line is ignored; otherwise a fitting line ends the
 -- exchange well, and another fails this send.
-abbrev pub afterLine : Request → ℕ → Bool → View → State
-afterLine request sends silent view = cond silent (failed sends Silent) (cond (fits request view) Well (failed sends (causeOf view)))
+abbrev pub afterLine : Request → ℕ → Bool → Outline → State
+afterLine request sends silent outline = cond silent (failed sends Silent) (cond (fits request outline) Well (failed sends (causeOf outline)))
 
 -- Tick: more than 450 after the send fails it as silent; 450 or less leaves the state.
 abbrev pub afterTick : ℕ → Bool → State
@@ -74,7 +74,7 @@ ended Well = true
 ended (Failed cause) = true
 
 -- 02, 2026-09: an exchange that has ended counts as none.
-abbrev pub inProgress : Bench → Bench
+abbrev pub inProgress : Slot → Slot
 inProgress Idle = Idle
 inProgress (Busy x) = cond (ended (x .state)) Idle (Busy x)
 
@@ -93,11 +93,11 @@ sameRequest (Leave a) (Enter b n) = false
 sameRequest (Leave a) (Leave b) = eqb a b
 
 -- 02, 2026-09: the request given with a resend must be the one the exchange was begun with; an ack and data are none.
-abbrev pub asksFor : Request → View → Bool
-asksFor request (views.Refused n) = false
-asksFor request views.Ack = false
-asksFor request (views.Asks other) = sameRequest request other
-asksFor request (views.Data answers) = false
+abbrev pub asksFor : Request → Outline → Bool
+asksFor request (outlines.Refused n) = false
+asksFor request outlines.Ack = false
+asksFor request (outlines.Asks other) = sameRequest request other
+asksFor request (outlines.Data answers) = false
 
 -- ---- the exchange that comes next
 
@@ -121,8 +121,8 @@ past x t = late (x .began .0) (t .0)
 abbrev pub step : Exchange → Clock → Bool → Exchange → Answer Exchange
 step x t called next = refuse 40 (earlier (x .last .0) (t .0)) (refuse 41 (not called) (reads next))
 
-abbrev pub heardIn : Exchange → View → Clock → Answer Exchange
-heardIn x view t = step x t (waits (x .state)) (moved x (afterLine (x .request) (x .sends) (past x t) view) t)
+abbrev pub heardIn : Exchange → Outline → Clock → Answer Exchange
+heardIn x outline t = step x t (waits (x .state)) (moved x (afterLine (x .request) (x .sends) (past x t) outline) t)
 
 abbrev pub tickIn : Exchange → Clock → Answer Exchange
 tickIn x t = step x t (waits (x .state)) (moved x (afterTick (x .sends) (past x t)) t)
@@ -132,33 +132,33 @@ abbrev pub sentIn : Exchange → Clock → Answer Exchange
 sentIn x t = step x t (asksResend (x .state) (x .sends)) (sending (x .request) (x .sends + 1) t)
 
 -- 02, 2026-09: a different request at a resend is 43, after 40 and 41.
-abbrev pub resentIn : Exchange → View → Clock → Answer Exchange
-resentIn x view t = follow (sentIn x t) (λ y. refuse 43 (not (asksFor (x .request) view)) (reads y))
+abbrev pub resentIn : Exchange → Outline → Clock → Answer Exchange
+resentIn x outline t = follow (sentIn x t) (λ y. refuse 43 (not (asksFor (x .request) outline)) (reads y))
 
 -- A new exchange: 42 with ack or data.
-abbrev pub startWith : View → Clock → Answer Exchange
-startWith (views.Refused n) t = refusal 42
-startWith views.Ack t = refusal 42
-startWith (views.Asks request) t = reads (begun request t)
-startWith (views.Data answers) t = refusal 42
+abbrev pub startWith : Outline → Clock → Answer Exchange
+startWith (outlines.Refused n) t = refusal 42
+startWith outlines.Ack t = refusal 42
+startWith (outlines.Asks request) t = reads (begun request t)
+startWith (outlines.Data answers) t = refusal 42
 
 -- ---- none or an exchange
 
 -- 02, 2026-09: given no exchange in progress it begins one, given an exchange that asks for a resend it records the next send.
-abbrev pub sendEndedIn : Bench → View → Clock → Answer Exchange
-sendEndedIn Idle view t = startWith view t
-sendEndedIn (Busy x) view t = resentIn x view t
+abbrev pub sendEndedIn : Slot → Outline → Clock → Answer Exchange
+sendEndedIn Idle outline t = startWith outline t
+sendEndedIn (Busy x) outline t = resentIn x outline t
 
 -- The last time of an exchange that has ended no longer binds.
-abbrev pub sendEndedOn : Bench → View → Clock → Answer Exchange
-sendEndedOn b view t = sendEndedIn (inProgress b) view t
+abbrev pub sendEndedOn : Slot → Outline → Clock → Answer Exchange
+sendEndedOn b outline t = sendEndedIn (inProgress b) outline t
 
 -- Lines and ticks are not called for where there is none.
-abbrev pub heardOn : Bench → View → Clock → Answer Exchange
-heardOn Idle view t = refusal 41
-heardOn (Busy x) view t = heardIn x view t
+abbrev pub heardOn : Slot → Outline → Clock → Answer Exchange
+heardOn Idle outline t = refusal 41
+heardOn (Busy x) outline t = heardIn x outline t
 
-abbrev pub tickOn : Bench → Clock → Answer Exchange
+abbrev pub tickOn : Slot → Clock → Answer Exchange
 tickOn Idle t = refusal 41
 tickOn (Busy x) t = tickIn x t
 
@@ -182,8 +182,8 @@ endsWell (To x) = isWell (x .state)
 
 -- The whole answer for a line heard, by what reading the line answers. The reply is the telegram of the line by which the
 -- exchange ended well; where it did not, it is blank.
-abbrev pub heardOf : Bench → Answer Telegram → Clock → Heard
+abbrev pub heardOf : Slot → Answer Telegram → Clock → Heard
 heardOf b reading t = record {
-  stepped = shownStep (heardOn b (viewed reading) t);
-  reply = cond (endsWell (shownStep (heardOn b (viewed reading) t))) (shown reading .telegram) blank;
+  stepped = shownStep (heardOn b (outlined reading) t);
+  reply = cond (endsWell (shownStep (heardOn b (outlined reading) t))) (shown reading .telegram) blank;
 }

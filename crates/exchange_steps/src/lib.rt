@@ -4,18 +4,18 @@ ghost use mathlib.Core.Path.{_≡_};
 ghost use Rattle.base_rules.specs.Answers.{reads};
 ghost use Rattle.mbus_rules.specs.Lines.{readLine};
 ghost use Rattle.mbus_rules.specs.Telegrams.{blank};
-ghost use Rattle.mbus_rules.specs.Views.{viewed};
+ghost use Rattle.mbus_rules.specs.Outlines.{outlined};
 ghost use Rattle.exchange_steps.specs.Steps.{endsWell, heardIn, heardOf, heardOn, inProgress, moved, resentIn, sendEndedOn, sending, sentIn, shownStep};
 ghost use Rattle.exchange_steps.specs.Steps.{startWith, step, tickIn, tickOn};
 use base_rules::Outcome;
 use bench_clock::Clock;
+use mbus_reading::outlined;
 use mbus_reading::read_line;
-use mbus_reading::view_of;
 use mbus_rules::Kind;
+use mbus_rules::Outline;
 use mbus_rules::Reading;
 use mbus_rules::Request;
 use mbus_rules::Telegram;
-use mbus_rules::View;
 use mbus_telegrams::plain;
 use progress::has_ended;
 use requests::asks_for;
@@ -59,7 +59,7 @@ pub struct Exchange {
 }
 
 // Whether there is an exchange, in progress or ended: at first there is none.
-pub enum Bench {
+pub enum Slot {
     Idle,
     Busy(Exchange),
 }
@@ -117,14 +117,14 @@ fn reply_of(reading: Reading, well: bool) -> Telegram
 }
 
 // A new exchange, by what was sent.
-fn start_with(view: View, t: Clock) -> Stepped
-    ensures { λ r. ⌜ r ≡ shownStep (startWith view t) ⌝ }
+fn start_with(outline: Outline, t: Clock) -> Stepped
+    ensures { λ r. ⌜ r ≡ shownStep (startWith outline t) ⌝ }
 {
-    match view {
-        View::Refused(_) => Stepped::Refused(42),
-        View::Ack => Stepped::Refused(42),
-        View::Asks(request) => Stepped::To(sending(request, 1, t)),
-        View::Data(_) => Stepped::Refused(42),
+    match outline {
+        Outline::Refused(_) => Stepped::Refused(42),
+        Outline::Ack => Stepped::Refused(42),
+        Outline::Asks(request) => Stepped::To(sending(request, 1, t)),
+        Outline::Data(_) => Stepped::Refused(42),
     }
 }
 
@@ -155,16 +155,16 @@ impl Exchange {
         Stepped::Refused(41)
     }
 
-    // A line of this view heard at t.
-    fn seen(self, view: View, t: Clock) -> Stepped
-        ensures { λ r. ⌜ r ≡ shownStep (heardIn self view t) ⌝ }
+    // A line of this outline heard at t.
+    fn seen(self, outline: Outline, t: Clock) -> Stepped
+        ensures { λ r. ⌜ r ≡ shownStep (heardIn self outline t) ⌝ }
     {
         let request = self.request;
         let stood = self.state;
         let called = waits(stood);
         let began = self.began;
         let silent = began.late(t);
-        let state = after_line(request, self.sends, silent, view);
+        let state = after_line(request, self.sends, silent, outline);
         let next = self.moved(state, t);
         self.step(t, called, next)
     }
@@ -197,13 +197,13 @@ impl Exchange {
         self.step(t, false, self)
     }
 
-    // A resend of what the view is has ended at t; a different request is 43.
-    pub fn resent(self, view: View, t: Clock) -> Stepped
-        ensures { λ r. ⌜ r ≡ shownStep (resentIn self view t) ⌝ }
+    // A resend of what the outline is has ended at t; a different request is 43.
+    pub fn resent(self, outline: Outline, t: Clock) -> Stepped
+        ensures { λ r. ⌜ r ≡ shownStep (resentIn self outline t) ⌝ }
     {
         let request = self.request;
         let stepped = self.sent(t);
-        let same = asks_for(request, view);
+        let same = asks_for(request, outline);
         if same {
             return stepped;
         }
@@ -214,20 +214,20 @@ impl Exchange {
     }
 }
 
-impl Bench {
+impl Slot {
     // An exchange that has ended counts as none.
-    fn in_progress(self) -> Bench
+    fn in_progress(self) -> Slot
         ensures { λ r. ⌜ r ≡ inProgress self ⌝ }
     {
         match self {
-            Bench::Idle => Bench::Idle,
-            Bench::Busy(x) => {
+            Slot::Idle => Slot::Idle,
+            Slot::Busy(x) => {
                 let state = x.state;
                 let done = has_ended(state);
                 if done {
-                    return Bench::Idle;
+                    return Slot::Idle;
                 }
-                Bench::Busy(x)
+                Slot::Busy(x)
             }
         }
     }
@@ -235,26 +235,26 @@ impl Bench {
     // A send has ended at t: it begins an exchange where none is in progress, and is the next send of one that asks for a resend. Only the
     // telegram's kind, address and method are looked at: whether it can be written is the writer's to say.
     pub fn send_ended(self, telegram: Telegram, t: Clock) -> Stepped
-        ensures { λ r. ⌜ r ≡ shownStep (sendEndedOn self (viewed (reads telegram)) t) ⌝ }
+        ensures { λ r. ⌜ r ≡ shownStep (sendEndedOn self (outlined (reads telegram)) t) ⌝ }
     {
-        let view = view_of(Reading {
+        let outline = outlined(Reading {
             outcome: Outcome::Accepted,
             telegram,
         });
-        let bench = self.in_progress();
-        match bench {
-            Bench::Idle => start_with(view, t),
-            Bench::Busy(x) => x.resent(view, t),
+        let slot = self.in_progress();
+        match slot {
+            Slot::Idle => start_with(outline, t),
+            Slot::Busy(x) => x.resent(outline, t),
         }
     }
 
-    // A line of this view heard at t.
-    pub fn seen(self, view: View, t: Clock) -> Stepped
-        ensures { λ r. ⌜ r ≡ shownStep (heardOn self view t) ⌝ }
+    // A line of this outline heard at t.
+    pub fn seen(self, outline: Outline, t: Clock) -> Stepped
+        ensures { λ r. ⌜ r ≡ shownStep (heardOn self outline t) ⌝ }
     {
         match self {
-            Bench::Idle => Stepped::Refused(41),
-            Bench::Busy(x) => x.seen(view, t),
+            Slot::Idle => Stepped::Refused(41),
+            Slot::Busy(x) => x.seen(outline, t),
         }
     }
 
@@ -264,8 +264,8 @@ impl Bench {
         ensures { λ r. ⌜ r ≡ heardOf self (readLine (now (line .entry))) t ⌝ }
     {
         let reading = read_line(line);
-        let view = view_of(reading);
-        let stepped = self.seen(view, t);
+        let outline = outlined(reading);
+        let stepped = self.seen(outline, t);
         let well = ends_well(stepped);
         let reply = reply_of(reading, well);
         Heard { stepped, reply }
@@ -276,8 +276,8 @@ impl Bench {
         ensures { λ r. ⌜ r ≡ shownStep (tickOn self t) ⌝ }
     {
         match self {
-            Bench::Idle => Stepped::Refused(41),
-            Bench::Busy(x) => x.tick(t),
+            Slot::Idle => Stepped::Refused(41),
+            Slot::Busy(x) => x.tick(t),
         }
     }
 }

@@ -1,8 +1,8 @@
 // Whether a resend is of the request that the exchange was begun with.
 ghost use mathlib.Core.Path.{_≡_};
 ghost use Rattle.exchange_steps.specs.Steps.{asksFor, sameRequest};
+use mbus_rules::Outline;
 use mbus_rules::Request;
-use mbus_rules::View;
 
 fn same_request(request: Request, other: Request) -> bool
     ensures { λ r. ⌜ r ≡ sameRequest request other ⌝ }
@@ -27,13 +27,13 @@ fn same_request(request: Request, other: Request) -> bool
 }
 
 // Whether what was sent is the request.
-pub fn asks_for(request: Request, view: View) -> bool
-    ensures { λ r. ⌜ r ≡ asksFor request view ⌝ }
+pub fn asks_for(request: Request, outline: Outline) -> bool
+    ensures { λ r. ⌜ r ≡ asksFor request outline ⌝ }
 {
-    match view {
-        View::Refused(_) => false,
-        View::Ack => false,
-        View::Asks(other) => same_request(request, other),
-        View::Data(_) => false,
+    match outline {
+        Outline::Refused(_) => false,
+        Outline::Ack => false,
+        Outline::Asks(other) => same_request(request, other),
+        Outline::Data(_) => false,
     }
 }

@@ -4,21 +4,21 @@ ghost use Rattle.exchange_steps.specs.Steps.{afterLine, afterTick, asksR
 use crate::Cause;
 use crate::State;
 use exchange_replies::fits;
+use mbus_rules::Outline;
 use mbus_rules::Request;
-use mbus_rules::View;
 
 // The most sends of one exchange.
 const MOST: u8 = 3;
 
 // What a line that does not fit fails its send as.
-fn cause_of(view: View) -> Cause
-    ensures { λ r. ⌜ r ≡ causeOf view ⌝ }
+fn cause_of(outline: Outline) -> Cause
+    ensures { λ r. ⌜ r ≡ causeOf outline ⌝ }
 {
-    match view {
-        View::Refused(_) => Cause::Damaged,
-        View::Ack => Cause::WrongKind,
-        View::Asks(_) => Cause::WrongKind,
-        View::Data(_) => Cause::WrongKind,
+    match outline {
+        Outline::Refused(_) => Cause::Damaged,
+        Outline::Ack => Cause::WrongKind,
+        Outline::Asks(_) => Cause::WrongKind,
+        Outline::Data(_) => Cause::WrongKind,
     }
 }
 
@@ -34,17 +34,17 @@ fn failed(sends: u8, cause: Cause) -> State
 }
 
 // The state after a line heard while waiting.
-pub fn after_line(request: Request, sends: u8, silent: bool, view: View) -> State
-    ensures { λ r. ⌜ r ≡ afterLine request sends silent view ⌝ }
+pub fn after_line(request: Request, sends: u8, silent: bool, outline: Outline) -> State
+    ensures { λ r. ⌜ r ≡ afterLine request sends silent outline ⌝ }
 {
     if silent {
         return failed(sends, Cause::Silent);
     }
-    let fitting = fits(request, view);
+    let fitting = fits(request, outline);
     if fitting {
         return State::Well;
     }
-    failed(sends, cause_of(view))
+    failed(sends, cause_of(outline))
 }
 
 // The state after a tick while waiting.

@@ -1,24 +1,24 @@
 // Line checking for the bench host, a C program that calls it on bytes: include/skarrowith.h says how.
 ghost use mathlib.Core.Path.{_≡_};
 ghost use Rattle.mbus_rules.specs.Host.{hostNumber};
-ghost use Rattle.host_check.specs.Numbers.{viewNumber};
+ghost use Rattle.host_check.specs.Numbers.{outlineNumber};
 use mbus_reading::pairs::outline_of;
+use mbus_rules::Outline;
 use mbus_rules::Request;
-use mbus_rules::View;
 
 // The host's number of an outline.
-fn number_of(view: View) -> u32
-    ensures { λ r. ⌜ r ≡ viewNumber view ⌝ }
+fn number_of(outline: Outline) -> u32
+    ensures { λ r. ⌜ r ≡ outlineNumber outline ⌝ }
 {
-    match view {
-        View::Refused(n) => 256 + n as u32,
-        View::Ack => 1,
-        View::Asks(request) => match request {
+    match outline {
+        Outline::Refused(n) => 256 + n as u32,
+        Outline::Ack => 1,
+        Outline::Asks(request) => match request {
             Request::Read(_) => 2,
             Request::Enter(_, _) => 3,
             Request::Leave(_) => 4,
         },
-        View::Data(_) => 5,
+        Outline::Data(_) => 5,
     }
 }
 
@@ -30,6 +30,6 @@ pub extern "C" fn skarrowith_check_line(bytes: &[u8]) -> u32
     if bytes.len() % 2 == 1 {
         return 256 + 17;
     }
-    let view = outline_of(bytes);
-    number_of(view)
+    let outline = outline_of(bytes);
+    number_of(outline)
 }

@@ -8,9 +8,9 @@ use base_lent::store;
 use cjt_reading::pairs::outline_of;
 use cjt_reading::read_line;
 use cjt_records::cjt_bytes;
+use cjt_rules::CjtOutline;
 use cjt_rules::CjtReading;
 use cjt_rules::CjtTelegram;
-use cjt_rules::CjtView;
 
 // The host's number of a telegram.
 fn kind_number(telegram: CjtTelegram) -> u32
@@ -31,9 +31,9 @@ pub extern "C" fn skarrowith_cjt_check_line(bytes: &[u8]) -> u32
         return 256 + 17;
     }
     match outline_of(bytes) {
-        CjtView::Refused(n) => 256 + n as u32,
-        CjtView::Request => 1,
-        CjtView::Answer => 2,
+        CjtOutline::Refused(n) => 256 + n as u32,
+        CjtOutline::Request => 1,
+        CjtOutline::Answer => 2,
     }
 }
 

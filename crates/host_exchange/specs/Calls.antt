@@ -14,13 +14,13 @@ use Rattle.exchange_steps.specs.Histories.{Step, sendEnded, heard, tick, answer
 use Rattle.base_lent.specs.Lent.{Leaves, stored, needs}
 use Rattle.mbus_telegrams.specs.Kinds.{kindIn}
 use Rattle.mbus_records.specs.Telegrams.{telegramSize, telegramBytes}
-use Rattle.exchange_record.specs.Exchanges.{stateNumber, exchangeBytes, benchFrom}
+use Rattle.exchange_record.specs.Exchanges.{stateNumber, exchangeBytes, slotFrom}
 
 -- ---- what each call answers
 
 -- A step: 101 for the record, and then what the step answers.
 abbrev pub stepFor : List ℕ → Step → Answer Exchange
-stepFor b s = follow (benchFrom b) (λ x. answer x s)
+stepFor b s = follow (slotFrom b) (λ x. answer x s)
 
 -- The end of a send, of a request by its kind's number with address and method.
 abbrev pub sendEndedFor : List ℕ → ℕ → ℕ → ℕ → ℕ → Answer Exchange
@@ -31,7 +31,7 @@ tickFor b t = stepFor b (tick (record { 0 = t }))
 
 -- A line heard: 101, then 21 where the reply's record is too short, then what the step answers.
 abbrev pub heardFor : List ℕ → List ℕ → ℕ → List ℕ → Answer Exchange
-heardFor b line t reply = follow (benchFrom b) (λ x. needs telegramSize reply (answer x (heard line (record { 0 = t }))))
+heardFor b line t reply = follow (slotFrom b) (λ x. needs telegramSize reply (answer x (heard line (record { 0 = t }))))
 
 -- ---- what is left
 

@@ -8,9 +8,9 @@ ghost use Rattle.host_exchange.specs.Calls.{Answers, HearsReply, answerO
 use base_lent::store;
 use bench_clock::Clock;
 use exchange_record::Taken;
-use exchange_record::bench_from;
 use exchange_record::exchange_bytes;
-use exchange_steps::Bench;
+use exchange_record::slot_from;
+use exchange_steps::Slot;
 use exchange_steps::Stepped;
 use mbus_records::telegrams::telegram_bytes;
 use mbus_telegrams::bare;
@@ -33,12 +33,12 @@ fn keep(stepped: Stepped, kept: &mut [u8]) -> u32
 }
 
 // A line heard at t: keeps the exchange as it then stands, and the reply too where the line ended it well.
-fn hear(bench: Bench, line: &[u16], t: Clock, kept: &mut [u8], reply: &mut [u8]) -> u32
+fn hear(slot: Slot, line: &[u16], t: Clock, kept: &mut [u8], reply: &mut [u8]) -> u32
     requires { ⌜ (24 ≤ length (now kept)) × (136 ≤ length (now reply)) ⌝ }
-    ensures { λ r. ⌜ HearsReply (answer bench (heard (now (line .entry)) t)) (shown (readLine (now (line .entry))) .telegram) (now (kept .entry))
+    ensures { λ r. ⌜ HearsReply (answer slot (heard (now (line .entry)) t)) (shown (readLine (now (line .entry))) .telegram) (now (kept .entry))
         (now (kept .exit)) (now (reply .entry)) (now (reply .exit)) r ⌝ }
 {
-    let heard = bench.heard(line, t);
+    let heard = slot.heard(line, t);
     let stepped = heard.stepped;
     let answer = keep(stepped, kept);
     let well = answer == 3;
@@ -61,13 +61,13 @@ pub extern "C" fn skarrowith_exchange_send_ended(
 ) -> u32
     ensures { λ r. ⌜ Answers (sendEndedFor (now (kept .entry)) kind address method t) (now (kept .entry)) (now (kept .exit)) r ⌝ }
 {
-    let stood = bench_from(kept);
+    let stood = slot_from(kept);
     match stood {
         Taken::Refused(n) => 256 + n as u32,
-        Taken::Is(bench) => {
+        Taken::Is(slot) => {
             let kind = kind_in(kind);
             let telegram = bare(kind, address, method);
-            let stepped = bench.send_ended(telegram, Clock(t));
+            let stepped = slot.send_ended(telegram, Clock(t));
             keep(stepped, kept)
         }
     }
@@ -78,11 +78,11 @@ pub extern "C" fn skarrowith_exchange_send_ended(
 pub extern "C" fn skarrowith_exchange_tick(kept: &mut [u8], t: u64) -> u32
     ensures { λ r. ⌜ Answers (tickFor (now (kept .entry)) t) (now (kept .entry)) (now (kept .exit)) r ⌝ }
 {
-    let stood = bench_from(kept);
+    let stood = slot_from(kept);
     match stood {
         Taken::Refused(n) => 256 + n as u32,
-        Taken::Is(bench) => {
-            let stepped = bench.tick(Clock(t));
+        Taken::Is(slot) => {
+            let stepped = slot.tick(Clock(t));
             keep(stepped, kept)
         }
     }
@@ -99,15 +99,15 @@ pub extern "C" fn skarrowith_exchange_heard(
     ensures { λ r. ⌜ HearsReply (heardFor (now (kept .entry)) (now (line .entry)) t (now (reply .entry))) (shown (readLine (now (line .entry))) .telegram)
         (now (kept .entry)) (now (kept .exit)) (now (reply .entry)) (now (reply .exit)) r ⌝ }
 {
-    let stood = bench_from(kept);
+    let stood = slot_from(kept);
     match stood {
         Taken::Refused(n) => 256 + n as u32,
-        Taken::Is(bench) => {
+        Taken::Is(slot) => {
             let short = reply.len() < 136;
             if short {
                 return 256 + 21;
             }
-            hear(bench, line, Clock(t), kept, reply)
+            hear(slot, line, Clock(t), kept, reply)
         }
     }
 }

@@ -5,7 +5,7 @@ ghost use lib.ListN.{length};
 ghost use Rattle.base_rules.specs.Answers.{reads};
 ghost use Rattle.mbus_rules.specs.Lines.{readBody, readData};
 ghost use Rattle.mbus_rules.specs.Telegrams.{shown};
-ghost use Rattle.mbus_rules.specs.Views.{viewed};
+ghost use Rattle.mbus_rules.specs.Outlines.{outlined};
 ghost use Rattle.mbus_entries.specs.Walking.{entriesShown};
 ghost use Rattle.mbus_shape.specs.Shapes.{askedOf, frameBy};
 ghost use Rattle.mbus_reading.specs.Bodies.{bodyOf};
@@ -15,10 +15,10 @@ use mbus_entries::read_entries;
 use mbus_fields::headers::header_of;
 use mbus_fields::headers::wrong_header;
 use mbus_rules::Kind;
+use mbus_rules::Outline;
 use mbus_rules::Reading;
 use mbus_rules::Request;
 use mbus_rules::Telegram;
-use mbus_rules::View;
 use mbus_shape::shape_of;
 use mbus_telegrams::blank_entry;
 use mbus_telegrams::plain;
@@ -41,28 +41,28 @@ fn body_of(part: &[u8]) -> Entries
 }
 
 // The outline of a data telegram.
-fn outline_data(address: u8, part: &[u8]) -> View
+fn outline_data(address: u8, part: &[u8]) -> Outline
     requires { ⌜ 12 ≤ length (now part) ⌝ }
-    ensures { λ r. ⌜ r ≡ viewed (readData address (now (part .entry))) ⌝ }
+    ensures { λ r. ⌜ r ≡ outlined (readData address (now (part .entry))) ⌝ }
 {
     let body = body_of(part);
     let outcome = body.outcome;
     match outcome {
-        Outcome::Refused(n) => View::Refused(n),
-        Outcome::Accepted => View::Data(address),
+        Outcome::Refused(n) => Outline::Refused(n),
+        Outcome::Accepted => Outline::Data(address),
     }
 }
 
 // The rules 4 to 16 by the bytes and the sum of all of them, without a telegram.
-pub fn outline_in(bytes: &[u8], sum: u8) -> View
-    ensures { λ r. ⌜ r ≡ viewed (frameBy sum readBody (now (bytes .entry))) ⌝ }
+pub fn outline_in(bytes: &[u8], sum: u8) -> Outline
+    ensures { λ r. ⌜ r ≡ outlined (frameBy sum readBody (now (bytes .entry))) ⌝ }
 {
     let shape = shape_of(bytes, sum);
     match shape {
-        View::Data(address) => outline_data(address, &bytes[7..bytes.len() - 2]),
-        View::Refused(n) => View::Refused(n),
-        View::Ack => View::Ack,
-        View::Asks(request) => View::Asks(request),
+        Outline::Data(address) => outline_data(address, &bytes[7..bytes.len() - 2]),
+        Outline::Refused(n) => Outline::Refused(n),
+        Outline::Ack => Outline::Ack,
+        Outline::Asks(request) => Outline::Asks(request),
     }
 }
 
@@ -109,9 +109,9 @@ pub(crate) fn read_in(bytes: &[u8], sum: u8) -> Reading
 {
     let shape = shape_of(bytes, sum);
     match shape {
-        View::Data(address) => read_data(address, &bytes[7..bytes.len() - 2]),
-        View::Refused(n) => refused(n),
-        View::Ack => plain(Kind::Ack, 0, 0),
-        View::Asks(request) => asked(request),
+        Outline::Data(address) => read_data(address, &bytes[7..bytes.len() - 2]),
+        Outline::Refused(n) => refused(n),
+        Outline::Ack => plain(Kind::Ack, 0, 0),
+        Outline::Asks(request) => asked(request),
     }
 }

@@ -4,7 +4,7 @@ ghost use Prim.Native.Nat.{_≤_};
 ghost use lib.ListN.{length};
 ghost use Rattle.mbus_rules.specs.Lines.{readLine};
 ghost use Rattle.mbus_rules.specs.Telegrams.{shown};
-ghost use Rattle.mbus_rules.specs.Views.{viewed, viewIn};
+ghost use Rattle.mbus_rules.specs.Outlines.{outlined, outlineIn};
 ghost use Rattle.mbus_reading.specs.Taking.{TakenBytes};
 use base_characters::Gathering;
 use base_characters::line::gather;
@@ -14,9 +14,9 @@ use base_rules::Outcome;
 use body::outline_in;
 use body::read_in;
 use mbus_rules::Kind;
+use mbus_rules::Outline;
 use mbus_rules::Reading;
 use mbus_rules::Request;
-use mbus_rules::View;
 use mbus_telegrams::refused;
 use taking::MOST;
 use taking::far_of;
@@ -53,14 +53,14 @@ fn take_in(line: &[u16], out: &mut [u8]) -> Gathering
 }
 
 // Kind, address and method of a line, or what it is refused by.
-pub fn outline_of(line: &[u16]) -> View
-    ensures { λ r. ⌜ r ≡ viewed (readLine (now (line .entry))) ⌝ }
+pub fn outline_of(line: &[u16]) -> Outline
+    ensures { λ r. ⌜ r ≡ outlined (readLine (now (line .entry))) ⌝ }
 {
     let mut bytes = [0u8; MOST];
     let taken = take_in(line, &mut bytes);
     let outcome = taken.outcome;
     if let Outcome::Refused(n) = outcome {
-        return View::Refused(n);
+        return Outline::Refused(n);
     }
     let count = line.len();
     outline_in(&bytes[..count], taken.sum)
@@ -81,22 +81,22 @@ pub fn read_line(line: &[u16]) -> Reading
 }
 
 // The outline of what was read.
-pub fn view_of(reading: Reading) -> View
-    ensures { λ r. ⌜ r ≡ viewIn (reading .outcome) (reading .telegram) ⌝ }
+pub fn outlined(reading: Reading) -> Outline
+    ensures { λ r. ⌜ r ≡ outlineIn (reading .outcome) (reading .telegram) ⌝ }
 {
     let outcome = reading.outcome;
     if let Outcome::Refused(n) = outcome {
-        return View::Refused(n);
+        return Outline::Refused(n);
     }
     let telegram = reading.telegram;
     let address = telegram.address;
     let method = telegram.method;
     let kind = telegram.kind;
     match kind {
-        Kind::Ack => View::Ack,
-        Kind::Read => View::Asks(Request::Read(address)),
-        Kind::Enter => View::Asks(Request::Enter(address, method)),
-        Kind::Leave => View::Asks(Request::Leave(address)),
-        Kind::Data => View::Data(address),
+        Kind::Ack => Outline::Ack,
+        Kind::Read => Outline::Asks(Request::Read(address)),
+        Kind::Enter => Outline::Asks(Request::Enter(address, method)),
+        Kind::Leave => Outline::Asks(Request::Leave(address)),
+        Kind::Data => Outline::Data(address),
     }
 }

@@ -6,7 +6,7 @@ ghost use lib.ListN.{length};
 ghost use Rattle.base_characters.specs.Characters.{byteOf, chars};
 ghost use Rattle.mbus_rules.specs.Lines.{readLine};
 ghost use Rattle.base_rules.specs.Lists.{total};
-ghost use Rattle.mbus_rules.specs.Views.{viewed};
+ghost use Rattle.mbus_rules.specs.Outlines.{outlined};
 ghost use Rattle.mbus_reading.specs.Taking.{TakenBytes};
 use crate::body::outline_in;
 use crate::taking::MOST;
@@ -18,7 +18,7 @@ use base_characters::pairs::character_at;
 use base_characters::pairs::gather;
 use base_characters::pairs::soundness_of;
 use base_rules::Outcome;
-use mbus_rules::View;
+use mbus_rules::Outline;
 use mbus_shape::brief_shape;
 
 // So many characters at most have an ack and the short form, and no long form has so few. They are walked over one by one, which for few
@@ -49,52 +49,52 @@ fn take_few(bytes: &[u8], out: &mut [u8]) -> Outcome
 }
 
 // The outline of few characters. They have no header and no entries: their shape is all.
-fn outline_few(bytes: &[u8]) -> View
+fn outline_few(bytes: &[u8]) -> Outline
     requires { ⌜ length (now bytes) / 2 ≤ 5 ⌝ }
-    ensures { λ r. ⌜ r ≡ viewed (readLine (chars (now (bytes .entry)))) ⌝ }
+    ensures { λ r. ⌜ r ≡ outlined (readLine (chars (now (bytes .entry)))) ⌝ }
 {
     let count = bytes.len() / 2;
     if count == 0 {
-        return View::Refused(1);
+        return Outline::Refused(1);
     }
     let mut few = [0u8; FEW];
     let outcome = take_few(bytes, &mut few);
     if let Outcome::Refused(n) = outcome {
-        return View::Refused(n);
+        return Outline::Refused(n);
     }
     brief_shape(&few[..count])
 }
 
 // The outline of more than MOST characters, which no form has: no byte of them is stored.
-fn outline_far(bytes: &[u8]) -> View
+fn outline_far(bytes: &[u8]) -> Outline
     requires { ⌜ 261 < length (now bytes) / 2 ⌝ }
-    ensures { λ r. ⌜ r ≡ viewed (readLine (chars (now (bytes .entry)))) ⌝ }
+    ensures { λ r. ⌜ r ≡ outlined (readLine (chars (now (bytes .entry)))) ⌝ }
 {
     let sound = soundness_of(bytes);
     let first = character_at(bytes, 0);
     let number = far_of(sound, (first % 256) as u8);
-    View::Refused(number)
+    Outline::Refused(number)
 }
 
 // The outline of so many characters as a long form can have.
-fn outline_many(bytes: &[u8]) -> View
+fn outline_many(bytes: &[u8]) -> Outline
     requires { ⌜ (0 < length (now bytes) / 2) × (length (now bytes) / 2 ≤ 261) ⌝ }
-    ensures { λ r. ⌜ r ≡ viewed (readLine (chars (now (bytes .entry)))) ⌝ }
+    ensures { λ r. ⌜ r ≡ outlined (readLine (chars (now (bytes .entry)))) ⌝ }
 {
     let mut low = [0u8; MOST];
     write_apart(&mut low);
     let taken = gather(bytes, &mut low);
     let outcome = taken.outcome;
     if let Outcome::Refused(n) = outcome {
-        return View::Refused(n);
+        return Outline::Refused(n);
     }
     let count = bytes.len() / 2;
     outline_in(&low[..count], taken.sum)
 }
 
 // Kind, address and method of a line, or what it is refused by.
-pub fn outline_of(bytes: &[u8]) -> View
-    ensures { λ r. ⌜ r ≡ viewed (readLine (chars (now (bytes .entry)))) ⌝ }
+pub fn outline_of(bytes: &[u8]) -> Outline
+    ensures { λ r. ⌜ r ≡ outlined (readLine (chars (now (bytes .entry)))) ⌝ }
 {
     let count = bytes.len() / 2;
     if count <= FEW {

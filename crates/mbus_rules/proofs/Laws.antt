@@ -1,6 +1,6 @@
 -- What follows from the definitions, invariants of loops among it.
 pub mod Chain
-pub mod Views
+pub mod Outlines
 pub mod Frames
 pub mod LineCode
 pub mod FourFlips

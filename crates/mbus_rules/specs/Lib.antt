@@ -6,7 +6,7 @@ pub mod Quantities
 pub mod Entries
 pub mod Telegrams
 pub mod Lines
-pub mod Views
+pub mod Outlines
 pub mod Writing
 pub mod Host
 -- The chain before 02, 2026-05.

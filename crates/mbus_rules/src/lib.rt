@@ -93,7 +93,7 @@ pub enum Request {
 }
 
 // A reading as the two ends of an exchange look at it: a refused line, an ack, a request, or data from an address.
-pub enum View {
+pub enum Outline {
     Refused(u16),
     Ack,
     Asks(Request),

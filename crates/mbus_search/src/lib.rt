@@ -10,7 +10,7 @@ use base_characters::counts_odd;
 use base_characters::line::low_at;
 use mbus_reading::body::outline_in;
 use mbus_reading::taking::MOST;
-use mbus_rules::View;
+use mbus_rules::Outline;
 use mbus_shape::END;
 use mbus_shape::first::left_by;
 
@@ -38,12 +38,12 @@ fn is_ended(rest: &[u16], length: usize) -> bool
 fn is_accepted(bytes: &[u8], sum: u8) -> bool
     ensures { λ r. ⌜ r ≡ accepts (frameBy sum readBody (now (bytes .entry))) ⌝ }
 {
-    let view = outline_in(bytes, sum);
-    match view {
-        View::Refused(_) => false,
-        View::Ack => true,
-        View::Asks(_) => true,
-        View::Data(_) => true,
+    let outline = outline_in(bytes, sum);
+    match outline {
+        Outline::Refused(_) => false,
+        Outline::Ack => true,
+        Outline::Asks(_) => true,
+        Outline::Data(_) => true,
     }
 }
 

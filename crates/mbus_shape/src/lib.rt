@@ -6,12 +6,12 @@ ghost use lib.ListN.{length};
 ghost use Rattle.base_rules.specs.Answers.{refuse};
 ghost use Rattle.base_rules.specs.Lists.{at};
 ghost use Rattle.mbus_rules.specs.Lines.{isLong, isCommand, isData, wrongStart, wrongCount, readShort, readFrame};
-ghost use Rattle.mbus_rules.specs.Views.{viewed};
+ghost use Rattle.mbus_rules.specs.Outlines.{outlined};
 ghost use Rattle.mbus_shape.specs.Shapes.{shapeLong, shapeBody, endWrong, sumWrong, wholeWrong, frameBy};
 ghost use Rattle.mbus_shape.specs.Counts.{ShortCount, LongCount};
 use base_numbers::byte_at;
+use mbus_rules::Outline;
 use mbus_rules::Request;
-use mbus_rules::View;
 use mbus_telegrams::NO_METHOD;
 use mbus_telegrams::is_method;
 
@@ -100,106 +100,106 @@ fn is_data(field: &[u8]) -> bool
 }
 
 // 9 of the short form: C and A.
-fn short_shape(control: u8, address: u8) -> View
-    ensures { λ r. ⌜ r ≡ viewed (readShort (control ∷ address ∷ [])) ⌝ }
+fn short_shape(control: u8, address: u8) -> Outline
+    ensures { λ r. ⌜ r ≡ outlined (readShort (control ∷ address ∷ [])) ⌝ }
 {
     if control == 0x5B {
-        return View::Asks(Request::Read(address));
+        return Outline::Asks(Request::Read(address));
     }
-    View::Refused(9)
+    Outline::Refused(9)
 }
 
 // 9 of the long form: C, A, CI and S or what follows.
-fn long_shape(field: &[u8]) -> View
-    ensures { λ r. ⌜ r ≡ viewed (shapeLong (now (field .entry))) ⌝ }
+fn long_shape(field: &[u8]) -> Outline
+    ensures { λ r. ⌜ r ≡ outlined (shapeLong (now (field .entry))) ⌝ }
 {
     let address = byte_at(field, 1);
     if is_command(field) {
         let s = byte_at(field, 3);
         if s == NO_METHOD {
-            return View::Asks(Request::Leave(address));
+            return Outline::Asks(Request::Leave(address));
         }
-        return View::Asks(Request::Enter(address, s));
+        return Outline::Asks(Request::Enter(address, s));
     }
     if is_data(field) {
-        return View::Data(address);
+        return Outline::Data(address);
     }
-    View::Refused(9)
+    Outline::Refused(9)
 }
 
 // After 10, with the right count: 7 to 9.
-fn short_form(bytes: &[u8]) -> View
+fn short_form(bytes: &[u8]) -> Outline
     requires { ⌜ ShortCount (now bytes) ⌝ }
-    ensures { λ r. ⌜ r ≡ viewed (readFrame shapeBody (now (bytes .entry))) ⌝ }
+    ensures { λ r. ⌜ r ≡ outlined (readFrame shapeBody (now (bytes .entry))) ⌝ }
 {
     if wrong_end(bytes) {
-        return View::Refused(7);
+        return Outline::Refused(7);
     }
     let control = byte_at(bytes, 1);
     let address = byte_at(bytes, 2);
     let sum = std::num::wrapping_add_u8(control, address);
     if wrong_sum(bytes, sum) {
-        return View::Refused(8);
+        return Outline::Refused(8);
     }
     short_shape(control, address)
 }
 
 // After 68, with the right count: 6 to 9.
-fn long_form(bytes: &[u8], sum: u8) -> View
+fn long_form(bytes: &[u8], sum: u8) -> Outline
     requires { ⌜ LongCount (now bytes) ⌝ }
-    ensures { λ r. ⌜ r ≡ viewed (frameBy sum shapeBody (now (bytes .entry))) ⌝ }
+    ensures { λ r. ⌜ r ≡ outlined (frameBy sum shapeBody (now (bytes .entry))) ⌝ }
 {
     let second = byte_at(bytes, 1);
     let third = byte_at(bytes, 2);
     let fourth = byte_at(bytes, 3);
     if !(second == third) | !(fourth == LONG) {
-        return View::Refused(6);
+        return Outline::Refused(6);
     }
     if wrong_end(bytes) {
-        return View::Refused(7);
+        return Outline::Refused(7);
     }
     if wrong_whole(bytes, sum) {
-        return View::Refused(8);
+        return Outline::Refused(8);
     }
     let last = bytes.len() - 2;
     long_shape(&bytes[4..last])
 }
 
 // The rules 4 to 9 of what is too short for the long form, which is then 5.
-pub fn brief_shape(bytes: &[u8]) -> View
-    ensures { λ r. ⌜ r ≡ viewed (refuse 5 (isLong (now (bytes .entry))) (readFrame shapeBody (now (bytes .entry)))) ⌝ }
+pub fn brief_shape(bytes: &[u8]) -> Outline
+    ensures { λ r. ⌜ r ≡ outlined (refuse 5 (isLong (now (bytes .entry))) (readFrame shapeBody (now (bytes .entry)))) ⌝ }
 {
     let count = bytes.len();
     let first = byte_at(bytes, 0);
     if first == LONG {
-        return View::Refused(5);
+        return Outline::Refused(5);
     }
     if first == ACK {
         return if count == 1 {
-            View::Ack
+            Outline::Ack
         } else {
-            View::Refused(5)
+            Outline::Refused(5)
         };
     }
     if first != SHORT {
-        return View::Refused(4);
+        return Outline::Refused(4);
     }
     if count != 5 {
-        return View::Refused(5);
+        return Outline::Refused(5);
     }
     short_form(bytes)
 }
 
 // The rules 4 to 9, in this order, by the bytes and the sum of all of them. Header and entries of a data shape are not looked at.
-pub fn shape_of(bytes: &[u8], sum: u8) -> View
-    ensures { λ r. ⌜ r ≡ viewed (frameBy sum shapeBody (now (bytes .entry))) ⌝ }
+pub fn shape_of(bytes: &[u8], sum: u8) -> Outline
+    ensures { λ r. ⌜ r ≡ outlined (frameBy sum shapeBody (now (bytes .entry))) ⌝ }
 {
     let first = byte_at(bytes, 0);
     if first != LONG {
         return brief_shape(bytes);
     }
     if wrong_length(bytes) {
-        return View::Refused(5);
+        return Outline::Refused(5);
     }
     long_form(bytes, sum)
 }

@@ -6,11 +6,11 @@ use Rattle.bench_clock.specs.Times.{earlier}
 use Rattle.bench_clock.specs.declared.Clock.{Clock}
 use Rattle.mbus_rules.specs.declared.Request.{Request}
 use Rattle.mbus_rules.specs.declared.Request.the-variants.{Read, Enter, Leave}
-use Rattle.mbus_rules.specs.declared.View.{View}
-use Rattle.mbus_rules.specs.declared.View.the-variants as views
+use Rattle.mbus_rules.specs.declared.Outline.{Outline}
+use Rattle.mbus_rules.specs.declared.Outline.the-variants as outlines
 use Rattle.base_rules.specs.Answers.{Answer, reads, refusal}
 use Rattle.mbus_rules.specs.Lines.{readLine}
-use Rattle.mbus_rules.specs.Views.{viewed}
+use Rattle.mbus_rules.specs.Outlines.{outlined}
 use Rattle.meter_steps.specs.declared.Mode.{Mode}
 use Rattle.meter_steps.specs.declared.Mode.the-variants.{Use, Verifying}
 use Rattle.meter_steps.specs.declared.Meter.{Meter}
@@ -59,15 +59,15 @@ isLeave (Enter a s) = false
 isLeave (Leave a) = true
 
 -- an instruction that is such a request
-abbrev pub instructs : (Request → Bool) → ℕ → View → Bool
-instructs kind own (views.Refused n) = false
-instructs kind own views.Ack = false
-instructs kind own (views.Data a) = false
-instructs kind own (views.Asks q) = addressed own q && kind q
+abbrev pub instructs : (Request → Bool) → ℕ → Outline → Bool
+instructs kind own (outlines.Refused n) = false
+instructs kind own outlines.Ack = false
+instructs kind own (outlines.Data a) = false
+instructs kind own (outlines.Asks q) = addressed own q && kind q
 
 -- an accepted step with such an instruction
 abbrev pub obeys : (Request → Bool) → Meter → Event → Bool
-obeys kind m (hear line t) = not (earlier (m .last .0) (t .0)) && instructs kind (m .core .address) (viewed (readLine line))
+obeys kind m (hear line t) = not (earlier (m .last .0) (t .0)) && instructs kind (m .core .address) (outlined (readLine line))
 obeys kind m (measure v e t) = false
 
 abbrev pub inUse : Mode → Bool

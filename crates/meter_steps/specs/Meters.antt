@@ -9,12 +9,12 @@ use Rattle.base_rules.specs.declared.Outcome.the-variants as outcomes
 use Rattle.mbus_rules.specs.declared.Telegram.{Telegram}
 use Rattle.mbus_rules.specs.declared.Request.{Request}
 use Rattle.mbus_rules.specs.declared.Request.the-variants.{Read, Enter, Leave}
-use Rattle.mbus_rules.specs.declared.View.{View}
-use Rattle.mbus_rules.specs.declared.View.the-variants as views
+use Rattle.mbus_rules.specs.declared.Outline.{Outline}
+use Rattle.mbus_rules.specs.declared.Outline.the-variants as outlines
 use Rattle.base_rules.specs.Answers.{Answer, reads, refusal, refuse}
 use Rattle.mbus_rules.specs.Telegrams.{ack, blank}
 use Rattle.mbus_rules.specs.Lines.{readLine}
-use Rattle.mbus_rules.specs.Views.{viewed}
+use Rattle.mbus_rules.specs.Outlines.{outlined}
 use Rattle.meter_template.specs.declared.Pair.{Pair}
 use Rattle.meter_template.specs.Templates.{unfitTemplate, pairIn, raised, dataWith, overflows, plus}
 use Rattle.meter_steps.specs.declared.Mode.{Mode}
@@ -135,11 +135,11 @@ abbrev pub asked : Clock → Core → Request → Deed
 asked t c q = cond (addressed (c .address) q) (instructed t c q) (quiet c)
 
 -- Other lines get silence.
-abbrev pub hears : Clock → Core → View → Deed
-hears t c (views.Refused n) = quiet c
-hears t c views.Ack = quiet c
-hears t c (views.Data a) = quiet c
-hears t c (views.Asks q) = asked t c q
+abbrev pub hears : Clock → Core → Outline → Deed
+hears t c (outlines.Refused n) = quiet c
+hears t c outlines.Ack = quiet c
+hears t c (outlines.Data a) = quiet c
+hears t c (outlines.Asks q) = asked t c q
 
 -- ---- measure
 
@@ -161,7 +161,7 @@ measured c v e = refuse 71 (overflows (inForce c) v e) (reads (quiet (withForce 
 
 -- A line heard at t: 70, then the return, then the line.
 abbrev pub heardAt : Meter → List ℕ → Clock → Answer Deed
-heardAt m line t = refuse 70 (earlier (m .last .0) (t .0)) (reads (hears t (returned t (m .core)) (viewed (readLine line))))
+heardAt m line t = refuse 70 (earlier (m .last .0) (t .0)) (reads (hears t (returned t (m .core)) (outlined (readLine line))))
 
 -- Volume and energy measured at t: 70, then the return, then 71.
 abbrev pub measuredAt : Meter → ℕ → ℕ → Clock → Answer Deed

@@ -10,9 +10,9 @@ use crate::Reply;
 use crate::Step;
 use bench_clock::Clock;
 use mbus_rules::Kind;
+use mbus_rules::Outline;
 use mbus_rules::Request;
 use mbus_rules::Telegram;
-use mbus_rules::View;
 use mbus_telegrams::BROADCAST;
 use mbus_telegrams::plain;
 use meter_template::Pair;
@@ -212,12 +212,12 @@ impl Core {
         self.replies(t, Reply::Silence)
     }
 
-    // A line at t, by its view, after the return.
-    pub(crate) fn hears(self, view: View, t: Clock) -> Step
-        ensures { λ r. ⌜ r ≡ takenAt t (hears t (returned t self) view) ⌝ }
+    // A line at t, by its outline, after the return.
+    pub(crate) fn hears(self, outline: Outline, t: Clock) -> Step
+        ensures { λ r. ⌜ r ≡ takenAt t (hears t (returned t self) outline) ⌝ }
     {
         let now = self.returned(t);
-        if let View::Asks(request) = view {
+        if let Outline::Asks(request) = outline {
             return now.asked(request, t);
         }
         now.replies(t, Reply::Silence)

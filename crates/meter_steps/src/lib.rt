@@ -101,8 +101,8 @@ impl Meter {
         if back {
             return self.core.replies(self.last, Reply::Refused(70));
         }
-        let view = outline_of(line);
-        self.core.hears(view, t)
+        let outline = outline_of(line);
+        self.core.hears(outline, t)
     }
 
     // Volume and energy measured at t, as counts of the template's last digits.

@@ -7,11 +7,11 @@ use lib.ListN.{length}
 use Rattle.base_rules.specs.Lists.{any}
 use Rattle.base_characters.specs.Characters.{chars}
 use Rattle.mbus_rules.specs.Lines.{readLine}
-use Rattle.mbus_rules.specs.Views.{viewed}
+use Rattle.mbus_rules.specs.Outlines.{outlined}
 use Rattle.base_rules.specs.Answers.{Answer, reads, refuse, follow}
 use Rattle.mbus_rules.specs.declared.Request.the-variants.{Read, Enter, Leave}
-use Rattle.mbus_rules.specs.declared.View.{View}
-use Rattle.mbus_rules.specs.declared.View.the-variants.{Refused, Ack, Asks, Data}
+use Rattle.mbus_rules.specs.declared.Outline.{Outline}
+use Rattle.mbus_rules.specs.declared.Outline.the-variants.{Refused, Ack, Asks, Data}
 use Rattle.bench_clock.specs.Times.{late}
 use Rattle.bench_clock.specs.Wakes.{isWake}
 use Rattle.exchange_replies.specs.Fits.{fits}
@@ -26,8 +26,8 @@ abbrev pub isSent : Recorded → Bool
 isSent k = eqb (k .direction) 0
 
 -- what reading its line answers
-abbrev pub rowView : Recorded → View
-rowView k = viewed (readLine (chars (k .body)))
+abbrev pub rowOutline : Recorded → Outline
+rowOutline k = outlined (readLine (chars (k .body)))
 
 -- Only that position's rows are looked at, and wake rows in either direction are passed over.
 unfoldable pub looked : ℕ → Recorded → Bool
@@ -46,10 +46,10 @@ beginsFrom end k = leb end (k .time)
 -- It is the first row heard since that send which begins at or after its end, it begins at most 450 after that end, and it is data that
 -- fits the read.
 abbrev pub answersRead : ℕ → ℕ → List Recorded → Recorded → Bool
-answersRead address end since k = not (any (beginsFrom end) since) && beginsFrom end k && not (late end (k .time)) && fits (Read address) (rowView k)
+answersRead address end since k = not (any (beginsFrom end) since) && beginsFrom end k && not (late end (k .time)) && fits (Read address) (rowOutline k)
 
 -- The last sent row before it is an accepted read; after any other nothing counts.
-abbrev pub countsAfter : View → ℕ → List Recorded → Recorded → Bool
+abbrev pub countsAfter : Outline → ℕ → List Recorded → Recorded → Bool
 countsAfter (Asks (Read address)) end since k = answersRead address end since k
 countsAfter (Asks (Enter address method)) end since k = false
 countsAfter (Asks (Leave address)) end since k = false
@@ -60,7 +60,7 @@ countsAfter (Data address) end since k = false
 -- A row counts: it is heard, and behind the last sent row and the rows heard since it answers the one.
 abbrev pub counts : List Recorded → Recorded → Bool
 counts [] k = false
-counts (send ∷ since) k = isSent send && not (isSent k) && countsAfter (rowView send) (sendEnd send) since k
+counts (send ∷ since) k = isSent send && not (isSent k) && countsAfter (rowOutline send) (sendEnd send) since k
 
 -- the last sent row and the rows heard since, with one row more
 abbrev pub onward : List Recorded → Recorded → List Recorded

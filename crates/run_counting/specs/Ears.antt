@@ -5,11 +5,11 @@ use lib.ListN.{length}
 use mathlib.Core.Bool.{Bool, false, cond, not, _&&_}
 use lib.Dec.{ltb}
 use Rattle.mbus_rules.specs.declared.Request.the-variants.{Read, Enter, Leave}
-use Rattle.mbus_rules.specs.declared.View.{View}
-use Rattle.mbus_rules.specs.declared.View.the-variants.{Refused, Ack, Asks, Data}
+use Rattle.mbus_rules.specs.declared.Outline.{Outline}
+use Rattle.mbus_rules.specs.declared.Outline.the-variants.{Refused, Ack, Asks, Data}
 use Rattle.base_characters.specs.Characters.{chars}
 use Rattle.mbus_rules.specs.Lines.{readLine}
-use Rattle.mbus_rules.specs.Views.{viewed}
+use Rattle.mbus_rules.specs.Outlines.{outlined}
 use Rattle.bench_clock.specs.Times.{late}
 use Rattle.exchange_replies.specs.Fits.{fits}
 use Rattle.bundle_rows.specs.declared.Row.{Row}
@@ -18,10 +18,10 @@ use Rattle.bundle_check.specs.Records.{Recorded}
 use Rattle.run_counting.specs.declared.ear.Ear.{Ear}
 use Rattle.run_counting.specs.declared.ear.Ear.the-variants.{Deaf, Open}
 use Rattle.run_counting.specs.declared.ear.Turn.{Turn}
-use Rattle.run_counting.specs.Counting.{isSent, rowView, looked}
+use Rattle.run_counting.specs.Counting.{isSent, rowOutline, looked}
 
 -- after a sent row: open for the answer to an accepted read, from its end on
-abbrev pub earOpened : View → ℕ → Ear
+abbrev pub earOpened : Outline → ℕ → Ear
 earOpened (Asks (Read address)) end = Open address end
 earOpened (Asks (Enter address method)) end = Deaf
 earOpened (Asks (Leave address)) end = Deaf
@@ -31,24 +31,24 @@ earOpened (Data address) end = Deaf
 
 -- the same, from the start of the send's first character and its bytes
 abbrev pub openedAfter : ℕ → List ℕ → Ear
-openedAfter time body = earOpened (viewed (readLine (chars body))) (time + 11 * length (chars body))
+openedAfter time body = earOpened (outlined (readLine (chars body))) (time + 11 * length (chars body))
 
 -- a row that does not count
 abbrev pub uncounted : Ear → Turn
 uncounted ear = record { ear = ear; counts = false }
 
 -- the answer is in time and fits
-abbrev pub fitsInTime : ℕ → ℕ → ℕ → View → Bool
-fitsInTime address end t view = not (late end t) && fits (Read address) view
+abbrev pub fitsInTime : ℕ → ℕ → ℕ → Outline → Bool
+fitsInTime address end t outline = not (late end t) && fits (Read address) outline
 
 -- after a row heard at t: one that begins before the end is passed over, and the first other one decides
-abbrev pub heardBy : Ear → ℕ → View → Turn
-heardBy Deaf t view = uncounted Deaf
-heardBy (Open address end) t view = cond (ltb t end) (uncounted (Open address end)) (record { ear = Deaf; counts = fitsInTime address end t view })
+abbrev pub heardBy : Ear → ℕ → Outline → Turn
+heardBy Deaf t outline = uncounted Deaf
+heardBy (Open address end) t outline = cond (ltb t end) (uncounted (Open address end)) (record { ear = Deaf; counts = fitsInTime address end t outline })
 
 -- after a row that is looked at
 abbrev pub turnOf : Ear → Recorded → Turn
-turnOf ear k = cond (isSent k) (uncounted (openedAfter (k .time) (k .body))) (heardBy ear (k .time) (rowView k))
+turnOf ear k = cond (isSent k) (uncounted (openedAfter (k .time) (k .body))) (heardBy ear (k .time) (rowOutline k))
 
 -- after any row
 unfoldable pub passedBy : ℕ → Ear → Recorded → Turn

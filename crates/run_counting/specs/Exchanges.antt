@@ -8,7 +8,7 @@ use Rattle.exchange_steps.specs.declared.Exchange.{Exchange}
 use Rattle.exchange_steps.specs.Steps.{heardIn, shownStep, endsWell}
 use Rattle.exchange_steps.specs.Histories.{exchangeAfter}
 use Rattle.bundle_check.specs.Records.{Recorded}
-use Rattle.run_counting.specs.Counting.{rowView}
+use Rattle.run_counting.specs.Counting.{rowOutline}
 
 -- the time of a row on the line clock
 abbrev pub rowClock : ℕ → Clock
@@ -16,7 +16,7 @@ rowClock t = record { 0 = t }
 
 -- what the exchange answers to a row heard
 abbrev pub rowHeard : Exchange → Recorded → Answer Exchange
-rowHeard x k = heardIn x (rowView k) (rowClock (k .time))
+rowHeard x k = heardIn x (rowOutline k) (rowClock (k .time))
 
 -- the exchange after it was told of rows heard; a refused step leaves it as it stood
 unfoldable pub toldRows : Exchange → List Recorded → Exchange

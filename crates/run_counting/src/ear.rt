@@ -4,7 +4,7 @@ ghost use Prim.Native.Nat.{_+_, _≤_};
 ghost use lib.ListN.{length};
 ghost use Rattle.base_characters.specs.Characters.{chars};
 ghost use Rattle.mbus_rules.specs.Lines.{readLine};
-ghost use Rattle.mbus_rules.specs.Views.{viewed};
+ghost use Rattle.mbus_rules.specs.Outlines.{outlined};
 ghost use Rattle.bundle_rows.specs.Rows.{uncheckedRow};
 ghost use Rattle.run_counting.specs.Ears.{earOpened, openedAfter, fitsInTime, heardBy, rowWith, rowIn, passedBy};
 use crate::CHARACTER;
@@ -14,8 +14,8 @@ use bundle_rows::Row;
 use bundle_rows::unchecked_row;
 use exchange_replies::fits;
 use mbus_reading::pairs::outline_of;
+use mbus_rules::Outline;
 use mbus_rules::Request;
-use mbus_rules::View;
 
 // Nothing counts before the next accepted read; or the first row heard that begins at or after the end of the read's send decides.
 pub(crate) enum Ear {
@@ -30,18 +30,18 @@ pub(crate) struct Turn {
 }
 
 // After a sent row: open for the answer to an accepted read.
-fn opened(view: View, end: u64) -> Ear
-    ensures { λ r. ⌜ r ≡ earOpened view end ⌝ }
+fn opened(outline: Outline, end: u64) -> Ear
+    ensures { λ r. ⌜ r ≡ earOpened outline end ⌝ }
 {
-    match view {
-        View::Refused(_) => Ear::Deaf,
-        View::Ack => Ear::Deaf,
-        View::Asks(request) => match request {
+    match outline {
+        Outline::Refused(_) => Ear::Deaf,
+        Outline::Ack => Ear::Deaf,
+        Outline::Asks(request) => match request {
             Request::Read(address) => Ear::Open(address, end),
             Request::Enter(_, _) => Ear::Deaf,
             Request::Leave(_) => Ear::Deaf,
         },
-        View::Data(_) => Ear::Deaf,
+        Outline::Data(_) => Ear::Deaf,
     }
 }
 
@@ -56,7 +56,7 @@ fn opened_after(time: u32, body: &[u8]) -> Ear
 
 // Whether a line that begins at or after the end of the send is in time, and data that fits the read.
 fn fits_in_time(address: u8, end: u64, time: u32, body: &[u8]) -> bool
-    ensures { λ r. ⌜ r ≡ fitsInTime address end time (viewed (readLine (chars (now (body .entry))))) ⌝ }
+    ensures { λ r. ⌜ r ≡ fitsInTime address end time (outlined (readLine (chars (now (body .entry))))) ⌝ }
 {
     let ended = Clock(end);
     let late = ended.late(Clock(time as u64));
@@ -66,7 +66,7 @@ fn fits_in_time(address: u8, end: u64, time: u32, body: &[u8]) -> bool
 
 // After a row heard: one that begins before the end is passed over, and the first other one decides.
 fn heard_by(ear: Ear, time: u32, body: &[u8]) -> Turn
-    ensures { λ r. ⌜ r ≡ heardBy ear time (viewed (readLine (chars (now (body .entry))))) ⌝ }
+    ensures { λ r. ⌜ r ≡ heardBy ear time (outlined (readLine (chars (now (body .entry))))) ⌝ }
 {
     match ear {
         Ear::Deaf => Turn { ear, counts: false },

@@ -5,8 +5,8 @@ use mathlib.Core.List.{List, [], _∷_, _++_}
 use lib.Dec.{eqb}
 use Rattle.base_rules.specs.Answers.{Answer, reads, refusal}
 use Rattle.mbus_rules.specs.declared.Request.the-variants.{Read, Enter, Leave}
-use Rattle.mbus_rules.specs.declared.View.{View}
-use Rattle.mbus_rules.specs.declared.View.the-variants.{Refused, Ack, Asks, Data}
+use Rattle.mbus_rules.specs.declared.Outline.{Outline}
+use Rattle.mbus_rules.specs.declared.Outline.the-variants.{Refused, Ack, Asks, Data}
 use Rattle.run_listing.specs.declared.line_column.Column.{Column}
 use Rattle.run_listing.specs.declared.line_column.Column.the-variants.{Wake, Reads}
 use Rattle.run_listing.specs.LineColumn.{columnOf}
@@ -22,7 +22,7 @@ abbrev pub refusedText : ℕ → List ℕ
 refusedText n = text "refused " ++ decimal n
 
 -- the word for what reading answers
-abbrev pub wordFor : View → List ℕ
+abbrev pub wordFor : Outline → List ℕ
 wordFor (Refused n) = refusedText n
 wordFor Ack = text "ack"
 wordFor (Asks (Read a)) = text "read"
@@ -32,7 +32,7 @@ wordFor (Data a) = text "data"
 
 abbrev pub columnText : Column → List ℕ
 columnText Wake = text "wake"
-columnText (Reads view) = wordFor view
+columnText (Reads outline) = wordFor outline
 
 -- the line column
 unfoldable pub wordOf : List ℕ → List ℕ

@@ -4,12 +4,12 @@ ghost use Rattle.base_characters.specs.Characters.{chars};
 ghost use Rattle.run_listing.specs.LineColumn.{columnOf};
 use bench_clock::is_wake;
 use mbus_reading::pairs::outline_of;
-use mbus_rules::View;
+use mbus_rules::Outline;
 
 // What the line column says: wake, or the word for what reading answers.
 pub enum Column {
     Wake,
-    Reads(View),
+    Reads(Outline),
 }
 
 // What the column says of a body, two bytes a character. A wake-up is told before the line is read.

@@ -19,8 +19,8 @@ use crate::texts::with;
 use crate::texts::with_number;
 use base_lent::lay;
 use bundle_rows::unchecked_row;
+use mbus_rules::Outline;
 use mbus_rules::Request;
-use mbus_rules::View;
 
 // The word refused and the number.
 pub(crate) fn refused(n: u16) -> Line
@@ -31,18 +31,18 @@ pub(crate) fn refused(n: u16) -> Line
 }
 
 // The word for what reading answers.
-fn word_for(view: View) -> Line
-    ensures { λ r. ⌜ Holds 18 r (wordFor view) ⌝ }
+fn word_for(outline: Outline) -> Line
+    ensures { λ r. ⌜ Holds 18 r (wordFor outline) ⌝ }
 {
-    match view {
-        View::Refused(n) => refused(n),
-        View::Ack => begin(b"ack"),
-        View::Asks(request) => match request {
+    match outline {
+        Outline::Refused(n) => refused(n),
+        Outline::Ack => begin(b"ack"),
+        Outline::Asks(request) => match request {
             Request::Read(_) => begin(b"read"),
             Request::Enter(_, _) => begin(b"enter"),
             Request::Leave(_) => begin(b"leave"),
         },
-        View::Data(_) => begin(b"data"),
+        Outline::Data(_) => begin(b"data"),
     }
 }
 
@@ -52,7 +52,7 @@ pub(crate) fn word_of(body: &[u8]) -> Line
 {
     match column_of(body) {
         Column::Wake => begin(b"wake"),
-        Column::Reads(view) => word_for(view),
+        Column::Reads(outline) => word_for(outline),
     }
 }
 

@@ -5,20 +5,20 @@ use mathlib.Core.List.{List, [], _∷_, _++_}
 use mathlib.Core.Path.{_≡_}
 use lib.ListN.{length, take, drop}
 use Rattle.base_rules.specs.Answers.{Answer, reads, follow, within}
-use Rattle.mbus_rules.specs.declared.View.{View}
-use Rattle.mbus_rules.specs.declared.View.the-variants.{Refused, Ack, Asks, Data}
+use Rattle.mbus_rules.specs.declared.Outline.{Outline}
+use Rattle.mbus_rules.specs.declared.Outline.the-variants.{Refused, Ack, Asks, Data}
 use Rattle.base_lent.specs.Lent.{needs, stored}
 use Rattle.base_lent.specs.Same.{same}
 use Rattle.bundle_check.specs.declared.Checked.{Checked}
 use Rattle.bundle_check.specs.Bundles.{checkOf}
 use Rattle.bundle_check.specs.Records.{Recorded, recordsOf}
 use Rattle.bundle_check.specs.Shown.{shownChecked}
-use Rattle.run_counting.specs.Counting.{isSent, rowView}
+use Rattle.run_counting.specs.Counting.{isSent, rowOutline}
 
 -- ---- one row
 
 -- its line reads as data
-abbrev pub tellsData : View → Bool
+abbrev pub tellsData : Outline → Bool
 tellsData (Refused n) = false
 tellsData Ack = false
 tellsData (Asks request) = false
@@ -26,7 +26,7 @@ tellsData (Data address) = true
 
 -- A row gives a reading: it was heard, at whatever position, and its line reads as data.
 abbrev pub givesReading : Recorded → Bool
-givesReading k = not (isSent k) && tellsData (rowView k)
+givesReading k = not (isSent k) && tellsData (rowOutline k)
 
 -- 01, "Header": the meter number, 4 bytes behind 68 L L 68 08 A 72. A body has two bytes a character.
 abbrev pub numberPart : List ℕ → List ℕ

@@ -11,17 +11,17 @@ use base_lent::is_same;
 use bundle_rows::Row;
 use bundle_rows::unchecked_row;
 use mbus_reading::pairs::outline_of;
-use mbus_rules::View;
+use mbus_rules::Outline;
 
 // The line reads as data.
-fn tells_data(view: View) -> bool
-    ensures { λ r. ⌜ r ≡ tellsData view ⌝ }
+fn tells_data(outline: Outline) -> bool
+    ensures { λ r. ⌜ r ≡ tellsData outline ⌝ }
 {
-    match view {
-        View::Refused(_) => false,
-        View::Ack => false,
-        View::Asks(_) => false,
-        View::Data(_) => true,
+    match outline {
+        Outline::Refused(_) => false,
+        Outline::Ack => false,
+        Outline::Asks(_) => false,
+        Outline::Data(_) => true,
     }
 }
 

@@ -5,36 +5,36 @@ use mathlib.Core.List.{List, [], _∷_}
 use lib.Dec.{ltb}
 use Rattle.base_rules.specs.Lists.{any}
 use Rattle.mbus_rules.specs.declared.Request.the-variants.{Read, Enter, Leave}
-use Rattle.mbus_rules.specs.declared.View.{View}
-use Rattle.mbus_rules.specs.declared.View.the-variants as views
+use Rattle.mbus_rules.specs.declared.Outline.{Outline}
+use Rattle.mbus_rules.specs.declared.Outline.the-variants as outlines
 use Rattle.bench_clock.specs.Times.{late}
 use Rattle.bundle_check.specs.Records.{Recorded}
 use Rattle.bundle_check.specs.Walks.{endOf}
-use Rattle.run_counting.specs.Counting.{isSent, rowView, sendEnd, beginsFrom, onward, lookedAt}
+use Rattle.run_counting.specs.Counting.{isSent, rowOutline, sendEnd, beginsFrom, onward, lookedAt}
 use Rattle.run_verdicts.specs.declared.Verdict.{Verdict}
 use Rattle.run_verdicts.specs.declared.Verdict.the-variants.{Wake, First, Resend, Refused, Counts, LeftOver, Late, Second, Damaged, WrongKind, Unasked}
-use Rattle.run_verdicts.specs.Verdicts.{decidedBy, verdictAfter, benchOf}
+use Rattle.run_verdicts.specs.Verdicts.{decidedBy, verdictAfter, slotOf}
 
 -- the verdict of a row behind others
 abbrev pub verdictBehind : List Recorded → Recorded → Verdict
-verdictBehind before k = verdictAfter (benchOf (k .position) before) k
+verdictBehind before k = verdictAfter (slotOf (k .position) before) k
 
 -- the last sent row of a position and the rows heard since, of all rows that are looked at
 abbrev pub stretchOf : ℕ → List Recorded → List Recorded
 stretchOf position before = endOf onward [] (lookedAt position before)
 
 -- After an accepted request it is left over if it begins before the end of the send, second if a row heard since does not, and else decides.
-abbrev pub heardSince : View → ℕ → List Recorded → Recorded → Verdict
-heardSince (views.Asks request) end since k =
-    cond (ltb (k .time) end) LeftOver (cond (any (beginsFrom end) since) Second (decidedBy request (late end (k .time)) (rowView k)))
-heardSince (views.Refused n) end since k = Unasked
-heardSince views.Ack end since k = Unasked
-heardSince (views.Data answers) end since k = Unasked
+abbrev pub heardSince : Outline → ℕ → List Recorded → Recorded → Verdict
+heardSince (outlines.Asks request) end since k =
+    cond (ltb (k .time) end) LeftOver (cond (any (beginsFrom end) since) Second (decidedBy request (late end (k .time)) (rowOutline k)))
+heardSince (outlines.Refused n) end since k = Unasked
+heardSince outlines.Ack end since k = Unasked
+heardSince (outlines.Data answers) end since k = Unasked
 
 -- Where nothing was sent it was not asked for.
 abbrev pub heardBehind : List Recorded → Recorded → Verdict
 heardBehind [] k = Unasked
-heardBehind (send ∷ since) k = cond (isSent send) (heardSince (rowView send) (sendEnd send) since k) Unasked
+heardBehind (send ∷ since) k = cond (isSent send) (heardSince (rowOutline send) (sendEnd send) since k) Unasked
 
 -- the verdict is that it counts
 abbrev pub isCounts : Verdict → Bool
@@ -51,15 +51,15 @@ isCounts WrongKind = false
 isCounts Unasked = false
 
 -- what was sent is an accepted read
-abbrev pub readSent : View → Bool
-readSent (views.Asks (Read address)) = true
-readSent (views.Asks (Enter address method)) = false
-readSent (views.Asks (Leave address)) = false
-readSent (views.Refused n) = false
-readSent views.Ack = false
-readSent (views.Data answers) = false
+abbrev pub readSent : Outline → Bool
+readSent (outlines.Asks (Read address)) = true
+readSent (outlines.Asks (Enter address method)) = false
+readSent (outlines.Asks (Leave address)) = false
+readSent (outlines.Refused n) = false
+readSent outlines.Ack = false
+readSent (outlines.Data answers) = false
 
 -- the last sent row is one
 abbrev pub asksRead : List Recorded → Bool
 asksRead [] = false
-asksRead (send ∷ since) = isSent send && readSent (rowView send)
+asksRead (send ∷ since) = isSent send && readSent (rowOutline send)

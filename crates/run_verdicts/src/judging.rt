@@ -3,7 +3,7 @@ ghost use mathlib.Core.Path.{_≡_};
 ghost use Prim.Native.Nat.{_≤_};
 ghost use lib.ListN.{length};
 ghost use Rattle.run_counting.specs.Ears.{rowWith};
-ghost use Rattle.mbus_rules.specs.declared.View.the-variants.{Asks};
+ghost use Rattle.mbus_rules.specs.declared.Outline.the-variants.{Asks};
 ghost use Rattle.run_verdicts.specs.Verdicts.{unfitting, decidedBy, heardVerdict, afterHeard, waited};
 ghost use Rattle.run_verdicts.specs.Judging.{judgedOf, unsentAs, firstAs, sentBy};
 use crate::Verdict;
@@ -11,54 +11,54 @@ use bench_clock::Clock;
 use bench_clock::is_wake;
 use bundle_rows::Row;
 use exchange_replies::fits;
-use exchange_steps::Bench;
 use exchange_steps::Exchange;
+use exchange_steps::Slot;
 use exchange_steps::State;
 use exchange_steps::Stepped;
 use mbus_reading::pairs::outline_of;
+use mbus_rules::Outline;
 use mbus_rules::Request;
-use mbus_rules::View;
 use run_counting::CHARACTER;
 
 // The verdict of a row, and the exchange of its position behind it.
 pub(crate) struct Judged {
     pub(crate) verdict: Verdict,
-    pub(crate) bench: Bench,
+    pub(crate) slot: Slot,
 }
 
 // What a line is that does not fit.
-fn unfitting(view: View) -> Verdict
-    ensures { λ r. ⌜ r ≡ unfitting view ⌝ }
+fn unfitting(outline: Outline) -> Verdict
+    ensures { λ r. ⌜ r ≡ unfitting outline ⌝ }
 {
-    match view {
-        View::Refused(n) => Verdict::Damaged(n),
-        View::Ack => Verdict::WrongKind,
-        View::Asks(_) => Verdict::WrongKind,
-        View::Data(_) => Verdict::WrongKind,
+    match outline {
+        Outline::Refused(n) => Verdict::Damaged(n),
+        Outline::Ack => Verdict::WrongKind,
+        Outline::Asks(_) => Verdict::WrongKind,
+        Outline::Data(_) => Verdict::WrongKind,
     }
 }
 
 // What the line is that decides a send.
-fn decided_by(request: Request, silent: bool, view: View) -> Verdict
-    ensures { λ r. ⌜ r ≡ decidedBy request silent view ⌝ }
+fn decided_by(request: Request, silent: bool, outline: Outline) -> Verdict
+    ensures { λ r. ⌜ r ≡ decidedBy request silent outline ⌝ }
 {
     if silent {
         return Verdict::Late;
     }
-    let fitting = fits(request, view);
+    let fitting = fits(request, outline);
     if fitting {
         return Verdict::Counts;
     }
-    unfitting(view)
+    unfitting(outline)
 }
 
 // What a line heard is.
-fn heard_verdict(bench: Bench, view: View, t: Clock) -> Verdict
-    ensures { λ r. ⌜ r ≡ heardVerdict bench view t ⌝ }
+fn heard_verdict(slot: Slot, outline: Outline, t: Clock) -> Verdict
+    ensures { λ r. ⌜ r ≡ heardVerdict slot outline t ⌝ }
 {
-    match bench {
-        Bench::Idle => Verdict::Unasked,
-        Bench::Busy(x) => {
+    match slot {
+        Slot::Idle => Verdict::Unasked,
+        Slot::Busy(x) => {
             let began = x.began;
             let early = began.earlier(t);
             if early {
@@ -69,7 +69,7 @@ fn heard_verdict(bench: Bench, view: View, t: Clock) -> Verdict
                 State::Waiting => {
                     let request = x.request;
                     let silent = began.late(t);
-                    decided_by(request, silent, view)
+                    decided_by(request, silent, outline)
                 },
                 State::Resend(_) => Verdict::Second,
                 State::Well => Verdict::Second,
@@ -80,22 +80,22 @@ fn heard_verdict(bench: Bench, view: View, t: Clock) -> Verdict
 }
 
 // The exchange behind a line heard.
-fn after_heard(bench: Bench, view: View, t: Clock) -> Bench
-    ensures { λ r. ⌜ r ≡ afterHeard bench view t ⌝ }
+fn after_heard(slot: Slot, outline: Outline, t: Clock) -> Slot
+    ensures { λ r. ⌜ r ≡ afterHeard slot outline t ⌝ }
 {
-    match bench.seen(view, t) {
-        Stepped::To(x) => Bench::Busy(x),
-        Stepped::Refused(_) => bench,
+    match slot.seen(outline, t) {
+        Stepped::To(x) => Slot::Busy(x),
+        Stepped::Refused(_) => slot,
     }
 }
 
 // The exchange at the start of a send.
-fn waited(bench: Bench, t: Clock) -> Bench
-    ensures { λ r. ⌜ r ≡ waited bench t ⌝ }
+fn waited(slot: Slot, t: Clock) -> Slot
+    ensures { λ r. ⌜ r ≡ waited slot t ⌝ }
 {
-    match bench.tick(t) {
-        Stepped::To(x) => Bench::Busy(x),
-        Stepped::Refused(_) => bench,
+    match slot.tick(t) {
+        Stepped::To(x) => Slot::Busy(x),
+        Stepped::Refused(_) => slot,
     }
 }
 
@@ -105,7 +105,7 @@ fn unsent(n: u16) -> Judged
 {
     Judged {
         verdict: Verdict::Refused(n),
-        bench: Bench::Idle,
+        slot: Slot::Idle,
     }
 }
 
@@ -122,20 +122,20 @@ fn first(request: Request, end: Clock) -> Judged
     };
     Judged {
         verdict: Verdict::First,
-        bench: Bench::Busy(begun),
+        slot: Slot::Busy(begun),
     }
 }
 
 // A request, which is a resend where the exchange takes it as one.
-fn asked(bench: Bench, request: Request, end: Clock) -> Judged
-    ensures { λ r. ⌜ r ≡ sentBy bench (Asks request) end ⌝ }
+fn asked(slot: Slot, request: Request, end: Clock) -> Judged
+    ensures { λ r. ⌜ r ≡ sentBy slot (Asks request) end ⌝ }
 {
-    match bench {
-        Bench::Idle => first(request, end),
-        Bench::Busy(x) => match x.resent(View::Asks(request), end) {
+    match slot {
+        Slot::Idle => first(request, end),
+        Slot::Busy(x) => match x.resent(Outline::Asks(request), end) {
             Stepped::To(y) => Judged {
                 verdict: Verdict::Resend,
-                bench: Bench::Busy(y),
+                slot: Slot::Busy(y),
             },
             Stepped::Refused(_) => first(request, end),
         },
@@ -143,38 +143,38 @@ fn asked(bench: Bench, request: Request, end: Clock) -> Judged
 }
 
 // What a line sent is.
-fn sent(bench: Bench, view: View, end: Clock) -> Judged
-    ensures { λ r. ⌜ r ≡ sentBy bench view end ⌝ }
+fn sent(slot: Slot, outline: Outline, end: Clock) -> Judged
+    ensures { λ r. ⌜ r ≡ sentBy slot outline end ⌝ }
 {
-    match view {
-        View::Refused(n) => unsent(n),
-        View::Ack => unsent(42),
-        View::Asks(request) => asked(bench, request, end),
-        View::Data(_) => unsent(42),
+    match outline {
+        Outline::Refused(n) => unsent(n),
+        Outline::Ack => unsent(42),
+        Outline::Asks(request) => asked(slot, request, end),
+        Outline::Data(_) => unsent(42),
     }
 }
 
 // Any row with its body.
-pub(crate) fn judge(bench: Bench, row: Row, body: &[u8]) -> Judged
+pub(crate) fn judge(slot: Slot, row: Row, body: &[u8]) -> Judged
     requires { ⌜ length (now body) ≤ 65535 ⌝ }
-    ensures { λ r. ⌜ r ≡ judgedOf bench (rowWith row (now (body .entry))) ⌝ }
+    ensures { λ r. ⌜ r ≡ judgedOf slot (rowWith row (now (body .entry))) ⌝ }
 {
     let wake = is_wake(body);
     if wake {
         return Judged {
             verdict: Verdict::Wake,
-            bench,
+            slot,
         };
     }
     let t = Clock(row.time as u64);
-    let view = outline_of(body);
+    let outline = outline_of(body);
     let direction_sent = row.direction == 0;
     if direction_sent {
         let end = Clock(row.time as u64 + CHARACTER * (body.len() / 2) as u64);
-        return sent(waited(bench, t), view, end);
+        return sent(waited(slot, t), outline, end);
     }
     Judged {
-        verdict: heard_verdict(bench, view, t),
-        bench: after_heard(bench, view, t),
+        verdict: heard_verdict(slot, outline, t),
+        slot: after_heard(slot, outline, t),
     }
 }

@@ -17,7 +17,7 @@ use bundle_columns::row;
 use bundle_rows::MOST_ROWS;
 use bundle_rows::Row;
 use bundle_rows::unchecked_row;
-use exchange_steps::Bench;
+use exchange_steps::Slot;
 
 // Row i of columns, or of a bundle; blank where there is none.
 pub(crate) fn row_from(kept: bool, contents: &[u8], i: usize) -> Row
@@ -33,13 +33,13 @@ pub(crate) fn row_from(kept: bool, contents: &[u8], i: usize) -> Row
 }
 
 // A row whose body lies in the bundle.
-fn judge_in(bench: Bench, row: Row, bundle: &[u8]) -> Judged
+fn judge_in(slot: Slot, row: Row, bundle: &[u8]) -> Judged
     requires { ⌜ row .offset + row .length ≤ length (now bundle) ⌝ }
-    ensures { λ r. ⌜ r ≡ judgedOf bench (rowWith row (bodyIn (now (bundle .entry)) row)) ⌝ }
+    ensures { λ r. ⌜ r ≡ judgedOf slot (rowWith row (bodyIn (now (bundle .entry)) row)) ⌝ }
 {
     let at = row.offset as usize;
     let end = at + row.length as usize;
-    judge(bench, row, &bundle[at..end])
+    judge(slot, row, &bundle[at..end])
 }
 
 // The verdicts of so many rows, each by the exchange of its position, and `Unasked` in the places behind them.
@@ -47,7 +47,7 @@ pub(crate) fn walk(kept: bool, contents: &[u8], bundle: &[u8], count: usize) -> 
     requires { ⌜ Walkable kept (now contents) (now bundle) count ⌝ }
     ensures { λ r. ⌜ r ≡ inPlaces (verdictsOf (recordsFrom kept (now (contents .entry)) (now (bundle .entry)) count)) ⌝ }
 {
-    let mut benches = [Bench::Idle; 49];
+    let mut slots = [Slot::Idle; 49];
     let blank = Ruling {
         verdict: Verdict::Unasked,
     };
@@ -55,12 +55,12 @@ pub(crate) fn walk(kept: bool, contents: &[u8], bundle: &[u8], count: usize) -> 
     for i in 0..count {
         let row = row_from(kept, contents, i);
         let position = row.position as usize;
-        let bench = benches[position];
-        let judged = judge_in(bench, row, bundle);
+        let slot = slots[position];
+        let judged = judge_in(slot, row, bundle);
         let verdict = judged.verdict;
         rulings[i] = Ruling { verdict };
-        let next = judged.bench;
-        benches[position] = next;
+        let next = judged.slot;
+        slots[position] = next;
     }
     rulings
 }

@@ -10,13 +10,13 @@ use Rattle.mbus_rules.specs.declared.Kind.the-variants as kinds
 use Rattle.mbus_rules.specs.declared.Request.{Request}
 use Rattle.mbus_rules.specs.declared.Request.the-variants.{Read, Enter, Leave}
 use Rattle.mbus_rules.specs.declared.Telegram.{Telegram}
-use Rattle.mbus_rules.specs.declared.View.the-variants as views
+use Rattle.mbus_rules.specs.declared.Outline.the-variants as outlines
 use Rattle.base_rules.specs.Answers.{Answer, reads, refusal}
 use Rattle.base_characters.specs.Flips.{Place, flips}
 use Rattle.base_rules.specs.Lists.{any}
 use Rattle.mbus_rules.specs.Lines.{readLine, isMethod}
 use Rattle.mbus_rules.specs.Telegrams.{enterOf, leaveOf}
-use Rattle.mbus_rules.specs.Views.{viewed}
+use Rattle.mbus_rules.specs.Outlines.{outlined}
 use Rattle.mbus_rules.specs.Writing.{unwritable}
 use Rattle.mbus_rules.proofs.Laws.LineCode.{accepted-is-sent}
 use Rattle.mbus_rules.proofs.Laws.LineLaws.{bare-sized}
@@ -50,40 +50,40 @@ leave-readable a h = write-then-read (leaveOf a) (bare-sized kinds.Leave a 0 h) 
 
 -- ---- what arrives
 
-pub asked-viewed : (q : Request) → viewed (reads (askedOf q)) ≡ views.Asks q
-asked-viewed (Read a) = refl
-asked-viewed (Enter a s) = refl
-asked-viewed (Leave a) = refl
+pub asked-outlined : (q : Request) → outlined (reads (askedOf q)) ≡ outlines.Asks q
+asked-outlined (Read a) = refl
+asked-outlined (Enter a s) = refl
+asked-outlined (Leave a) = refl
 
-pub whole-viewed : (q : Request) → Readable q → viewed (readLine (requestLine q)) ≡ views.Asks q
-whole-viewed q readable = ap viewed readable ∙ asked-viewed q
+pub whole-outlined : (q : Request) → Readable q → outlined (readLine (requestLine q)) ≡ outlines.Asks q
+whole-outlined q readable = ap outlined readable ∙ asked-outlined q
 
 module _ (q : Request) (readable : Readable q) (ps : List Place) (few : UpToThree (requestLine q) ps) where
   -- A line with up to three flips that is accepted is the line that was sent.
-  pub arrives : (viewed (readLine (flips ps (requestLine q))) ≡ views.Asks q) ⊎ ((n : ℕ) × (viewed (readLine (flips ps (requestLine q))) ≡ views.Refused n))
+  pub arrives : (outlined (readLine (flips ps (requestLine q))) ≡ outlines.Asks q) ⊎ ((n : ℕ) × (outlined (readLine (flips ps (requestLine q))) ≡ outlines.Refused n))
   arrives = go (readLine (flips ps (requestLine q))) refl
     where
       go : (a : Answer Telegram) → readLine (flips ps (requestLine q)) ≡ a
-          → (viewed (readLine (flips ps (requestLine q))) ≡ views.Asks q) ⊎ ((n : ℕ) × (viewed (readLine (flips ps (requestLine q))) ≡ views.Refused n))
-      go (refusal n) e = inr (n, ap viewed e)
+          → (outlined (readLine (flips ps (requestLine q))) ≡ outlines.Asks q) ⊎ ((n : ℕ) × (outlined (readLine (flips ps (requestLine q))) ≡ outlines.Refused n))
+      go (refusal n) e = inr (n, ap outlined e)
       go (reads x) e =
           let same = accepted-is-sent (requestLine q) ps (askedOf q, readable) (few .places) (few .few) (x, e) in
-          inl (ap (λ (s : List ℕ). viewed (readLine s)) same ∙ whole-viewed q readable)
+          inl (ap (λ (s : List ℕ). outlined (readLine s)) same ∙ whole-outlined q readable)
 
 -- ---- what the meter makes of it
 
 module _ (m : Meter) (line : List ℕ) (t : Clock) (in-time : m .last .0 ≤ t .0) where
   -- A damaged line gets silence, and nothing but the return happens;
-  damaged-quiet : (n : ℕ) → viewed (readLine line) ≡ views.Refused n → ownEnds .hears m line t ≡ reads (quiet (returned t (m .core)))
+  damaged-quiet : (n : ℕ) → outlined (readLine line) ≡ outlines.Refused n → ownEnds .hears m line t ≡ reads (quiet (returned t (m .core)))
   damaged-quiet n refused = rw (le-ltb (t .0) (m .last .0) in-time, refused)
 
   -- a request to another address likewise;
-  unasked-quiet : (q : Request) → viewed (readLine line) ≡ views.Asks q → addressed (m .core .address) q ≡ false
+  unasked-quiet : (q : Request) → outlined (readLine line) ≡ outlines.Asks q → addressed (m .core .address) q ≡ false
       → ownEnds .hears m line t ≡ reads (quiet (returned t (m .core)))
   unasked-quiet q asks other = rw (le-ltb (t .0) (m .last .0) in-time, asks, other)
 
   -- an instruction is obeyed.
-  pub whole-obeyed : (q : Request) → viewed (readLine line) ≡ views.Asks q → addressed (m .core .address) q ≡ true
+  pub whole-obeyed : (q : Request) → outlined (readLine line) ≡ outlines.Asks q → addressed (m .core .address) q ≡ true
       → ownEnds .hears m line t ≡ reads (instructed t (returned t (m .core)) q)
   whole-obeyed q asks own = rw (le-ltb (t .0) (m .last .0) in-time, asks, own)
 

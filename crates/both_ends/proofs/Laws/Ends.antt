@@ -13,7 +13,7 @@ use Rattle.bench_clock.specs.Times.{replyTime, returnTime}
 use Rattle.bench_clock.proofs.Laws.Times.{le-late}
 use Rattle.mbus_rules.specs.declared.Request.{Request}
 use Rattle.mbus_rules.specs.declared.Request.the-variants.{Read, Enter, Leave}
-use Rattle.mbus_rules.specs.declared.View.the-variants as views
+use Rattle.mbus_rules.specs.declared.Outline.the-variants as outlines
 use Rattle.base_rules.specs.Answers.{Answer, reads}
 use Rattle.base_characters.specs.Characters.{odd, carrier}
 use Rattle.base_characters.specs.Flips.{Place, flips}
@@ -35,7 +35,7 @@ use Rattle.both_ends.specs.Line.{meterHears, atBench, happens, happened,
 use Rattle.both_ends.specs.Hypotheses.{timeAt, Rising, Fair}
 use Rattle.both_ends.specs.Statements.{Done, clearsAtMost, obeying, HasDone, BothTold, Entering, Leaving}
 use Rattle.both_ends.proofs.Laws.Meters.{core-stays}
-use Rattle.both_ends.proofs.Laws.Arrivals.{Readable, enter-readable, leave-readable, whole-viewed, whole-obeyed}
+use Rattle.both_ends.proofs.Laws.Arrivals.{Readable, enter-readable, leave-readable, whole-outlined, whole-obeyed}
 use Rattle.both_ends.proofs.Laws.Phases.{Free, Held, Clears, free-later, held-later, free-next, held-next}
 
 -- times that rise come to the end
@@ -166,7 +166,7 @@ ack-read : readLine (lineOf ack) ≡ reads ack
 unfolding readLine readBody any odd onesIn lineOf carrier
 ack-read = refl
 
-ack-fits : (q : Request) → isRead q ≡ false → fits q views.Ack ≡ true
+ack-fits : (q : Request) → isRead q ≡ false → fits q outlines.Ack ≡ true
 ack-fits (Read a) e = absurd (true≢false e)
 ack-fits (Enter a s) e = refl
 ack-fits (Leave a) e = refl
@@ -186,7 +186,7 @@ module _ (q : Request) (plain : isRead q ≡ false) (readable : Readable q) (m :
   unfolding happened happens flips
   undisturbed =
       subst (λ (a : Answer Deed). atBench ownEnds (meterHears (opening q first m) t [] a) u [] (linesAnswered a) .bench .state ≡ Well)
-      (sym (whole-obeyed m (requestLine q) t ready q (whole-viewed q readable) own))
+      (sym (whole-obeyed m (requestLine q) t ready q (whole-outlined q readable) own))
       (subst (λ (s : Said). atBench ownEnds (meterHears (opening q first m) t [] (reads (instructed t (returned t (m .core)) q))) u [] (linesSaid s)
       .bench .state ≡ Well) (sym (acknowledges t (returned t (m .core)) q plain)) heard-well)
 

@@ -12,14 +12,14 @@ use Rattle.bench_clock.specs.declared.Clock.{Clock}
 use Rattle.bench_clock.specs.Times.{returnTime}
 use Rattle.mbus_rules.specs.declared.Request.{Request}
 use Rattle.mbus_rules.specs.declared.Request.the-variants.{Read, Enter, Leave}
-use Rattle.mbus_rules.specs.declared.View.the-variants as views
+use Rattle.mbus_rules.specs.declared.Outline.the-variants as outlines
 use Rattle.base_rules.specs.Answers.{Answer, reads, refusal}
-use Rattle.mbus_rules.specs.Views.{viewed}
+use Rattle.mbus_rules.specs.Outlines.{outlined}
 use Rattle.mbus_shape.specs.Shapes.{askedOf}
 use Rattle.base_characters.specs.Flips.{Place, flips}
 use Rattle.exchange_steps.specs.declared.Exchange.{Exchange}
 use Rattle.exchange_steps.specs.declared.State.{State}
-use Rattle.exchange_steps.specs.declared.Bench.the-variants.{Busy}
+use Rattle.exchange_steps.specs.declared.Slot.the-variants.{Busy}
 use Rattle.exchange_steps.specs.Steps.{mostSends, failed, afterTick, waits, sending, begun, past, isWell}
 use Rattle.exchange_steps.proofs.Laws.Steps.{step-cases, send-cases, in-progress-is}
 use Rattle.exchange_steps.specs.declared.Cause.{Cause}
@@ -38,7 +38,7 @@ use Rattle.both_ends.specs.Line.{atMeter, atBench, happens, aloneAfter}
 use Rattle.both_ends.specs.Hypotheses.{timeAt, UpToThree, FewInFirst, FewFlipped}
 use Rattle.both_ends.specs.Statements.{Done, clearsAtMost, obeying}
 use Rattle.both_ends.proofs.Laws.Meters.{returned-again, settles, again, core-stays, measure-both, force-twins, added-twins, sides}
-use Rattle.both_ends.proofs.Laws.Arrivals.{Readable, asked-viewed, obeyed-or-quiet}
+use Rattle.both_ends.proofs.Laws.Arrivals.{Readable, asked-outlined, obeyed-or-quiet}
 
 -- ---- lines on their way to the meter
 
@@ -72,8 +72,8 @@ module _ (x : Exchange) (q : Request) (request : x .request ≡ q) (t : Clock) w
   sent-cases : (P : Answer Exchange → Type 0) → ((n : ℕ) → P (refusal n)) → ((y : Exchange) → y .request ≡ q → isWell (y .state) ≡ false → P (reads y))
       → P (ownEnds .sent x t)
   sent-cases P refused taken =
-      send-cases (Busy x) (viewed (reads (askedOf (x .request)))) t P refused
-      (λ none other e. taken (begun other t) (let same : views.Asks other ≡ views.Asks (x .request) = sym e ∙ asked-viewed (x .request) in cc) refl)
+      send-cases (Busy x) (outlined (reads (askedOf (x .request)))) t P refused
+      (λ none other e. taken (begun other t) (let same : outlines.Asks other ≡ outlines.Asks (x .request) = sym e ∙ asked-outlined (x .request) in cc) refl)
       (λ y e asked l c. let same : Busy x ≡ Busy y = in-progress-is (Busy x) y e in taken (sending (y .request) (y .sends + 1) t) (cc) refl)
 
   sent-asks : Asks (ownEnds .sent x t)

@@ -17,10 +17,10 @@ use Rattle.base_characters.specs.Gathering.{sound, gathered}
 use Rattle.base_characters.proofs.Laws.GatherLaws.{sound-is, low-is, sum-is}
 use Rattle.cjt_rules.specs.declared.CjtTelegram.{CjtTelegram}
 use Rattle.cjt_rules.specs.CjtFrames.{pastFE}
-use Rattle.cjt_rules.specs.CjtViews.{cjtShown, cjtViewed}
+use Rattle.cjt_rules.specs.CjtOutlines.{cjtShown, cjtOutlined}
 use Rattle.cjt_rules.specs.CjtLines.{readCjtFrame, readCjtLine}
 use Rattle.cjt_rules.proofs.Laws.FrameCode.{past-count}
-use Rattle.cjt_reading.specs.CjtParts.{farFrom, viewedAs}
+use Rattle.cjt_reading.specs.CjtParts.{farFrom, outlinedAs}
 use Rattle.cjt_reading.proofs.Laws.FrameLaws.{frame-most}
 
 -- none at all
@@ -90,7 +90,7 @@ module _ (s low : List ℕ) {n : ℕ} (en : n ≡ length s) (some : n ≡ 0 → 
   near-passed r =
       ap (λ (l : List ℕ). readCjtFrame (pastFE 5 l)) near-cut ∙ sym (taken-passed s begins (sound-is s (replicate 64 0) low room e stored) r)
 
--- the view of what is shown
-pub view-shown : (a : Answer CjtTelegram) → viewedAs (cjtShown a) ≡ cjtViewed a
-view-shown (refusal n) = refl
-view-shown (reads t) = refl
+-- the outline of what is shown
+pub outline-shown : (a : Answer CjtTelegram) → outlinedAs (cjtShown a) ≡ cjtOutlined a
+outline-shown (refusal n) = refl
+outline-shown (reads t) = refl

@@ -3,7 +3,7 @@ use borrow.Author.Needs.{needs}
 use denote.Ref.{now}
 use native.Mathlib.Omega.{arith}
 use mathlib.Core.Path.{refl, sym, ap, _∙_}
-use Rattle.cjt_rules.specs.CjtViews.{cjtShown}
+use Rattle.cjt_rules.specs.CjtOutlines.{cjtShown}
 use Rattle.cjt_reading.proofs.Laws.TakingLaws.{none-is, taken-far, near-refused, near-count, near-sum, near-passed}
 use Rattle.cjt_reading.proofs.read_line.Statement.{statement}
 use Rattle.cjt_reading.proofs.read_line.Tie as tie

@@ -1,7 +1,7 @@
 -- `host_cjt_records::cjt_from` meets its contract. Assumes nothing.
 use mathlib.Core.Path.{sym, ap}
 use denote.Ref.{now}
-use Rattle.cjt_rules.specs.CjtViews.{cjtShown}
+use Rattle.cjt_rules.specs.CjtOutlines.{cjtShown}
 use Rattle.base_lent.proofs.Laws.Recorded.{record-same, record-differs}
 use Rattle.cjt_records.specs.CjtRecords.{cjtBytes, cjtIn}
 use Rattle.cjt_records.proofs.Laws.CjtRecordLaws.{cjt-size}

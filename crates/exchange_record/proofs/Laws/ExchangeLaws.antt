@@ -16,8 +16,8 @@ use Rattle.exchange_steps.specs.declared.Cause.the-variants.{Silent, Damaged, W
 use Rattle.exchange_steps.specs.declared.State.{State}
 use Rattle.exchange_steps.specs.declared.State.the-variants.{Waiting, Resend, Well, Failed}
 use Rattle.exchange_steps.specs.declared.Exchange.{Exchange}
-use Rattle.exchange_steps.specs.declared.Bench.{Bench}
-use Rattle.exchange_steps.specs.declared.Bench.the-variants.{Idle, Busy}
+use Rattle.exchange_steps.specs.declared.Slot.{Slot}
+use Rattle.exchange_steps.specs.declared.Slot.the-variants.{Idle, Busy}
 use Rattle.exchange_steps.specs.declared.Stepped.{Stepped}
 use Rattle.exchange_steps.specs.declared.Stepped.the-variants as steps
 use Rattle.exchange_steps.specs.Steps.{shownStep}
@@ -30,7 +30,7 @@ use Rattle.base_lent.specs.Same.{same}
 use Rattle.base_lent.proofs.Laws.Same.{same-equal, same-itself, same-not}
 use Rattle.exchange_record.specs.declared.Taken.the-variants.{Is, Refused}
 use Rattle.exchange_record.specs.Exchanges.{requestBytes, causeNumber, stateNumber, causeIn, exchangeHead, exchangeBytes, causeOfNumber, stateOf}
-use Rattle.exchange_record.specs.Exchanges.{exchangeIn, reached, exchangeFrom, noneBytes, benchBytes, benchFrom, shownBench}
+use Rattle.exchange_record.specs.Exchanges.{exchangeIn, reached, exchangeFrom, noneBytes, slotBytes, slotFrom, shownSlot}
 
 -- ---- sizes
 
@@ -152,59 +152,59 @@ not-none : (x : Exchange) → same (exchangeBytes x) noneBytes ≡ false
 not-none x = same-not (exchangeBytes x) noneBytes (λ e. no-zeros x (ap (λ (b : List ℕ). at b 0) e))
 
 -- What is written is read: of none, and of an exchange that a run reaches;
-pub none-read : benchFrom (benchBytes Idle) ≡ reads Idle
+pub none-read : slotFrom (slotBytes Idle) ≡ reads Idle
 none-read = rw (same-itself noneBytes)
 
-pub busy-read : (x : Exchange) → Fits x → reached x ≡ true → benchFrom (benchBytes (Busy x)) ≡ reads (Busy x)
+pub busy-read : (x : Exchange) → Fits x → reached x ≡ true → slotFrom (slotBytes (Busy x)) ≡ reads (Busy x)
 busy-read x f r = rw (not-none x, exchange-read x f r)
 
 -- and what is read was written.
-pub busy-from : (b : List ℕ) (x : Exchange) → benchFrom b ≡ reads (Busy x) → exchangeFrom b ≡ reads x
+pub busy-from : (b : List ℕ) (x : Exchange) → slotFrom b ≡ reads (Busy x) → exchangeFrom b ≡ reads x
 busy-from b x e = go (same b noneBytes) (exchangeFrom b) e
   where
-    go : (s : Bool) (a : Answer Exchange) → _≡_ {A = Answer Bench} (cond s (reads Idle) (within Busy a)) (reads (Busy x)) → a ≡ reads x
+    go : (s : Bool) (a : Answer Exchange) → _≡_ {A = Answer Slot} (cond s (reads Idle) (within Busy a)) (reads (Busy x)) → a ≡ reads x
     go true a e = cc
     go false (refusal n) e = cc
     go false (reads y) e = cc
 
-none-from : (b : List ℕ) → benchFrom b ≡ reads Idle → b ≡ noneBytes
+none-from : (b : List ℕ) → slotFrom b ≡ reads Idle → b ≡ noneBytes
 none-from b e = same-equal b noneBytes (go (same b noneBytes) (exchangeFrom b) e)
   where
-    go : (s : Bool) (a : Answer Exchange) → _≡_ {A = Answer Bench} (cond s (reads Idle) (within Busy a)) (reads Idle) → s ≡ true
+    go : (s : Bool) (a : Answer Exchange) → _≡_ {A = Answer Slot} (cond s (reads Idle) (within Busy a)) (reads Idle) → s ≡ true
     go true a e = refl
     go false (refusal n) e = cc
     go false (reads y) e = cc
 
-pub bench-written : (b : List ℕ) (w : Bench) → benchFrom b ≡ reads w → benchBytes w ≡ b
-bench-written b Idle e = sym (none-from b e)
-bench-written b (Busy x) e = exchange-written b x (busy-from b x e) .bytes
+pub slot-written : (b : List ℕ) (w : Slot) → slotFrom b ≡ reads w → slotBytes w ≡ b
+slot-written b Idle e = sym (none-from b e)
+slot-written b (Busy x) e = exchange-written b x (busy-from b x e) .bytes
 
-pub bench-length : (w : Bench) → length (benchBytes w) ≡ 24
-bench-length Idle = refl
-bench-length (Busy x) = exchange-length x
+pub slot-length : (w : Slot) → length (slotBytes w) ≡ 24
+slot-length Idle = refl
+slot-length (Busy x) = exchange-length x
 
-pub bench-size : (b : List ℕ) (w : Bench) → benchFrom b ≡ reads w → length b ≡ 24
-bench-size b w e = ap length (sym (bench-written b w e)) ∙ bench-length w
+pub slot-size : (b : List ℕ) (w : Slot) → slotFrom b ≡ reads w → length b ≡ 24
+slot-size b w e = ap length (sym (slot-written b w e)) ∙ slot-length w
 
 -- as the code finds them
 module _ (b : List ℕ) {idle : Bool} (e : idle ≡ same b noneBytes) where
-  pub zeros-taken : idle ≡ true → Is Idle ≡ shownBench (benchFrom b)
+  pub zeros-taken : idle ≡ true → Is Idle ≡ shownSlot (slotFrom b)
   zeros-taken y = rw (sym e ∙ y)
 
   module _ {s : Stepped} (f : s ≡ shownStep (exchangeFrom b)) (n : idle ≡ false) where
-    others : (a : Answer Exchange) → exchangeFrom b ≡ a → benchFrom b ≡ within Busy a
+    others : (a : Answer Exchange) → exchangeFrom b ≡ a → slotFrom b ≡ within Busy a
     others a q = rw (sym e ∙ n, q)
 
-    pub exchange-taken : {x : Exchange} → s ≡ steps.To x → Is (Busy x) ≡ shownBench (benchFrom b)
+    pub exchange-taken : {x : Exchange} → s ≡ steps.To x → Is (Busy x) ≡ shownSlot (slotFrom b)
     exchange-taken {x} r = go (exchangeFrom b) refl (sym f ∙ r)
       where
-        go : (a : Answer Exchange) → exchangeFrom b ≡ a → shownStep a ≡ steps.To x → Is (Busy x) ≡ shownBench (benchFrom b)
+        go : (a : Answer Exchange) → exchangeFrom b ≡ a → shownStep a ≡ steps.To x → Is (Busy x) ≡ shownSlot (slotFrom b)
         go (refusal m) q r = cc
-        go (reads y) q r = let same : y ≡ x = cc in sym (ap shownBench (others (reads y) q) ∙ ap (λ (z : Exchange). Is (Busy z)) same)
+        go (reads y) q r = let same : y ≡ x = cc in sym (ap shownSlot (others (reads y) q) ∙ ap (λ (z : Exchange). Is (Busy z)) same)
 
-    pub exchange-refused : {m : ℕ} → s ≡ steps.Refused m → Refused m ≡ shownBench (benchFrom b)
+    pub exchange-refused : {m : ℕ} → s ≡ steps.Refused m → Refused m ≡ shownSlot (slotFrom b)
     exchange-refused {m} r = go (exchangeFrom b) refl (sym f ∙ r)
       where
-        go : (a : Answer Exchange) → exchangeFrom b ≡ a → shownStep a ≡ steps.Refused m → Refused m ≡ shownBench (benchFrom b)
-        go (refusal k) q r = let same : k ≡ m = cc in sym (ap shownBench (others (refusal k) q) ∙ ap Refused same)
+        go : (a : Answer Exchange) → exchangeFrom b ≡ a → shownStep a ≡ steps.Refused m → Refused m ≡ shownSlot (slotFrom b)
+        go (refusal k) q r = let same : k ≡ m = cc in sym (ap shownSlot (others (refusal k) q) ∙ ap Refused same)
         go (reads y) q r = cc

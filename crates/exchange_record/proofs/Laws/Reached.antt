@@ -9,16 +9,16 @@ use lib.Dec.{ltb, leb}
 use Rattle.bench_clock.specs.declared.Clock.{Clock}
 use Rattle.bench_clock.proofs.Laws.Times.{le-late}
 use Rattle.mbus_rules.specs.declared.Request.{Request}
-use Rattle.mbus_rules.specs.declared.View.{View}
-use Rattle.mbus_rules.specs.declared.View.the-variants as views
+use Rattle.mbus_rules.specs.declared.Outline.{Outline}
+use Rattle.mbus_rules.specs.declared.Outline.the-variants as outlines
 use Rattle.base_rules.specs.Answers.{Answer, reads, refusal}
 use Rattle.exchange_steps.specs.declared.Cause.{Cause}
 use Rattle.exchange_steps.specs.declared.Cause.the-variants.{Silent}
 use Rattle.exchange_steps.specs.declared.State.{State}
 use Rattle.exchange_steps.specs.declared.State.the-variants.{Resend, Well, Failed}
 use Rattle.exchange_steps.specs.declared.Exchange.{Exchange}
-use Rattle.exchange_steps.specs.declared.Bench.{Bench}
-use Rattle.exchange_steps.specs.declared.Bench.the-variants.{Idle, Busy}
+use Rattle.exchange_steps.specs.declared.Slot.{Slot}
+use Rattle.exchange_steps.specs.declared.Slot.the-variants.{Idle, Busy}
 use Rattle.exchange_replies.specs.Fits.{fits}
 use Rattle.exchange_steps.specs.Steps.{mostSends, failed, causeOf, afterLine, afterTick, waits, sending, moved, past, heardOn, tickOn, sendEndedOn}
 use Rattle.exchange_steps.proofs.Laws.Steps.{asks-few, step-cases, send-cases}
@@ -34,19 +34,19 @@ failed-stands sends cause l few f = go (ltb sends mostSends) refl
     go true e = rw (e, f)
     go false e = rw (eq-eqb sends mostSends (omega (arith, ltb-false sends mostSends e)), f)
 
-judged : (view : View) → failsBy (causeOf view) false ≡ true
-judged (views.Refused n) = refl
-judged views.Ack = refl
-judged (views.Asks other) = refl
-judged (views.Data answers) = refl
+judged : (outline : Outline) → failsBy (causeOf outline) false ≡ true
+judged (outlines.Refused n) = refl
+judged outlines.Ack = refl
+judged (outlines.Asks other) = refl
+judged (outlines.Data answers) = refl
 
-line-stands : (request : Request) (sends : ℕ) (l : Bool) (view : View) → sends ≤ mostSends → standsAt (afterLine request sends l view) sends l ≡ true
-line-stands request sends true view few = failed-stands sends Silent true few refl
-line-stands request sends false view few = go (fits request view)
+line-stands : (request : Request) (sends : ℕ) (l : Bool) (outline : Outline) → sends ≤ mostSends → standsAt (afterLine request sends l outline) sends l ≡ true
+line-stands request sends true outline few = failed-stands sends Silent true few refl
+line-stands request sends false outline few = go (fits request outline)
   where
-    go : (t : Bool) → standsAt (cond t Well (failed sends (causeOf view))) sends false ≡ true
+    go : (t : Bool) → standsAt (cond t Well (failed sends (causeOf outline))) sends false ≡ true
     go true = refl
-    go false = failed-stands sends (causeOf view) false few (judged view)
+    go false = failed-stands sends (causeOf outline) false few (judged outline)
 
 tick-stands : (sends : ℕ) (l : Bool) → sends ≤ mostSends → standsAt (afterTick sends l) sends l ≡ true
 tick-stands sends true few = failed-stands sends Silent true few refl
@@ -106,25 +106,25 @@ moved-good : (x : Exchange) (state : State) (t : Clock) → Good x → t .0 < 25
 moved-good x state t g f l s = record { fits = record { began = g .fits .began; last = f }; so = moved-reached x state t (g .so) l s }
 
 -- The exchange that there is, if there is one, is good.
-abbrev pub GoodBy : Bench → Type 0
+abbrev pub GoodBy : Slot → Type 0
 GoodBy Idle = Unit {0}
 GoodBy (Busy x) = Good x
 
 module _ (t : Clock) (f : t .0 < 256 ^ 8) where
-  pub send-good : (b : Bench) → GoodBy b → (view : View) → Keeps (sendEndedOn b view t)
-  send-good b g view =
-      send-cases b view t Keeps (λ n. tt) (λ i request v. sending-good request 1 t f (omega arith) (omega arith))
+  pub send-good : (b : Slot) → GoodBy b → (outline : Outline) → Keeps (sendEndedOn b outline t)
+  send-good b g outline =
+      send-cases b outline t Keeps (λ n. tt) (λ i request v. sending-good request 1 t f (omega arith) (omega arith))
       (λ x i v l c. let few = asks-few (x .state) (x .sends) c in
       sending-good (x .request) (x .sends + 1) t f (omega arith) (omega arith))
 
-  pub heard-good : (b : Bench) → GoodBy b → (view : View) → Keeps (heardOn b view t)
-  heard-good Idle g view = tt
-  heard-good (Busy x) g view =
-      let state : State = afterLine (x .request) (x .sends) (past x t) view in
+  pub heard-good : (b : Slot) → GoodBy b → (outline : Outline) → Keeps (heardOn b outline t)
+  heard-good Idle g outline = tt
+  heard-good (Busy x) g outline =
+      let state : State = afterLine (x .request) (x .sends) (past x t) outline in
       step-cases x t Keeps (waits (x .state)) (moved x state t) (λ n. tt)
-      (λ l c. moved-good x state t g f l (line-stands (x .request) (x .sends) (past x t) view (parts x (g .so) .few)))
+      (λ l c. moved-good x state t g f l (line-stands (x .request) (x .sends) (past x t) outline (parts x (g .so) .few)))
 
-  pub tick-good : (b : Bench) → GoodBy b → Keeps (tickOn b t)
+  pub tick-good : (b : Slot) → GoodBy b → Keeps (tickOn b t)
   tick-good Idle g = tt
   tick-good (Busy x) g =
       let state : State = afterTick (x .sends) (past x t) in

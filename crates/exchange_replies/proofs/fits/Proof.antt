@@ -1,10 +1,10 @@
--- `exchange_replies::fits` meets its contract, view by view.
+-- `exchange_replies::fits` meets its contract, outline by outline.
 use borrow.Author.Needs.{needs}
 use Rattle.exchange_replies.proofs.fits.Statement.{statement}
 use Rattle.exchange_replies.proofs.fits.Tie as tie
 
 returns-4 : tie.Need-returns-4
-returns-4 c = rw (c .before .before .view .given .1) (c .data-fits .ensures)
+returns-4 c = rw (c .before .before .outline .given .1) (c .data-fits .ensures)
 
 pub fits-spec : {M : Type 1} → statement M
 fits-spec =

@@ -12,18 +12,18 @@ use borrow.Author.Tests.{ltb-true, ltb-false}
 use Rattle.bench_clock.specs.declared.Clock.{Clock}
 use Rattle.mbus_rules.specs.declared.Request.{Request}
 use Rattle.mbus_rules.specs.declared.Telegram.{Telegram}
-use Rattle.mbus_rules.specs.declared.View.{View}
-use Rattle.mbus_rules.specs.declared.View.the-variants.{Asks}
+use Rattle.mbus_rules.specs.declared.Outline.{Outline}
+use Rattle.mbus_rules.specs.declared.Outline.the-variants.{Asks}
 use Rattle.base_rules.specs.Answers.{Answer, reads}
 use Rattle.mbus_rules.specs.Lines.{readLine}
-use Rattle.mbus_rules.specs.Views.{viewed}
+use Rattle.mbus_rules.specs.Outlines.{outlined}
 use Rattle.exchange_steps.specs.declared.Cause.{Cause}
 use Rattle.exchange_steps.specs.declared.Cause.the-variants.{Silent}
 use Rattle.exchange_steps.specs.declared.State.{State}
 use Rattle.exchange_steps.specs.declared.State.the-variants.{Waiting, Resend, Well, Failed}
 use Rattle.exchange_steps.specs.declared.Exchange.{Exchange}
-use Rattle.exchange_steps.specs.declared.Bench.{Bench}
-use Rattle.exchange_steps.specs.declared.Bench.the-variants.{Idle, Busy}
+use Rattle.exchange_steps.specs.declared.Slot.{Slot}
+use Rattle.exchange_steps.specs.declared.Slot.the-variants.{Idle, Busy}
 use Rattle.exchange_replies.specs.Fits.{fits}
 use Rattle.exchange_steps.specs.Steps.{mostSends, failed, causeOf, afterLine, afterTick, waits, sending, begun, moved, past, step}
 use Rattle.exchange_steps.proofs.Laws.Steps.{asks-few, by-cond, step-cases, in-progress-is, send-cases}
@@ -44,10 +44,10 @@ module _ (sends : ℕ) (few : sends ≤ mostSends) where
       by-cond (λ (s : State). Agrees s sends) (ltb sends mostSends) (Resend cause) (Failed cause) (ltb-true sends mostSends)
       (λ e. let h = ltb-false sends mostSends e in omega arith)
 
-  line-agrees : (request : Request) (silent : Bool) (view : View) → Agrees (afterLine request sends silent view) sends
-  line-agrees request true view = failed-agrees Silent
-  line-agrees request false view =
-      by-cond (λ (s : State). Agrees s sends) (fits request view) Well (failed sends (causeOf view)) (λ e. tt) (λ e. failed-agrees (causeOf view))
+  line-agrees : (request : Request) (silent : Bool) (outline : Outline) → Agrees (afterLine request sends silent outline) sends
+  line-agrees request true outline = failed-agrees Silent
+  line-agrees request false outline =
+      by-cond (λ (s : State). Agrees s sends) (fits request outline) Well (failed sends (causeOf outline)) (λ e. tt) (λ e. failed-agrees (causeOf outline))
 
   tick-agrees : (silent : Bool) → Agrees (afterTick sends silent) sends
   tick-agrees true = failed-agrees Silent
@@ -67,14 +67,14 @@ pub record Kept (x : Exchange) (sends : List Send) : Type 0 where
   pub asked : Ask (x .request) sends
 
 -- of an exchange; where there is none, nothing is
-abbrev pub KeptBy : Bench → List Send → Type 0
+abbrev pub KeptBy : Slot → List Send → Type 0
 KeptBy Idle sends = Unit {0}
 KeptBy (Busy x) sends = Kept x sends
 
 abbrev sendOf : Telegram → Clock → Send
 sendOf telegram t = record { telegram = telegram; end = t }
 
-kept-begun : (telegram : Telegram) (request : Request) (t : Clock) → viewed (reads telegram) ≡ Asks request
+kept-begun : (telegram : Telegram) (request : Request) (t : Clock) → outlined (reads telegram) ≡ Asks request
     → Kept (begun request t) (sendOf telegram t ∷ [])
 unfolding Ask
 kept-begun telegram request t v = record {
@@ -107,7 +107,7 @@ module _ (x : Exchange) (sends : List Send) (k : Kept x sends) where
       })
 
   -- a resend of the request
-  kept-resent : (telegram : Telegram) (t : Clock) → viewed (reads telegram) ≡ Asks (x .request) → x .sends < mostSends
+  kept-resent : (telegram : Telegram) (t : Clock) → outlined (reads telegram) ≡ Asks (x .request) → x .sends < mostSends
       → Kept (sending (x .request) (x .sends + 1) t) (sendOf telegram t ∷ sends)
   unfolding Ask
   kept-resent telegram t v fewer = record {
@@ -123,25 +123,25 @@ module _ (x : Exchange) (sends : List Send) (k : Kept x sends) where
   }
 
 -- the end of a send, accepted or refused
-kept-send : (b : Bench) (sends : List Send) → KeptBy b sends → (telegram : Telegram) (t : Clock)
+kept-send : (b : Slot) (sends : List Send) → KeptBy b sends → (telegram : Telegram) (t : Clock)
     → KeptBy (next b (sendEnded telegram t)) (noted b (sendEnded telegram t) (answer b (sendEnded telegram t)) sends)
 kept-send b sends k telegram t =
-    send-cases b (viewed (reads telegram)) t (λ (a : Answer Exchange). KeptBy (stands b a) (noted b (sendEnded telegram t) a sends)) (λ n. k)
-    (λ i request v. subst (λ (c : Bench). Kept (begun request t) (sendOf telegram t ∷ madeIn c sends)) (sym i) (kept-begun telegram request t v))
-    (λ x i v l c. let stood : Kept x sends = subst (λ (c : Bench). KeptBy c sends) (in-progress-is b x i) k in
-    subst (λ (c : Bench). Kept (sending (x .request) (x .sends + 1) t) (sendOf telegram t ∷ madeIn c sends)) (sym i)
+    send-cases b (outlined (reads telegram)) t (λ (a : Answer Exchange). KeptBy (stands b a) (noted b (sendEnded telegram t) a sends)) (λ n. k)
+    (λ i request v. subst (λ (c : Slot). Kept (begun request t) (sendOf telegram t ∷ madeIn c sends)) (sym i) (kept-begun telegram request t v))
+    (λ x i v l c. let stood : Kept x sends = subst (λ (c : Slot). KeptBy c sends) (in-progress-is b x i) k in
+    subst (λ (c : Slot). Kept (sending (x .request) (x .sends + 1) t) (sendOf telegram t ∷ madeIn c sends)) (sym i)
     (kept-resent x sends stood telegram t v (asks-few (x .state) (x .sends) c)))
 
-pub kept-step : (b : Bench) (sends : List Send) → KeptBy b sends → (s : Step) → KeptBy (next b s) (noted b s (answer b s) sends)
+pub kept-step : (b : Slot) (sends : List Send) → KeptBy b sends → (s : Step) → KeptBy (next b s) (noted b s (answer b s) sends)
 kept-step b sends k (sendEnded telegram t) = kept-send b sends k telegram t
 kept-step Idle sends k (heard line t) = tt
 kept-step (Busy x) sends k (heard line t) =
-    kept-moved x sends k _ t (waits (x .state)) (line-agrees (x .sends) (k .few) (x .request) (past x t) (viewed (readLine line)))
+    kept-moved x sends k _ t (waits (x .state)) (line-agrees (x .sends) (k .few) (x .request) (past x t) (outlined (readLine line)))
 kept-step Idle sends k (tick t) = tt
 kept-step (Busy x) sends k (tick t) = kept-moved x sends k _ t (waits (x .state)) (tick-agrees (x .sends) (k .few) (past x t))
 
 -- Every history keeps it.
-pub kept : (b : Bench) (sends : List Send) → KeptBy b sends → (h : List Step) → KeptBy (run b h) (sendsMade b sends h)
+pub kept : (b : Slot) (sends : List Send) → KeptBy b sends → (h : List Step) → KeptBy (run b h) (sendsMade b sends h)
 unfolding run sendsMade
 kept b sends k [] = k
 kept b sends k (s ∷ h) = kept (next b s) (noted b s (answer b s) sends) (kept-step b sends k s) h

@@ -11,18 +11,18 @@ use Rattle.bench_clock.proofs.Laws.Times.{late-true, late-false}
 use Rattle.mbus_rules.specs.declared.Request.{Request}
 use Rattle.mbus_rules.specs.declared.Request.the-variants.{Read, Enter, Leave}
 use Rattle.mbus_rules.specs.declared.Telegram.{Telegram}
-use Rattle.mbus_rules.specs.declared.View.{View}
-use Rattle.mbus_rules.specs.declared.View.the-variants as views
+use Rattle.mbus_rules.specs.declared.Outline.{Outline}
+use Rattle.mbus_rules.specs.declared.Outline.the-variants as outlines
 use Rattle.base_rules.specs.Answers.{Answer, reads, refusal, refuse, follow}
 use Rattle.mbus_rules.specs.Telegrams.{blank, shown}
 use Rattle.base_rules.proofs.Laws.Tests.{by-test}
-use Rattle.mbus_rules.specs.Views.{viewed}
+use Rattle.mbus_rules.specs.Outlines.{outlined}
 use Rattle.exchange_steps.specs.declared.Cause.the-variants.{Silent}
 use Rattle.exchange_steps.specs.declared.State.{State}
 use Rattle.exchange_steps.specs.declared.State.the-variants.{Waiting, Resend, Well, Failed}
 use Rattle.exchange_steps.specs.declared.Exchange.{Exchange}
-use Rattle.exchange_steps.specs.declared.Bench.{Bench}
-use Rattle.exchange_steps.specs.declared.Bench.the-variants.{Idle, Busy}
+use Rattle.exchange_steps.specs.declared.Slot.{Slot}
+use Rattle.exchange_steps.specs.declared.Slot.the-variants.{Idle, Busy}
 use Rattle.exchange_steps.specs.declared.Stepped.{Stepped}
 use Rattle.exchange_steps.specs.declared.Stepped.the-variants.{To, Refused}
 use Rattle.exchange_steps.specs.declared.Heard.{Heard}
@@ -50,12 +50,12 @@ module _ (x : Exchange) (t : Clock) {called silent : Bool} {state : State} {next
   pub tick-parts : state ≡ afterTick (x .sends) silent → s ≡ shownStep (tickIn x t)
   tick-parts q = moved-parts (q ∙ ap (afterTick (x .sends)) p)
 
-  pub line-parts : (view : View) → state ≡ afterLine (x .request) (x .sends) silent view → s ≡ shownStep (heardIn x view t)
-  line-parts view q = moved-parts (q ∙ ap (λ (b : Bool). afterLine (x .request) (x .sends) b view) p)
+  pub line-parts : (outline : Outline) → state ≡ afterLine (x .request) (x .sends) silent outline → s ≡ shownStep (heardIn x outline t)
+  line-parts outline q = moved-parts (q ∙ ap (λ (b : Bool). afterLine (x .request) (x .sends) b outline) p)
 
 -- the whole answer for a line heard: the step, and the reply
-pub heard-parts : (b : Bench) (reading : Answer Telegram) (t : Clock) {s : Stepped} {well : Bool} {r : Telegram}
-    → s ≡ shownStep (heardOn b (viewed reading) t) → endsWell s ≡ well → r ≡ cond well (shown reading .telegram) blank
+pub heard-parts : (b : Slot) (reading : Answer Telegram) (t : Clock) {s : Stepped} {well : Bool} {r : Telegram}
+    → s ≡ shownStep (heardOn b (outlined reading) t) → endsWell s ≡ well → r ≡ cond well (shown reading .telegram) blank
     → _≡_ {A = Heard} (record { stepped = s; reply = r }) (heardOf b reading t)
 heard-parts b reading t e w q =
     λ i. record {
@@ -106,11 +106,11 @@ pub past-window : (x : Exchange) (t : Clock) → x .began .0 + replyTime < t .0 
 past-window x t h = by-test (past x t) (λ e. e) (λ e. absurd (omega (arith, late-false)))
 
 -- A line in time that does not fit fails the send, and past the window so does every line, as silence.
-module _ (x : Exchange) (view : View) (t : Clock) (w : x .state ≡ Waiting) (l : x .last .0 ≤ t .0) where
-  pub line-fails : t .0 ≤ x .began .0 + replyTime → fits (x .request) view ≡ false → heardIn x view t ≡ reads (moved x (failed (x .sends) (causeOf view)) t)
-  line-fails i f = rw (open-window x t i, f) (step-taken x t (waits (x .state)) (moved x (failed (x .sends) (causeOf view)) t) l (rw w))
+module _ (x : Exchange) (outline : Outline) (t : Clock) (w : x .state ≡ Waiting) (l : x .last .0 ≤ t .0) where
+  pub line-fails : t .0 ≤ x .began .0 + replyTime → fits (x .request) outline ≡ false → heardIn x outline t ≡ reads (moved x (failed (x .sends) (causeOf outline)) t)
+  line-fails i f = rw (open-window x t i, f) (step-taken x t (waits (x .state)) (moved x (failed (x .sends) (causeOf outline)) t) l (rw w))
 
-  pub late-fails : x .began .0 + replyTime < t .0 → heardIn x view t ≡ reads (moved x (failed (x .sends) Silent) t)
+  pub late-fails : x .began .0 + replyTime < t .0 → heardIn x outline t ≡ reads (moved x (failed (x .sends) Silent) t)
   late-fails i = rw (past-window x t i) (step-taken x t (waits (x .state)) (moved x (failed (x .sends) Silent) t) l (rw w))
 
 pub tick-fails : (x : Exchange) (t : Clock) → x .state ≡ Waiting → x .last .0 ≤ t .0 → x .began .0 + replyTime < t .0
@@ -133,26 +133,26 @@ same-request (Leave a) (Enter b n) e = absurd (true≢false (sym e))
 same-request (Leave a) (Leave b) e = ap Leave (sym (eqb-true a b e))
 
 -- What is the request, and nothing else, asks for it.
-pub asks-only : (q : Request) (view : View) → asksFor q view ≡ true → view ≡ views.Asks q
-asks-only q (views.Refused n) e = absurd (true≢false (sym e))
-asks-only q views.Ack e = absurd (true≢false (sym e))
-asks-only q (views.Asks r) e = ap views.Asks (same-request q r e)
-asks-only q (views.Data answers) e = absurd (true≢false (sym e))
+pub asks-only : (q : Request) (outline : Outline) → asksFor q outline ≡ true → outline ≡ outlines.Asks q
+asks-only q (outlines.Refused n) e = absurd (true≢false (sym e))
+asks-only q outlines.Ack e = absurd (true≢false (sym e))
+asks-only q (outlines.Asks r) e = ap outlines.Asks (same-request q r e)
+asks-only q (outlines.Data answers) e = absurd (true≢false (sym e))
 
-asks-itself : (q : Request) → asksFor q (views.Asks q) ≡ true
+asks-itself : (q : Request) → asksFor q (outlines.Asks q) ≡ true
 asks-itself (Read a) = eq-eqb a a refl
 asks-itself (Enter a m) = rw (eq-eqb a a refl, eq-eqb m m refl)
 asks-itself (Leave a) = eq-eqb a a refl
 
-pub asks-request : (q : Request) (view : View) → view ≡ views.Asks q → asksFor q view ≡ true
-asks-request q view e = ap (asksFor q) e ∙ asks-itself q
+pub asks-request : (q : Request) (outline : Outline) → outline ≡ outlines.Asks q → asksFor q outline ≡ true
+asks-request q outline e = ap (asksFor q) e ∙ asks-itself q
 
-pub asks-another : (q : Request) (view : View) → (view ≡ views.Asks q → ⊥) → asksFor q view ≡ false
-asks-another q view h = by-test (asksFor q view) (λ e. absurd (h (asks-only q view e))) (λ e. e)
+pub asks-another : (q : Request) (outline : Outline) → (outline ≡ outlines.Asks q → ⊥) → asksFor q outline ≡ false
+asks-another q outline h = by-test (asksFor q outline) (λ e. absurd (h (asks-only q outline e))) (λ e. e)
 
 -- ---- the next send of an exchange in progress
 
-module _ (x : Exchange) (view : View) (t : Clock) where
+module _ (x : Exchange) (outline : Outline) (t : Clock) where
   abbrev judged : Bool → Answer Exchange → Answer Exchange
   judged same a = follow a (λ y. refuse 43 (not same) (reads y))
 
@@ -160,33 +160,33 @@ module _ (x : Exchange) (view : View) (t : Clock) where
   unjudged (refusal n) = refl
   unjudged (reads y) = refl
 
-  pub resent-same : asksFor (x .request) view ≡ true → resentIn x view t ≡ sentIn x t
+  pub resent-same : asksFor (x .request) outline ≡ true → resentIn x outline t ≡ sentIn x t
   resent-same e = ap (λ (b : Bool). judged b (sentIn x t)) e ∙ unjudged (sentIn x t)
 
   -- 40 goes first, then 41, then 43
-  pub resent-early : t .0 < x .last .0 → resentIn x view t ≡ refusal 40
+  pub resent-early : t .0 < x .last .0 → resentIn x outline t ≡ refusal 40
   resent-early l = rw (lt-ltb (t .0) (x .last .0) l)
 
-  pub resent-uncalled : asksResend (x .state) (x .sends) ≡ false → resentIn x view t ≡ refusal (refusedBy x t)
-  resent-uncalled c = ap (judged (asksFor (x .request) view)) (uncalled x t (asksResend (x .state) (x .sends)) _ c)
+  pub resent-uncalled : asksResend (x .state) (x .sends) ≡ false → resentIn x outline t ≡ refusal (refusedBy x t)
+  resent-uncalled c = ap (judged (asksFor (x .request) outline)) (uncalled x t (asksResend (x .state) (x .sends)) _ c)
 
-  pub resent-differs : asksFor (x .request) view ≡ false → x .last .0 ≤ t .0 → asksResend (x .state) (x .sends) ≡ true → resentIn x view t ≡ refusal 43
+  pub resent-differs : asksFor (x .request) outline ≡ false → x .last .0 ≤ t .0 → asksResend (x .state) (x .sends) ≡ true → resentIn x outline t ≡ refusal 43
   resent-differs a l c =
       ap (λ (b : Bool). judged b (sentIn x t)) a ∙ ap (judged false) (step-taken x t (asksResend (x .state) (x .sends)) _ l c)
 
   -- as the code finds it: what was sent is the request; or the step is refused before that is asked; or it is not
-  module _ {s : Stepped} {same : Bool} (e : s ≡ shownStep (sentIn x t)) (a : same ≡ asksFor (x .request) view) where
-    pub resent-taken : same ≡ true → s ≡ shownStep (resentIn x view t)
+  module _ {s : Stepped} {same : Bool} (e : s ≡ shownStep (sentIn x t)) (a : same ≡ asksFor (x .request) outline) where
+    pub resent-taken : same ≡ true → s ≡ shownStep (resentIn x outline t)
     resent-taken i = e ∙ ap shownStep (sym (resent-same (sym a ∙ i)))
 
-    pub resent-refused : {n : ℕ} → s ≡ Refused n → Refused n ≡ shownStep (resentIn x view t)
+    pub resent-refused : {n : ℕ} → s ≡ Refused n → Refused n ≡ shownStep (resentIn x outline t)
     resent-refused {n} r = go (sentIn x t) (sym e ∙ r)
       where
-        go : (b : Answer Exchange) → shownStep b ≡ Refused n → Refused n ≡ shownStep (judged (asksFor (x .request) view) b)
+        go : (b : Answer Exchange) → shownStep b ≡ Refused n → Refused n ≡ shownStep (judged (asksFor (x .request) outline) b)
         go (refusal m) q = sym q
         go (reads y) q = cc
 
-    pub resent-another : {y : Exchange} → same ≡ false → s ≡ To y → Refused 43 ≡ shownStep (resentIn x view t)
+    pub resent-another : {y : Exchange} → same ≡ false → s ≡ To y → Refused 43 ≡ shownStep (resentIn x outline t)
     resent-another {y} i r = go (sentIn x t) (sym e ∙ r) ∙ ap (λ (b : Bool). shownStep (judged b (sentIn x t))) (sym i ∙ a)
       where
         go : (b : Answer Exchange) → shownStep b ≡ To y → Refused 43 ≡ shownStep (judged false b)
@@ -201,33 +201,33 @@ ended-none x e = rw e
 pub goes-on : (x : Exchange) → ended (x .state) ≡ false → inProgress (Busy x) ≡ Busy x
 goes-on x e = rw e
 
-pub in-progress-is : (b : Bench) (x : Exchange) → inProgress b ≡ Busy x → b ≡ Busy x
+pub in-progress-is : (b : Slot) (x : Exchange) → inProgress b ≡ Busy x → b ≡ Busy x
 in-progress-is Idle x e = e
 in-progress-is (Busy y) x e = go (ended (y .state)) e
   where
-    go : (d : Bool) → _≡_ {A = Bench} (cond d Idle (Busy y)) (Busy x) → Busy y ≡ Busy x
+    go : (d : Bool) → _≡_ {A = Slot} (cond d Idle (Busy y)) (Busy x) → Busy y ≡ Busy x
     go true e = cc
     go false e = e
 
 -- what holds of every refusal, of a new exchange and of a resend, holds of what the end of a send answers
-pub send-cases : (b : Bench) (view : View) (t : Clock) (P : Answer Exchange → Type 0)
+pub send-cases : (b : Slot) (outline : Outline) (t : Clock) (P : Answer Exchange → Type 0)
     → ((n : ℕ) → P (refusal n))
-    → (inProgress b ≡ Idle → (request : Request) → view ≡ views.Asks request → P (reads (begun request t)))
-    → ((x : Exchange) → inProgress b ≡ Busy x → view ≡ views.Asks (x .request) → x .last .0 ≤ t .0 → asksResend (x .state) (x .sends) ≡ true
+    → (inProgress b ≡ Idle → (request : Request) → outline ≡ outlines.Asks request → P (reads (begun request t)))
+    → ((x : Exchange) → inProgress b ≡ Busy x → outline ≡ outlines.Asks (x .request) → x .last .0 ≤ t .0 → asksResend (x .state) (x .sends) ≡ true
     → P (reads (sending (x .request) (x .sends + 1) t)))
-    → P (sendEndedOn b view t)
-send-cases b view t P refused begins resends = go (inProgress b) refl
+    → P (sendEndedOn b outline t)
+send-cases b outline t P refused begins resends = go (inProgress b) refl
   where
-    new : (v : View) → view ≡ v → (inProgress b ≡ Idle) → P (startWith v t)
-    new (views.Refused n) v i = refused 42
-    new views.Ack v i = refused 42
-    new (views.Asks request) v i = begins i request v
-    new (views.Data answers) v i = refused 42
+    new : (v : Outline) → outline ≡ v → (inProgress b ≡ Idle) → P (startWith v t)
+    new (outlines.Refused n) v i = refused 42
+    new outlines.Ack v i = refused 42
+    new (outlines.Asks request) v i = begins i request v
+    new (outlines.Data answers) v i = refused 42
 
-    go : (c : Bench) → inProgress b ≡ c → P (sendEndedIn c view t)
-    go Idle i = new view refl i
+    go : (c : Slot) → inProgress b ≡ c → P (sendEndedIn c outline t)
+    go Idle i = new outline refl i
     go (Busy x) i =
-        step-cases x t (λ (a : Answer Exchange). P (follow a (λ y. refuse 43 (not (asksFor (x .request) view)) (reads y))))
+        step-cases x t (λ (a : Answer Exchange). P (follow a (λ y. refuse 43 (not (asksFor (x .request) outline)) (reads y))))
         (asksResend (x .state) (x .sends)) (sending (x .request) (x .sends + 1) t) (λ n. refused n)
-        (λ l c. by-cond P (not (asksFor (x .request) view)) (refusal 43) (reads (sending (x .request) (x .sends + 1) t)) (λ d. refused 43)
-        (λ d. resends x i (asks-only (x .request) view (not-false (asksFor (x .request) view) d)) l c))
+        (λ l c. by-cond P (not (asksFor (x .request) outline)) (refusal 43) (reads (sending (x .request) (x .sends + 1) t)) (λ d. refused 43)
+        (λ d. resends x i (asks-only (x .request) outline (not-false (asksFor (x .request) outline) d)) l c))

@@ -11,18 +11,18 @@ use Rattle.bench_clock.specs.declared.Clock.{Clock}
 use Rattle.bench_clock.specs.Times.{replyTime}
 use Rattle.mbus_rules.specs.declared.Request.{Request}
 use Rattle.mbus_rules.specs.declared.Telegram.{Telegram}
-use Rattle.mbus_rules.specs.declared.View.{View}
-use Rattle.mbus_rules.specs.declared.View.the-variants as views
+use Rattle.mbus_rules.specs.declared.Outline.{Outline}
+use Rattle.mbus_rules.specs.declared.Outline.the-variants as outlines
 use Rattle.base_rules.specs.Answers.{Answer, reads, refusal}
 use Rattle.mbus_rules.specs.Lines.{readLine}
-use Rattle.mbus_rules.specs.Views.{viewed}
+use Rattle.mbus_rules.specs.Outlines.{outlined}
 use Rattle.exchange_steps.specs.declared.Cause.{Cause}
 use Rattle.exchange_steps.specs.declared.Cause.the-variants.{Silent}
 use Rattle.exchange_steps.specs.declared.State.{State}
 use Rattle.exchange_steps.specs.declared.State.the-variants.{Waiting, Resend, Well, Failed}
 use Rattle.exchange_steps.specs.declared.Exchange.{Exchange}
-use Rattle.exchange_steps.specs.declared.Bench.{Bench}
-use Rattle.exchange_steps.specs.declared.Bench.the-variants.{Idle, Busy}
+use Rattle.exchange_steps.specs.declared.Slot.{Slot}
+use Rattle.exchange_steps.specs.declared.Slot.the-variants.{Idle, Busy}
 use Rattle.exchange_replies.specs.Fits.{fits}
 use Rattle.exchange_steps.specs.Steps.{failed, causeOf, waits, asksResend, ended, sending, begun, moved, sentIn}
 use Rattle.exchange_steps.specs.Steps.{resentIn, startWith, sendEndedIn, heardOn, heardOf}
@@ -41,7 +41,7 @@ pub late-is-silence : (x : Exchange) (t : Clock) → x .began .0 + replyTime < t
 late-is-silence x t h line = rw (past-window x t h)
 
 -- The reply is the telegram of the line that ended the exchange well.
-pub reply-is : (b : Bench) (y : Exchange) (telegram : Telegram) (t : Clock) → heardOn b (viewed (reads telegram)) t ≡ reads y → y .state ≡ Well
+pub reply-is : (b : Slot) (y : Exchange) (telegram : Telegram) (t : Clock) → heardOn b (outlined (reads telegram)) t ≡ reads y → y .state ≡ Well
     → heardOf b (reads telegram) t .reply ≡ telegram
 reply-is b y telegram t e w = rw (e, w)
 
@@ -51,22 +51,22 @@ resend-stays x cause e line t = ap (stands (Busy x)) (uncalled x t (waits (x .st
 
 -- Given none, a send of a request begins its exchange, and anything else is 42.
 module _ (telegram : Telegram) (t : Clock) where
-  pub none-begins : (request : Request) → viewed (reads telegram) ≡ views.Asks request → answer Idle (sendEnded telegram t) ≡ reads (begun request t)
-  none-begins request v = ap (λ (w : View). startWith w t) v
+  pub none-begins : (request : Request) → outlined (reads telegram) ≡ outlines.Asks request → answer Idle (sendEnded telegram t) ≡ reads (begun request t)
+  none-begins request v = ap (λ (w : Outline). startWith w t) v
 
-  pub none-refuses : ((request : Request) → viewed (reads telegram) ≡ views.Asks request → ⊥) → answer Idle (sendEnded telegram t) ≡ refusal 42
-  none-refuses other = go (viewed (reads telegram)) refl
+  pub none-refuses : ((request : Request) → outlined (reads telegram) ≡ outlines.Asks request → ⊥) → answer Idle (sendEnded telegram t) ≡ refusal 42
+  none-refuses other = go (outlined (reads telegram)) refl
     where
-      go : (v : View) → viewed (reads telegram) ≡ v → answer Idle (sendEnded telegram t) ≡ refusal 42
-      go (views.Refused n) i = ap (λ (w : View). startWith w t) i
-      go views.Ack i = ap (λ (w : View). startWith w t) i
-      go (views.Asks request) i = absurd (other request i)
-      go (views.Data answers) i = ap (λ (w : View). startWith w t) i
+      go : (v : Outline) → outlined (reads telegram) ≡ v → answer Idle (sendEnded telegram t) ≡ refusal 42
+      go (outlines.Refused n) i = ap (λ (w : Outline). startWith w t) i
+      go outlines.Ack i = ap (λ (w : Outline). startWith w t) i
+      go (outlines.Asks request) i = absurd (other request i)
+      go (outlines.Data answers) i = ap (λ (w : Outline). startWith w t) i
 
 module _ (x : Exchange) (telegram : Telegram) (t : Clock) where
   -- An exchange that has ended counts as none.
   ended-as-none : ended (x .state) ≡ true → answer (Busy x) (sendEnded telegram t) ≡ answer Idle (sendEnded telegram t)
-  ended-as-none e = ap (λ (b : Bench). sendEndedIn b (viewed (reads telegram)) t) (ended-none x e)
+  ended-as-none e = ap (λ (b : Slot). sendEndedIn b (outlined (reads telegram)) t) (ended-none x e)
 
   pub well-as-none : x .state ≡ Well → answer (Busy x) (sendEnded telegram t) ≡ answer Idle (sendEnded telegram t)
   well-as-none w = ended-as-none (ap ended w)
@@ -74,21 +74,21 @@ module _ (x : Exchange) (telegram : Telegram) (t : Clock) where
   pub failed-as-none : (cause : Cause) → x .state ≡ Failed cause → answer (Busy x) (sendEnded telegram t) ≡ answer Idle (sendEnded telegram t)
   failed-as-none cause w = ended-as-none (ap ended w)
 
-  in-hand : ended (x .state) ≡ false → answer (Busy x) (sendEnded telegram t) ≡ resentIn x (viewed (reads telegram)) t
-  in-hand e = ap (λ (b : Bench). sendEndedIn b (viewed (reads telegram)) t) (goes-on x e)
+  in-hand : ended (x .state) ≡ false → answer (Busy x) (sendEnded telegram t) ≡ resentIn x (outlined (reads telegram)) t
+  in-hand e = ap (λ (b : Slot). sendEndedIn b (outlined (reads telegram)) t) (goes-on x e)
 
   -- While one is in progress, a send of its request is the next send or is refused as such;
-  pub same-as-sent : ended (x .state) ≡ false → viewed (reads telegram) ≡ views.Asks (x .request)
+  pub same-as-sent : ended (x .state) ≡ false → outlined (reads telegram) ≡ outlines.Asks (x .request)
       → answer (Busy x) (sendEnded telegram t) ≡ sentIn x t
-  same-as-sent e v = in-hand e ∙ resent-same x (viewed (reads telegram)) t (asks-request (x .request) (viewed (reads telegram)) v)
+  same-as-sent e v = in-hand e ∙ resent-same x (outlined (reads telegram)) t (asks-request (x .request) (outlined (reads telegram)) v)
 
   -- while it waits, every send is refused, by 40 or 41;
   pub waiting-refuses : x .state ≡ Waiting → answer (Busy x) (sendEnded telegram t) ≡ refusal (refusedBy x t)
-  waiting-refuses w = in-hand (ap ended w) ∙ resent-uncalled x (viewed (reads telegram)) t (ap (λ (s : State). asksResend s (x .sends)) w)
+  waiting-refuses w = in-hand (ap ended w) ∙ resent-uncalled x (outlined (reads telegram)) t (ap (λ (s : State). asksResend s (x .sends)) w)
 
   -- and where a resend is asked for, 40 goes before 43, whatever is sent.
   pub resend-early : (cause : Cause) → x .state ≡ Resend cause → t .0 < x .last .0 → answer (Busy x) (sendEnded telegram t) ≡ refusal 40
-  resend-early cause w l = in-hand (ap ended w) ∙ resent-early x (viewed (reads telegram)) t l
+  resend-early cause w l = in-hand (ap ended w) ∙ resent-early x (outlined (reads telegram)) t l
 
 -- ---- once ended
 
@@ -105,7 +105,7 @@ module _ (x : Exchange) (e : ended (x .state) ≡ true) where
 
   later : (s : Step) (h : List Step) → next (Busy x) s ≡ Busy x → Stays h → Stays (s ∷ h)
   unfolding run
-  later s h q (inl r) = inl (ap (λ (b : Bench). run b h) q ∙ r)
+  later s h q (inl r) = inl (ap (λ (b : Slot). run b h) q ∙ r)
   later s h q (inr g) =
       inr
       (record {
@@ -115,22 +115,22 @@ module _ (x : Exchange) (e : ended (x .state) ≡ true) where
         at = g .at;
         later = g .later;
         history = ap (λ (l : List Step). s ∷ l) (g .history);
-        stayed = ap (λ (b : Bench). run b (g .before)) q ∙ g .stayed;
+        stayed = ap (λ (b : Slot). run b (g .before)) q ∙ g .stayed;
         asks = g .asks;
         begins = g .begins;
       })
 
   -- the end of a send
   module _ (telegram : Telegram) (t : Clock) (h : List Step) (rest : Stays h) where
-    told : (v : View) → viewed (reads telegram) ≡ v → next (Busy x) (sendEnded telegram t) ≡ stands (Busy x) (startWith v t)
-    told v i = ap (stands (Busy x)) (ended-as-none x telegram t e ∙ ap (λ (w : View). startWith w t) i)
+    told : (v : Outline) → outlined (reads telegram) ≡ v → next (Busy x) (sendEnded telegram t) ≡ stands (Busy x) (startWith v t)
+    told v i = ap (stands (Busy x)) (ended-as-none x telegram t e ∙ ap (λ (w : Outline). startWith w t) i)
 
-    after-send : (v : View) → viewed (reads telegram) ≡ v → Stays (sendEnded telegram t ∷ h)
+    after-send : (v : Outline) → outlined (reads telegram) ≡ v → Stays (sendEnded telegram t ∷ h)
     unfolding run
-    after-send (views.Refused n) i = later (sendEnded telegram t) h (told (views.Refused n) i) rest
-    after-send views.Ack i = later (sendEnded telegram t) h (told views.Ack i) rest
-    after-send (views.Data answers) i = later (sendEnded telegram t) h (told (views.Data answers) i) rest
-    after-send (views.Asks request) i =
+    after-send (outlines.Refused n) i = later (sendEnded telegram t) h (told (outlines.Refused n) i) rest
+    after-send outlines.Ack i = later (sendEnded telegram t) h (told outlines.Ack i) rest
+    after-send (outlines.Data answers) i = later (sendEnded telegram t) h (told (outlines.Data answers) i) rest
+    after-send (outlines.Asks request) i =
         inr
         (record {
           before = [];
@@ -141,7 +141,7 @@ module _ (x : Exchange) (e : ended (x .state) ≡ true) where
           history = refl;
           stayed = refl;
           asks = i;
-          begins = told (views.Asks request) i;
+          begins = told (outlines.Asks request) i;
         })
 
   -- It refuses every line and tick, by 40 or 41.
@@ -156,13 +156,13 @@ module _ (x : Exchange) (e : ended (x .state) ≡ true) where
   ended-stays [] = inl refl
   ended-stays (heard line t ∷ h) = later (heard line t) h (ap (stands (Busy x)) (ended-refuses line t .0)) (ended-stays h)
   ended-stays (tick t ∷ h) = later (tick t) h (ap (stands (Busy x)) (ended-refuses [] t .1)) (ended-stays h)
-  ended-stays (sendEnded telegram t ∷ h) = after-send telegram t h (ended-stays h) (viewed (reads telegram)) refl
+  ended-stays (sendEnded telegram t ∷ h) = after-send telegram t h (ended-stays h) (outlined (reads telegram)) refl
 
 -- ---- any history
 
 module _ (h : List Step) (x : Exchange) (e : after h ≡ Busy x) where
   all : Kept x (made h)
-  all = subst (λ (b : Bench). KeptBy b (made h)) e (kept Idle [] tt h)
+  all = subst (λ (b : Slot). KeptBy b (made h)) e (kept Idle [] tt h)
 
   -- The send count that it reports is exactly the sends made,
   pub sends-reported : x .sends ≡ length (made h)
@@ -201,7 +201,7 @@ module _ (h : List Step) (x : Exchange) (e : after h ≡ Busy x) where
       → x .last .0 ≤ t .0
       → t .0 ≤ send .end .0 + replyTime
       → readLine line ≡ reads telegram
-      → fits (x .request) (viewed (reads telegram)) ≡ true
+      → fits (x .request) (outlined (reads telegram)) ≡ true
       → answer (Busy x) (heard line t) ≡ reads (moved x Well t)
   takes-reply send others line t telegram w m l i r f =
       rw (r, open-window x t (rw (last-reported send others m) i), f) (step-taken x t (waits (x .state)) (moved x Well t) l (rw w))
@@ -215,16 +215,16 @@ module _ (h : List Step) (x : Exchange) (e : after h ≡ Busy x) where
 
   module _ (send : Send) (others : List Send) (t : Clock) (w : x .state ≡ Waiting) (m : made h ≡ send ∷ others) (l : x .last .0 ≤ t .0) where
     -- It fails by a line in time that does not fit: damaged, or of the wrong kind;
-    pub fails-by-line : (line : List ℕ) → t .0 ≤ send .end .0 + replyTime → fits (x .request) (viewed (readLine line)) ≡ false
-        → SendFails h x (causeOf (viewed (readLine line))) t (answer (Busy x) (heard line t))
+    pub fails-by-line : (line : List ℕ) → t .0 ≤ send .end .0 + replyTime → fits (x .request) (outlined (readLine line)) ≡ false
+        → SendFails h x (causeOf (outlined (readLine line))) t (answer (Busy x) (heard line t))
     fails-by-line line i f =
-        sends-fail (causeOf (viewed (readLine line))) t _ (line-fails x (viewed (readLine line)) t w l (rw (last-reported send others m) i) f)
+        sends-fail (causeOf (outlined (readLine line))) t _ (line-fails x (outlined (readLine line)) t w l (rw (last-reported send others m) i) f)
 
     -- and past the window by every line and every tick, as silence.
     pub fails-by-silence : (line : List ℕ) → send .end .0 + replyTime < t .0
         → SendFails h x Silent t (answer (Busy x) (heard line t)) × SendFails h x Silent t (answer (Busy x) (tick t))
     fails-by-silence line i = (
-      sends-fail Silent t _ (late-fails x (viewed (readLine line)) t w l (rw (last-reported send others m) i)),
+      sends-fail Silent t _ (late-fails x (outlined (readLine line)) t w l (rw (last-reported send others m) i)),
       sends-fail Silent t _ (tick-fails x t w l (rw (last-reported send others m) i)),
     )
 
@@ -233,11 +233,11 @@ module _ (h : List Step) (x : Exchange) (e : after h ≡ Busy x) where
     called : asksResend (x .state) (x .sends) ≡ true
     called = rw (w, all .count) (lt-ltb (length (made h)) 3 (asks-again cause w))
 
-    pub resend-recorded : viewed (reads telegram) ≡ views.Asks (x .request)
+    pub resend-recorded : outlined (reads telegram) ≡ outlines.Asks (x .request)
         → answer (Busy x) (sendEnded telegram t) ≡ reads (sending (x .request) (x .sends + 1) t)
     resend-recorded v = same-as-sent x telegram t (ap ended w) v ∙ step-taken x t (asksResend (x .state) (x .sends)) _ l called
 
-    pub another-refused : (viewed (reads telegram) ≡ views.Asks (x .request) → ⊥) → answer (Busy x) (sendEnded telegram t) ≡ refusal 43
+    pub another-refused : (outlined (reads telegram) ≡ outlines.Asks (x .request) → ⊥) → answer (Busy x) (sendEnded telegram t) ≡ refusal 43
     another-refused v =
         in-hand x telegram t (ap ended w)
-        ∙ resent-differs x (viewed (reads telegram)) t (asks-another (x .request) (viewed (reads telegram)) v) l called
+        ∙ resent-differs x (outlined (reads telegram)) t (asks-another (x .request) (outlined (reads telegram)) v) l called

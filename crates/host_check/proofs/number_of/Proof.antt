@@ -1,12 +1,12 @@
 -- `host_check::number_of` meets its contract, case by case. Assumes nothing.
 use borrow.Author.Needs.{needs}
 use mathlib.Core.Path.{sym, ap}
-use Rattle.host_check.specs.Numbers.{viewNumber}
+use Rattle.host_check.specs.Numbers.{outlineNumber}
 use Rattle.host_check.proofs.number_of.Statement.{statement}
 use Rattle.host_check.proofs.number_of.Tie as tie
 
 returns : tie.Need-returns
-returns c = ap viewNumber (sym (c .before .view .given .1))
+returns c = ap outlineNumber (sym (c .before .outline .given .1))
 
 pub number-of-spec : {M : Type 1} → statement M
 number-of-spec =

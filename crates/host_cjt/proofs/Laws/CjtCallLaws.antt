@@ -19,7 +19,7 @@ use Rattle.cjt_rules.specs.declared.CjtTelegram.{CjtTelegram}
 use Rattle.cjt_rules.specs.declared.CjtTelegram.the-variants as telegrams
 use Rattle.cjt_rules.specs.declared.CjtReading.{CjtReading}
 use Rattle.cjt_rules.specs.declared.CjtReading.the-variants as readings
-use Rattle.cjt_rules.specs.CjtViews.{cjtShown}
+use Rattle.cjt_rules.specs.CjtOutlines.{cjtShown}
 use Rattle.cjt_rules.specs.CjtWriting.{cjtLineOf, unwritten, writeCjtLine}
 use Rattle.cjt_rules.proofs.Laws.RoundTrip.{request-line, answer-line}
 use Rattle.cjt_energy.specs.declared.Converted.{Converted}

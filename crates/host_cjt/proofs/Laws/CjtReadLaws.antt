@@ -15,10 +15,10 @@ use Rattle.cjt_rules.specs.declared.CjtTelegram.{CjtTelegram}
 use Rattle.cjt_rules.specs.declared.CjtTelegram.the-variants as telegrams
 use Rattle.cjt_rules.specs.declared.CjtReading.{CjtReading}
 use Rattle.cjt_rules.specs.declared.CjtReading.the-variants as readings
-use Rattle.cjt_rules.specs.declared.CjtView.{CjtView}
-use Rattle.cjt_rules.specs.declared.CjtView.the-variants as views
+use Rattle.cjt_rules.specs.declared.CjtOutline.{CjtOutline}
+use Rattle.cjt_rules.specs.declared.CjtOutline.the-variants as outlines
 use Rattle.cjt_rules.specs.CjtLines.{readCjtLine}
-use Rattle.cjt_rules.specs.CjtViews.{cjtShown, cjtViewed}
+use Rattle.cjt_rules.specs.CjtOutlines.{cjtShown, cjtOutlined}
 use Rattle.cjt_rules.specs.CjtHost.{cjtKindNumber, cjtLineNumber, cjtHostNumber}
 use Rattle.cjt_records.specs.CjtRecords.{cjtBytes}
 use Rattle.cjt_records.proofs.Laws.CjtRecordLaws.{cjt-length}
@@ -27,22 +27,22 @@ use Rattle.host_cjt.proofs.Laws.CjtCallLaws.{reading-refused, reading-r
 
 -- ---- checking
 
-abbrev pub viewNumber : CjtView → ℕ
-viewNumber (views.Refused n) = 256 + n
-viewNumber views.Request = 1
-viewNumber views.Answer = 2
+abbrev pub outlineNumber : CjtOutline → ℕ
+outlineNumber (outlines.Refused n) = 256 + n
+outlineNumber outlines.Request = 1
+outlineNumber outlines.Answer = 2
 
-view-number : (a : Answer CjtTelegram) → viewNumber (cjtViewed a) ≡ cjtLineNumber a
-view-number (refusal n) = refl
-view-number (reads (telegrams.Request q)) = refl
-view-number (reads (telegrams.Answer a)) = refl
+outline-number : (a : Answer CjtTelegram) → outlineNumber (cjtOutlined a) ≡ cjtLineNumber a
+outline-number (refusal n) = refl
+outline-number (reads (telegrams.Request q)) = refl
+outline-number (reads (telegrams.Answer a)) = refl
 
 pub odd-number : (b : List ℕ) → length b % 2 ≡ 1 → 273 ≡ cjtHostNumber b
 odd-number b e = rw (eq-eqb (length b % 2) 1 e)
 
 -- by the outline, as the code finds it to be
-pub even-number : (b : List ℕ) → (length b % 2 ≡ 1 → ⊥) → {v w : CjtView} → v ≡ cjtViewed (readCjtLine (chars b)) → v ≡ w → viewNumber w ≡ cjtHostNumber b
-even-number b n e f = ap viewNumber (sym f ∙ e) ∙ view-number (readCjtLine (chars b)) ∙ sym (rw (ne-eqb (length b % 2) 1 n))
+pub even-number : (b : List ℕ) → (length b % 2 ≡ 1 → ⊥) → {v w : CjtOutline} → v ≡ cjtOutlined (readCjtLine (chars b)) → v ≡ w → outlineNumber w ≡ cjtHostNumber b
+even-number b n e f = ap outlineNumber (sym f ∙ e) ∙ outline-number (readCjtLine (chars b)) ∙ sym (rw (ne-eqb (length b % 2) 1 n))
 
 -- ---- reading
 

@@ -17,7 +17,7 @@ use Rattle.mbus_rules.specs.Telegrams.{bare, blank, shown}
 use Rattle.exchange_steps.specs.declared.State.{State}
 use Rattle.exchange_steps.specs.declared.State.the-variants.{Waiting, Resend, Well, Failed}
 use Rattle.exchange_steps.specs.declared.Exchange.{Exchange}
-use Rattle.exchange_steps.specs.declared.Bench.{Bench}
+use Rattle.exchange_steps.specs.declared.Slot.{Slot}
 use Rattle.exchange_steps.specs.declared.Heard.{Heard}
 use Rattle.exchange_steps.specs.declared.Stepped.{Stepped}
 use Rattle.exchange_steps.specs.declared.Stepped.the-variants.{To, Refused}
@@ -31,8 +31,8 @@ use Rattle.mbus_telegrams.specs.Kinds.{kindIn}
 use Rattle.mbus_records.specs.Telegrams.{telegramSize, telegramBytes}
 use Rattle.exchange_record.specs.declared.Taken.{Taken}
 use Rattle.exchange_record.specs.declared.Taken.the-variants as taken
-use Rattle.exchange_record.specs.Exchanges.{stateNumber, exchangeSize, exchangeBytes, benchFrom, shownBench}
-use Rattle.exchange_record.proofs.Laws.ExchangeLaws.{exchange-length, bench-size, state-told}
+use Rattle.exchange_record.specs.Exchanges.{stateNumber, exchangeSize, exchangeBytes, slotFrom, shownSlot}
+use Rattle.exchange_record.proofs.Laws.ExchangeLaws.{exchange-length, slot-size, state-told}
 use Rattle.host_exchange.specs.Calls.{stepFor, sendEndedFor, heardFor, Answers, replied, HearsReply, answerOf}
 
 pub answer-shown : (a : Answer Exchange) → answerOf (shownStep a) ≡ a
@@ -74,36 +74,36 @@ kept-length {a} {before} {after} h k = ap length (k .left) ∙ go a
     go (reads x) = laid-length before (exchangeBytes x) 0 (omega (arith, exchange-length x))
 
 -- what the record was read as
-refused-from : (b : List ℕ) {s : Taken} {n : ℕ} → s ≡ shownBench (benchFrom b) → s ≡ taken.Refused n → benchFrom b ≡ refusal n
-refused-from b {s} {n} e f = go (benchFrom b) (sym e ∙ f)
+refused-from : (b : List ℕ) {s : Taken} {n : ℕ} → s ≡ shownSlot (slotFrom b) → s ≡ taken.Refused n → slotFrom b ≡ refusal n
+refused-from b {s} {n} e f = go (slotFrom b) (sym e ∙ f)
   where
-    go : (a : Answer Bench) → shownBench a ≡ taken.Refused n → a ≡ refusal n
+    go : (a : Answer Slot) → shownSlot a ≡ taken.Refused n → a ≡ refusal n
     go (refusal m) q = cc
     go (reads x) q = cc
 
-read-from : (b : List ℕ) {s : Taken} {x : Bench} → s ≡ shownBench (benchFrom b) → s ≡ taken.Is x → benchFrom b ≡ reads x
-read-from b {s} {x} e f = go (benchFrom b) (sym e ∙ f)
+read-from : (b : List ℕ) {s : Taken} {x : Slot} → s ≡ shownSlot (slotFrom b) → s ≡ taken.Is x → slotFrom b ≡ reads x
+read-from b {s} {x} e f = go (slotFrom b) (sym e ∙ f)
   where
-    go : (a : Answer Bench) → shownBench a ≡ taken.Is x → a ≡ reads x
+    go : (a : Answer Slot) → shownSlot a ≡ taken.Is x → a ≡ reads x
     go (refusal m) q = cc
     go (reads y) q = cc
 
 -- a record that is read has its size
-pub room-read : (b : List ℕ) {s : Taken} {x : Bench} → s ≡ shownBench (benchFrom b) → s ≡ taken.Is x → exchangeSize ≤ length b
-room-read b {s} {x} e f = omega (arith, bench-size b x (read-from b e f))
+pub room-read : (b : List ℕ) {s : Taken} {x : Slot} → s ≡ shownSlot (slotFrom b) → s ≡ taken.Is x → exchangeSize ≤ length b
+room-read b {s} {x} e f = omega (arith, slot-size b x (read-from b e f))
 
 -- a step on a record that is refused, and on one that is read
-module _ (b : List ℕ) (step : Step) {s : Taken} (e : s ≡ shownBench (benchFrom b)) where
+module _ (b : List ℕ) (step : Step) {s : Taken} (e : s ≡ shownSlot (slotFrom b)) where
   pub not-read : {n : ℕ} → s ≡ taken.Refused n → Answers (stepFor b step) b b (256 + n)
   not-read {n} f = rw (refused-from b e f) (record { answer = refl; left = refl })
 
-  pub was-read : {x : Bench} {u : Stepped} {after : List ℕ} {r : ℕ} → s ≡ taken.Is x → u ≡ shownStep (answer x step) → Answers (answerOf u) b after r
+  pub was-read : {x : Slot} {u : Stepped} {after : List ℕ} {r : ℕ} → s ≡ taken.Is x → u ≡ shownStep (answer x step) → Answers (answerOf u) b after r
       → Answers (stepFor b step) b after r
   was-read {x} {u} f g k = rw (read-from b e f, ← shown-as (answer x step) u g) k
 
 -- the end of a send, by the telegram that was made for it
-pub send-was-read : (b : List ℕ) (kind address method t : ℕ) {s : Taken} → s ≡ shownBench (benchFrom b)
-    → {x : Bench} {k : Kind} {m : Telegram} {u : Stepped} {after : List ℕ} {r : ℕ} → s ≡ taken.Is x → k ≡ kindIn kind → m ≡ bare k address method
+pub send-was-read : (b : List ℕ) (kind address method t : ℕ) {s : Taken} → s ≡ shownSlot (slotFrom b)
+    → {x : Slot} {k : Kind} {m : Telegram} {u : Stepped} {after : List ℕ} {r : ℕ} → s ≡ taken.Is x → k ≡ kindIn kind → m ≡ bare k address method
     → u ≡ shownStep (answer x (sendEnded m (record { 0 = t }))) → Answers (answerOf u) b after r → Answers (sendEndedFor b kind address method t) b after r
 send-was-read b kind address method t e {x} {k} {m} {u} i made sent g kept =
     let whole : m ≡ bare (kindIn kind) address method = sent ∙ ap (λ (q : Kind). bare q address method) made in
@@ -139,7 +139,7 @@ replied-well (reads x) u v out = go (isWell (x .state))
     go false = refl
 
 -- a line, by what keeping the answer left
-pub heard-line : (x : Bench) (line : List ℕ) (t : Clock) {h : Heard} {b after out then : List ℕ} {r : ℕ} → h ≡ heardOf x (readLine line) t
+pub heard-line : (x : Slot) (line : List ℕ) (t : Clock) {h : Heard} {b after out then : List ℕ} {r : ℕ} → h ≡ heardOf x (readLine line) t
     → HearsReply (answerOf (h .stepped)) (h .reply) b after out then r
     → HearsReply (answer x (heard line t)) (shown (readLine line) .telegram) b after out then r
 heard-line x line t {h} {b} {after} {out} {then} {r} g k =
@@ -153,16 +153,16 @@ heard-line x line t {h} {b} {after} {out} {then} {r} g k =
     }
 
 -- a line on a record that is refused, with a reply's record that is too short, and with one that is not
-module _ (b line : List ℕ) (t : ℕ) (out : List ℕ) {s : Taken} (e : s ≡ shownBench (benchFrom b)) where
+module _ (b line : List ℕ) (t : ℕ) (out : List ℕ) {s : Taken} (e : s ≡ shownSlot (slotFrom b)) where
   abbrev Told : List ℕ → List ℕ → ℕ → Type 0
   Told after then r = HearsReply (heardFor b line t out) (shown (readLine line) .telegram) b after out then r
 
   pub hears-none : {n : ℕ} → s ≡ taken.Refused n → Told b out (256 + n)
   hears-none {n} f = rw (refused-from b e f) (record { step = record { answer = refl; left = refl }; reply = refl })
 
-  pub hears-short : {x : Bench} → s ≡ taken.Is x → ltb (length out) telegramSize ≡ true → Told b out (256 + 21)
+  pub hears-short : {x : Slot} → s ≡ taken.Is x → ltb (length out) telegramSize ≡ true → Told b out (256 + 21)
   hears-short {x} f h = rw (read-from b e f, h) (record { step = record { answer = refl; left = refl }; reply = refl })
 
-  pub hears-line : {x : Bench} {after then : List ℕ} {r : ℕ} → s ≡ taken.Is x → ltb (length out) telegramSize ≡ false
+  pub hears-line : {x : Slot} {after then : List ℕ} {r : ℕ} → s ≡ taken.Is x → ltb (length out) telegramSize ≡ false
       → HearsReply (answer x (heard line (record { 0 = t }))) (shown (readLine line) .telegram) b after out then r → Told after then r
   hears-line {x} f l k = rw (read-from b e f, l) k

@@ -10,13 +10,13 @@ use Rattle.host_exchange.proofs.skarrowith_exchange_heard.Tie as tie
 returns : tie.Need-returns
 returns c =
     let a = c .before .before .before .before .before .before .before .before .before .args in
-    hears-short (now (a .kept)) (now (a .line)) (a .t) (now (a .reply)) (c .before .before .before .before .bench-from .ensures)
+    hears-short (now (a .kept)) (now (a .line)) (a .t) (now (a .reply)) (c .before .before .before .before .slot-from .ensures)
     (c .before .before .stood2 .given .1) (c .if1 .taken)
 
 hear-requires : tie.Need-hear-requires
 hear-requires c κs =
     let a = c .before .before .before .before .before .before .before .before .before .before .before .args in (
-      room-read (now (a .kept)) (c .before .before .before .before .before .before .bench-from .ensures)
+      room-read (now (a .kept)) (c .before .before .before .before .before .before .slot-from .ensures)
           (c .before .before .before .before .stood2 .given .1),
       ltb-false (length (now (a .reply))) 136 (c .before .before .if1 .left),
     )
@@ -24,14 +24,14 @@ hear-requires c κs =
 returns-2 : tie.Need-returns-2
 returns-2 c =
     let a = c .before .before .before .before .before .before .before .before .args in
-    hears-none (now (a .kept)) (now (a .line)) (a .t) (now (a .reply)) (c .before .before .before .bench-from .ensures)
+    hears-none (now (a .kept)) (now (a .line)) (a .t) (now (a .reply)) (c .before .before .before .slot-from .ensures)
     (c .before .stood .given .1)
 
 returns-3 : tie.Need-returns-3
 returns-3 c =
     let a = c .before .before .before .before .before .before .before .before .before .before .before .before .before .before .before .before .args in
     hears-line (now (a .kept)) (now (a .line)) (a .t) (now (a .reply))
-    (c .before .before .before .before .before .before .before .before .before .before .before .bench-from .ensures)
+    (c .before .before .before .before .before .before .before .before .before .before .before .slot-from .ensures)
     (c .before .before .before .before .before .before .before .before .before .stood2 .given .1)
     (c .before .before .before .before .before .before .before .if1 .left) (c .before .before .before .before .hear .ensures)
 

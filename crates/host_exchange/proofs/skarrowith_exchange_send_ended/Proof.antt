@@ -11,19 +11,19 @@ use Rattle.host_exchange.proofs.skarrowith_exchange_send_ended.Tie as t
 keep-requires : tie.Need-keep-requires
 keep-requires c κs =
     room-read (now (c .before .before .before .before .before .before .before .before .before .before .args .kept))
-    (c .before .before .before .before .before .before .before .bench-from .ensures) (c .before .before .before .before .before .stood2 .given .1)
+    (c .before .before .before .before .before .before .before .slot-from .ensures) (c .before .before .before .before .before .stood2 .given .1)
 
 returns : tie.Need-returns
 returns c =
     let a = c .before .before .before .before .before .before .args in
     not-read (now (a .kept)) (sendEnded (bare (kindIn (a .kind)) (a .address) (a .method)) (record { 0 = a .t }))
-    (c .before .before .before .bench-from .ensures) (c .before .stood .given .1)
+    (c .before .before .before .slot-from .ensures) (c .before .stood .given .1)
 
 returns-2 : tie.Need-returns-2
 returns-2 c =
     let a = c .before .before .before .before .before .before .before .before .before .before .before .before .before .args in
     send-was-read (now (a .kept)) (a .kind) (a .address) (a .method) (a .t)
-    (c .before .before .before .before .before .before .before .before .before .before .bench-from .ensures)
+    (c .before .before .before .before .before .before .before .before .before .before .slot-from .ensures)
     (c .before .before .before .before .before .before .before .before .stood2 .given .1)
     (c .before .before .before .before .before .before .kind-in .ensures) (c .before .before .before .before .before .bare .ensures)
     (c .before .before .before .before .send-ended .ensures) (c .before .before .keep .ensures)

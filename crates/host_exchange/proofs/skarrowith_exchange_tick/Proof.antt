@@ -9,17 +9,17 @@ use Rattle.host_exchange.proofs.skarrowith_exchange_tick.Tie as tie
 keep-requires : tie.Need-keep-requires
 keep-requires c κs =
     room-read (now (c .before .before .before .before .before .before .before .before .args .kept))
-    (c .before .before .before .before .before .bench-from .ensures) (c .before .before .before .stood2 .given .1)
+    (c .before .before .before .before .before .slot-from .ensures) (c .before .before .before .stood2 .given .1)
 
 returns : tie.Need-returns
 returns c =
     let a = c .before .before .before .before .before .before .args in
-    not-read (now (a .kept)) (tick (record { 0 = a .t })) (c .before .before .before .bench-from .ensures) (c .before .stood .given .1)
+    not-read (now (a .kept)) (tick (record { 0 = a .t })) (c .before .before .before .slot-from .ensures) (c .before .stood .given .1)
 
 returns-2 : tie.Need-returns-2
 returns-2 c =
     let a = c .before .before .before .before .before .before .before .before .before .before .before .args in
-    was-read (now (a .kept)) (tick (record { 0 = a .t })) (c .before .before .before .before .before .before .before .before .bench-from .ensures)
+    was-read (now (a .kept)) (tick (record { 0 = a .t })) (c .before .before .before .before .before .before .before .before .slot-from .ensures)
     (c .before .before .before .before .before .before .stood2 .given .1) (c .before .before .before .before .tick .ensures) (c .before .before .keep .ensures)
 
 pub skarrowith-exchange-tick-spec : {M : Type 1} → statement M

@@ -8,7 +8,7 @@ use lib.ListN.{length, take, drop, length-drop}
 use lib.Seq.{take-length, take-take, getD-take}
 use Rattle.base_rules.specs.declared.Outcome.the-variants
 use Rattle.mbus_rules.specs.declared.Kind.the-variants as kinds
-use Rattle.mbus_rules.specs.declared.View.the-variants as views
+use Rattle.mbus_rules.specs.declared.Outline.the-variants as outlines
 use Rattle.mbus_rules.specs.declared.Entry.{Entry}
 use Rattle.mbus_rules.specs.declared.Header.{Header}
 use Rattle.mbus_rules.specs.declared.Reading.{Reading}
@@ -18,7 +18,7 @@ use Rattle.mbus_rules.specs.Headers.{headerOf, wrongHeader}
 use Rattle.mbus_rules.specs.Entries.{readEntries}
 use Rattle.mbus_rules.specs.Telegrams.{dataOf, shown}
 use Rattle.mbus_rules.specs.Lines.{readData}
-use Rattle.mbus_rules.specs.Views.{viewed}
+use Rattle.mbus_rules.specs.Outlines.{outlined}
 use Rattle.mbus_entries.specs.Walking.{entriesShown}
 use Rattle.mbus_entries.specs.declared.Entries.{Entries}
 use Rattle.mbus_reading.specs.Bodies.{bodyOf}
@@ -56,10 +56,10 @@ refused-by : (ans : Answer (List Entry)) (n : ℕ) → entriesShown ans .outcome
 refused-by (refusal m) n e = cc
 refused-by (reads done) n e = let z : _≡_ {A = ℕ} 0 1 = cc in absurd (omega arith)
 
-viewed-as : (a : ℕ) (h : Header) (ans : Answer (List Entry)) → entriesShown ans .outcome ≡ the-variants.Accepted → views.Data a ≡ viewed
+outlined-as : (a : ℕ) (h : Header) (ans : Answer (List Entry)) → entriesShown ans .outcome ≡ the-variants.Accepted → outlines.Data a ≡ outlined
     (within (dataOf a h) ans)
-viewed-as a h (refusal m) e = let z : _≡_ {A = ℕ} 0 1 = cc in absurd (omega arith)
-viewed-as a h (reads done) e = refl
+outlined-as a h (refusal m) e = let z : _≡_ {A = ℕ} 0 1 = cc in absurd (omega arith)
+outlined-as a h (reads done) e = refl
 
 accepted-as : (a : ℕ) (h : Header) (ans : Answer (List Entry)) → entriesShown ans .outcome ≡ the-variants.Accepted
     → _≡_ {A = Reading}
@@ -78,8 +78,8 @@ module _ (a : ℕ) (d : List ℕ) (x : Entries) (e : x ≡ entriesShown (bodyOf 
   pub data-refused : (n : ℕ) → x .outcome ≡ the-variants.Refused n → readData a d ≡ refusal n
   data-refused n o = data-is a d ∙ ap (within (dataOf a (headerOf d))) (refused-by (bodyOf d) n (outcome-is ∙ o))
 
-  pub data-outlined : x .outcome ≡ the-variants.Accepted → views.Data a ≡ viewed (readData a d)
-  data-outlined o = viewed-as a (headerOf d) (bodyOf d) (outcome-is ∙ o) ∙ ap viewed (sym (data-is a d))
+  pub data-outlined : x .outcome ≡ the-variants.Accepted → outlines.Data a ≡ outlined (readData a d)
+  data-outlined o = outlined-as a (headerOf d) (bodyOf d) (outcome-is ∙ o) ∙ ap outlined (sym (data-is a d))
 
   pub data-accepted : (h : Header) → h ≡ headerOf d → x .outcome ≡ the-variants.Accepted
       → _≡_ {A = Reading}

@@ -9,14 +9,14 @@ use lib.ListN.{length, take, drop, set, length-map}
 use lib.Seq.{take-at}
 use Rattle.base_rules.specs.declared.Outcome.the-variants.{Accepted}
 use Rattle.mbus_rules.specs.declared.Telegram.{Telegram}
-use Rattle.mbus_rules.specs.declared.View.{View}
+use Rattle.mbus_rules.specs.declared.Outline.{Outline}
 use Rattle.base_rules.specs.Lists.{at, any, total}
 use Rattle.base_rules.proofs.Laws.ListLaws.{Gathered, gathered-none}
 use Rattle.base_characters.proofs.Laws.CharacterLaws.{at-bytes}
 use Rattle.base_characters.specs.Characters.{over, odd, byteOf, chars}
 use Rattle.base_rules.specs.Answers.{refusal, refuse}
 use Rattle.mbus_rules.specs.Lines.{isLong, readFrame, readLine}
-use Rattle.mbus_rules.specs.Views.{viewed}
+use Rattle.mbus_rules.specs.Outlines.{outlined}
 use Rattle.base_lent.proofs.Laws.Copying.{Copied, copied-all}
 use Rattle.base_characters.proofs.Laws.PairLaws.{length-characters, length-lows, chars-drop, characters-all, pairs-hit, pairs-miss}
 use Rattle.base_characters.proofs.Laws.StoreLaws.{stored-none, stored-next}
@@ -76,12 +76,12 @@ module _ {b low : List ℕ} {i : ℕ} {now : List ℕ} (w : Walked b low i now) 
   )
 
 -- few characters have no header and no entries: the shape is the outline
-pub few-is : (s low : List ℕ) (sum : ℕ) {n : ℕ} {v : View} → length s ≤ 5 → n ≡ length s → TakenBytes s low Accepted sum
-    → v ≡ viewed (refuse 5 (isLong (take n low)) (readFrame shapeBody (take n low))) → v ≡ viewed (readLine s)
+pub few-is : (s low : List ℕ) (sum : ℕ) {n : ℕ} {v : Outline} → length s ≤ 5 → n ≡ length s → TakenBytes s low Accepted sum
+    → v ≡ outlined (refuse 5 (isLong (take n low)) (readFrame shapeBody (take n low))) → v ≡ outlined (readLine s)
 few-is s low sum h en t e =
-    e ∙ ap (λ (k : ℕ). viewed (refuse 5 (isLong (take k low)) (readFrame shapeBody (take k low)))) en
-    ∙ ap (λ (b : List ℕ). viewed (refuse 5 (isLong b) (readFrame shapeBody b))) (t .1)
-    ∙ brief-few (map byteOf s) (rw (length-map s byteOf) (omega arith)) ∙ ap viewed (sym (t .0))
+    e ∙ ap (λ (k : ℕ). outlined (refuse 5 (isLong (take k low)) (readFrame shapeBody (take k low)))) en
+    ∙ ap (λ (b : List ℕ). outlined (refuse 5 (isLong b) (readFrame shapeBody b))) (t .1)
+    ∙ brief-few (map byteOf s) (rw (length-map s byteOf) (omega arith)) ∙ ap outlined (sym (t .0))
 
 -- none at all
 pub none-is : (s : List ℕ) → length s ≡ 0 → readLine s ≡ refusal 1

@@ -2,14 +2,14 @@
 use borrow.Author.Needs.{needs}
 use denote.Ref.{now}
 use mathlib.Core.Path.{refl, sym, ap, _∙_}
-use Rattle.mbus_rules.specs.Views.{viewed}
+use Rattle.mbus_rules.specs.Outlines.{outlined}
 use Rattle.mbus_reading.proofs.Laws.TakingLaws.{taken-as, cut-room, cut-count, taken-frame}
 use Rattle.mbus_reading.proofs.outline_of.Statement.{statement}
 use Rattle.mbus_reading.proofs.outline_of.Tie as tie
 
 returns : tie.Need-returns
 returns c =
-    ap viewed
+    ap outlined
     (sym
     (taken-as (now (c .before .before .before .before .before .before .before .args .line)) (c .before .before .before .before .take-in .last .1 .0)
     (c .before .before .before .before .take-in .result .sum) (c .before .outcome .given .1) (c .before .before .before .before .take-in .ensures)))
@@ -31,7 +31,7 @@ returns-2 c =
     let t = taken-as (now (c .before .before .before .before .before .before .before .before .args .line))
     (c .before .before .before .before .before .take-in .last .1 .0) (c .before .before .before .before .before .take-in .result .sum)
     (c .before .before .enum-told .given .1) (c .before .before .before .before .before .take-in .ensures) in
-    c .outline-in .ensures ∙ ap viewed (taken-frame (now (c .before .before .before .before .before .before .before .before .args .line))
+    c .outline-in .ensures ∙ ap outlined (taken-frame (now (c .before .before .before .before .before .before .before .before .args .line))
     (c .before .before .before .before .before .take-in .last .1 .0) (c .before .before .before .before .before .take-in .result .sum) refl t)
 
 pub outline-of-spec : {M : Type 1} → statement M

@@ -13,9 +13,9 @@ use lib.Seq.{getD-take, length-take-le}
 use Rattle.mbus_rules.specs.declared.Telegram.{Telegram}
 use Rattle.mbus_rules.specs.declared.Kind.{Kind}
 use Rattle.mbus_rules.specs.declared.Kind.the-variants as kinds
-use Rattle.mbus_rules.specs.declared.View.{View}
-use Rattle.mbus_rules.specs.declared.View.the-variants as views
-use Rattle.mbus_rules.specs.Views.{viewOf, viewed}
+use Rattle.mbus_rules.specs.declared.Outline.{Outline}
+use Rattle.mbus_rules.specs.declared.Outline.the-variants as outlines
+use Rattle.mbus_rules.specs.Outlines.{outlineOf, outlined}
 use Rattle.base_rules.specs.Lists.{at}
 use Rattle.base_rules.proofs.Laws.ListLaws.{map-take}
 use Rattle.base_characters.specs.Characters.{byteOf}
@@ -100,22 +100,22 @@ module _ (s : List ℕ) where
 
 -- ---- what the outline says
 
-abbrev acceptsView : View → Bool
-acceptsView (views.Refused n) = false
-acceptsView views.Ack = true
-acceptsView (views.Asks q) = true
-acceptsView (views.Data a) = true
+abbrev acceptsOutline : Outline → Bool
+acceptsOutline (outlines.Refused n) = false
+acceptsOutline outlines.Ack = true
+acceptsOutline (outlines.Asks q) = true
+acceptsOutline (outlines.Data a) = true
 
-accepts-kind : (k : Kind) (a m : ℕ) → acceptsView (viewOf k a m) ≡ true
+accepts-kind : (k : Kind) (a m : ℕ) → acceptsOutline (outlineOf k a m) ≡ true
 accepts-kind kinds.Ack a m = refl
 accepts-kind kinds.Read a m = refl
 accepts-kind kinds.Enter a m = refl
 accepts-kind kinds.Leave a m = refl
 accepts-kind kinds.Data a m = refl
 
-accepts-viewed : (x : Answer Telegram) → acceptsView (viewed x) ≡ accepts x
-accepts-viewed (refusal n) = refl
-accepts-viewed (reads t) = accepts-kind (t .kind) (t .address) (t .method)
+accepts-outlined : (x : Answer Telegram) → acceptsOutline (outlined x) ≡ accepts x
+accepts-outlined (refusal n) = refl
+accepts-outlined (reads t) = accepts-kind (t .kind) (t .address) (t .method)
 
-pub outline-accepts : (x : Answer Telegram) {v w : View} → v ≡ viewed x → v ≡ w → acceptsView w ≡ accepts x
-outline-accepts x e o = ap acceptsView (sym o ∙ e) ∙ accepts-viewed x
+pub outline-accepts : (x : Answer Telegram) {v w : Outline} → v ≡ outlined x → v ≡ w → acceptsOutline w ≡ accepts x
+outline-accepts x e o = ap acceptsOutline (sym o ∙ e) ∙ accepts-outlined x

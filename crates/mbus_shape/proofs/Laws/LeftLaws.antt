@@ -11,8 +11,8 @@ use lib.Seq.{drop-drop}
 use Rattle.mbus_rules.specs.declared.Telegram.{Telegram}
 use Rattle.mbus_rules.specs.declared.Request.{Request}
 use Rattle.mbus_rules.specs.declared.Request.the-variants.{Read, Enter, Leave}
-use Rattle.mbus_rules.specs.declared.View.{View}
-use Rattle.mbus_rules.specs.declared.View.the-variants.{Refused, Ack, Asks, Data}
+use Rattle.mbus_rules.specs.declared.Outline.{Outline}
+use Rattle.mbus_rules.specs.declared.Outline.the-variants.{Refused, Ack, Asks, Data}
 use Rattle.base_rules.specs.Lists.{at}
 use Rattle.base_rules.specs.Answers.{Answer, reads, refusal, refuse}
 use Rattle.mbus_rules.specs.declared.Kind.the-variants as kinds
@@ -22,7 +22,7 @@ use Rattle.mbus_rules.specs.Lines.{readShort, readLong, readData, readBody, rea
 use Rattle.base_rules.proofs.Laws.ListLaws.{drop-take}
 use Rattle.base_rules.proofs.Laws.Tests.{by-test}
 use Rattle.base_rules.proofs.Laws.TestLaws.{every}
-use Rattle.mbus_rules.specs.Views.{viewed}
+use Rattle.mbus_rules.specs.Outlines.{outlined}
 use Rattle.mbus_shape.specs.Shapes.{shapeLong, shapeBody, askedOf, wholeWrong, frameBy}
 
 -- the header and the entries of a data shape, as the code cuts them out
@@ -30,25 +30,25 @@ abbrev pub part : List ℕ → List ℕ
 part b = take (length b - 2 - 7) (drop 7 b)
 
 -- what is read, by the shape
-abbrev pub Left : List ℕ → Answer Telegram → View → Type 0
+abbrev pub Left : List ℕ → Answer Telegram → Outline → Type 0
 Left b x (Refused n) = x ≡ refusal n
 Left b x Ack = x ≡ reads ack
 Left b x (Asks q) = x ≡ reads (askedOf q)
 Left b x (Data a) = (21 ≤ length b) × (x ≡ readData a (part b))
 
-left-refuse : (b : List ℕ) (n : ℕ) (test : Bool) (x y : Answer Telegram) → (test ≡ false → Left b x (viewed y)) → Left b (refuse n test x)
-    (viewed (refuse n test y))
+left-refuse : (b : List ℕ) (n : ℕ) (test : Bool) (x y : Answer Telegram) → (test ≡ false → Left b x (outlined y)) → Left b (refuse n test x)
+    (outlined (refuse n test y))
 left-refuse b n true x y h = refl
 left-refuse b n false x y h = h refl
 
-left-short : (b f : List ℕ) → Left b (readShort f) (viewed (readShort f))
+left-short : (b f : List ℕ) → Left b (readShort f) (outlined (readShort f))
 left-short b f = left-refuse b 9 (not (eqb (at f 0) 0x5B)) (reads (readOf (at f 1))) (reads (readOf (at f 1))) (λ e. refl)
 
-left-command : (b f : List ℕ) → Left b (reads (commandOf f)) (viewed (reads (commandOf f)))
+left-command : (b f : List ℕ) → Left b (reads (commandOf f)) (outlined (reads (commandOf f)))
 left-command b f = go (eqb (at f 3) 0x00)
   where
     go : (t : Bool) → Left b (reads (cond t (leaveOf (at f 1)) (enterOf (at f 1) (at f 3))))
-        (viewed (reads (cond t (leaveOf (at f 1)) (enterOf (at f 1) (at f 3)))))
+        (outlined (reads (cond t (leaveOf (at f 1)) (enterOf (at f 1) (at f 3)))))
     go true = refl
     go false = refl
 
@@ -70,31 +70,31 @@ module _ (b : List ℕ) (long : isLong b ≡ true) where
       let most : length (field b) ≤ length b - 6 = rw field-is (omega (arith, length-take (length b - 6) (drop 4 b))) in
       (omega (arith, fifteen e), ap (readData (at (field b) 1)) part-is)
 
-  left-long : Left b (readLong (field b)) (viewed (shapeLong (field b)))
+  left-long : Left b (readLong (field b)) (outlined (shapeLong (field b)))
   left-long = go (isCommand (field b))
     where
       go : (t : Bool)
           → Left b (cond t (reads (commandOf (field b))) (refuse 9 (not (isData (field b))) (readData (at (field b) 1) (drop 3 (field b)))))
-          (viewed (cond t (reads (commandOf (field b))) (refuse 9 (not (isData (field b))) (reads (bare kinds.Data (at (field b) 1) 0)))))
+          (outlined (cond t (reads (commandOf (field b))) (refuse 9 (not (isData (field b))) (reads (bare kinds.Data (at (field b) 1) 0)))))
       go true = left-command b (field b)
       go false =
           left-refuse b 9 (not (isData (field b))) (readData (at (field b) 1) (drop 3 (field b))) (reads (bare kinds.Data (at (field b) 1) 0))
           (λ e. left-data (not-false (isData (field b)) e))
 
-left-body : (b : List ℕ) → wrongStart b ≡ false → Left b (readBody b) (viewed (shapeBody b))
+left-body : (b : List ℕ) → wrongStart b ≡ false → Left b (readBody b) (outlined (shapeBody b))
 unfolding readBody shapeBody
 left-body b start = go (isAck b) (isShort b) refl refl
   where
     go : (t u : Bool) → isAck b ≡ t → isShort b ≡ u
         → Left b (cond t (reads ack) (cond u (readShort (field b)) (readLong (field b))))
-        (viewed (cond t (reads ack) (cond u (readShort (field b)) (shapeLong (field b)))))
+        (outlined (cond t (reads ack) (cond u (readShort (field b)) (shapeLong (field b)))))
     go true u e f = refl
     go false true e f = left-short b (field b)
     go false false e f = left-long b (not-false (isLong b) (rw (e, f) at start))
 
-left-chain : (b : List ℕ) (x y : Answer Telegram) (start count lengths end sum : Bool) → (start ≡ false → Left b x (viewed y))
+left-chain : (b : List ℕ) (x y : Answer Telegram) (start count lengths end sum : Bool) → (start ≡ false → Left b x (outlined y))
     → Left b (refuse 4 start (refuse 5 count (refuse 6 lengths (refuse 7 end (refuse 8 sum x)))))
-    (viewed (refuse 4 start (refuse 5 count (refuse 6 lengths (refuse 7 end (refuse 8 sum y))))))
+    (outlined (refuse 4 start (refuse 5 count (refuse 6 lengths (refuse 7 end (refuse 8 sum y))))))
 left-chain b x y true count lengths end sum h = refl
 left-chain b x y false true lengths end sum h = refl
 left-chain b x y false false true end sum h = refl
@@ -102,34 +102,34 @@ left-chain b x y false false false true sum h = refl
 left-chain b x y false false false false true h = refl
 left-chain b x y false false false false false h = h refl
 
-pub left : (b : List ℕ) (sum : ℕ) → Left b (frameBy sum readBody b) (viewed (frameBy sum shapeBody b))
+pub left : (b : List ℕ) (sum : ℕ) → Left b (frameBy sum readBody b) (outlined (frameBy sum shapeBody b))
 left b sum =
     left-chain b (readBody b) (shapeBody b) (wrongStart b) (wrongCount b) (wrongLengths b) (wrongEnd b) (cond (isLong b) (wholeWrong sum b) (wrongSum b))
     (left-body b)
 
 -- A shape by which nothing is left to be read is the outline, and so it is where there are too few bytes for data.
-viewed-asked : (q : Request) → viewed (reads (askedOf q)) ≡ Asks q
-viewed-asked (Read a) = refl
-viewed-asked (Enter a s) = refl
-viewed-asked (Leave a) = refl
+outlined-asked : (q : Request) → outlined (reads (askedOf q)) ≡ Asks q
+outlined-asked (Read a) = refl
+outlined-asked (Enter a s) = refl
+outlined-asked (Leave a) = refl
 
-viewed-left : (b : List ℕ) (x : Answer Telegram) (v : View) → length b < 21 → Left b x v → v ≡ viewed x
-viewed-left b x (Refused n) h e = rw e
-viewed-left b x Ack h e = rw e
-viewed-left b x (Asks q) h e = rw e (sym (viewed-asked q))
-viewed-left b x (Data a) h e = absurd (omega arith)
+outlined-left : (b : List ℕ) (x : Answer Telegram) (v : Outline) → length b < 21 → Left b x v → v ≡ outlined x
+outlined-left b x (Refused n) h e = rw e
+outlined-left b x Ack h e = rw e
+outlined-left b x (Asks q) h e = rw e (sym (outlined-asked q))
+outlined-left b x (Data a) h e = absurd (omega arith)
 
 -- what is too short for the long form has no header and no entries
-pub brief-few : (b : List ℕ) → length b < 6 → viewed (refuse 5 (isLong b) (readFrame shapeBody b)) ≡ viewed (readFrame readBody b)
+pub brief-few : (b : List ℕ) → length b < 6 → outlined (refuse 5 (isLong b) (readFrame shapeBody b)) ≡ outlined (readFrame readBody b)
 brief-few b h =
     by-test (isLong b) (λ e. rw (eqb-true (at b 0) 0x68 e, lt-ltb (length b) 6 h))
-    (λ e. ap (λ (long : Bool). viewed (refuse 5 long (readFrame shapeBody b))) e
-    ∙ viewed-left b (readFrame readBody b) (viewed (readFrame shapeBody b)) (omega arith)
+    (λ e. ap (λ (long : Bool). outlined (refuse 5 long (readFrame shapeBody b))) e
+    ∙ outlined-left b (readFrame readBody b) (outlined (readFrame shapeBody b)) (omega arith)
     (left-chain b (readBody b) (shapeBody b) (wrongStart b) (wrongCount b) (wrongLengths b) (wrongEnd b) (wrongSum b) (left-body b)))
 
 -- what is left, by the shape that the code found
-pub left-by : (b : List ℕ) (sum : ℕ) {v w : View} → v ≡ viewed (frameBy sum shapeBody b) → v ≡ w → Left b (frameBy sum readBody b) w
-left-by b sum e o = subst (λ (w : View). Left b (frameBy sum readBody b) w) (sym e ∙ o) (left b sum)
+pub left-by : (b : List ℕ) (sum : ℕ) {v w : Outline} → v ≡ outlined (frameBy sum shapeBody b) → v ≡ w → Left b (frameBy sum readBody b) w
+left-by b sum e o = subst (λ (w : Outline). Left b (frameBy sum readBody b) w) (sym e ∙ o) (left b sum)
 
-pub asks-left : (b : List ℕ) (sum : ℕ) (q : Request) → Left b (frameBy sum readBody b) (Asks q) → Asks q ≡ viewed (frameBy sum readBody b)
-asks-left b sum q e = rw e (sym (viewed-asked q))
+pub asks-left : (b : List ℕ) (sum : ℕ) (q : Request) → Left b (frameBy sum readBody b) (Asks q) → Asks q ≡ outlined (frameBy sum readBody b)
+asks-left b sum q e = rw e (sym (outlined-asked q))

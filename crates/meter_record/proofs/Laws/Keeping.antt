@@ -16,14 +16,14 @@ use Rattle.mbus_rules.specs.declared.Kind.the-variants as kinds
 use Rattle.mbus_rules.specs.declared.Request.{Request}
 use Rattle.mbus_rules.specs.declared.Request.the-variants.{Read, Enter, Leave}
 use Rattle.mbus_rules.specs.declared.Telegram.{Telegram}
-use Rattle.mbus_rules.specs.declared.View.{View}
-use Rattle.mbus_rules.specs.declared.View.the-variants as views
+use Rattle.mbus_rules.specs.declared.Outline.{Outline}
+use Rattle.mbus_rules.specs.declared.Outline.the-variants as outlines
 use Rattle.base_rules.specs.Answers.{Answer, reads, refusal}
 use Rattle.base_rules.proofs.Laws.AnswerLaws.{reads-same}
 use Rattle.mbus_rules.specs.Lines.{isMethod, readLine}
 use Rattle.mbus_rules.proofs.Laws.RoundTrip.{read-then-write}
 use Rattle.base_rules.proofs.Laws.Tests.{by-test, neither, passed}
-use Rattle.mbus_rules.specs.Views.{viewOf, viewed}
+use Rattle.mbus_rules.specs.Outlines.{outlineOf, outlined}
 use Rattle.mbus_rules.specs.Writing.{usedBody, wrongFor, unwritable}
 use Rattle.meter_steps.specs.declared.Core.{Core}
 use Rattle.meter_steps.specs.declared.Meter.{Meter}
@@ -103,30 +103,30 @@ returned-reached : (last : ℕ) (t : Clock) (c : Core) → last ≤ t .0 → Rea
 returned-reached last t c l r = record { template = r .template; mode = mode-at last t (c .mode) l (r .mode); used = r .used; verified = r .verified }
 
 -- an enter that was read has one of 01's methods
-abbrev Known : View → Type 0
-Known (views.Refused n) = Unit {0}
-Known views.Ack = Unit {0}
-Known (views.Data a) = Unit {0}
-Known (views.Asks (Read a)) = Unit {0}
-Known (views.Asks (Enter a s)) = isMethod s ≡ true
-Known (views.Asks (Leave a)) = Unit {0}
+abbrev Known : Outline → Type 0
+Known (outlines.Refused n) = Unit {0}
+Known outlines.Ack = Unit {0}
+Known (outlines.Data a) = Unit {0}
+Known (outlines.Asks (Read a)) = Unit {0}
+Known (outlines.Asks (Enter a s)) = isMethod s ≡ true
+Known (outlines.Asks (Leave a)) = Unit {0}
 
-kind-known : (k : Kind) (t : Telegram) → wrongFor k t ≡ false → Known (viewOf k (t .address) (t .method))
+kind-known : (k : Kind) (t : Telegram) → wrongFor k t ≡ false → Known (outlineOf k (t .address) (t .method))
 kind-known kinds.Ack t w = tt
 kind-known kinds.Read t w = tt
 kind-known kinds.Enter t w = not-false (isMethod (t .method)) (neither (not (isMethod (t .method))) (usedBody t) w .0)
 kind-known kinds.Leave t w = tt
 kind-known kinds.Data t w = tt
 
-known : (line : List ℕ) → Known (viewed (readLine line))
+known : (line : List ℕ) → Known (outlined (readLine line))
 unfolding unwritable
 known line = go (readLine line) refl
   where
-    go : (a : Answer Telegram) → readLine line ≡ a → Known (viewed a)
+    go : (a : Answer Telegram) → readLine line ≡ a → Known (outlined a)
     go (refusal n) e = tt
     go (reads t) e = kind-known (t .kind) t (read-then-write line t e .writable)
 
-instructed-reached : (t : Clock) (c : Core) (q : Request) → Known (views.Asks q) → Reached (t .0) c → Reached (t .0) (instructed t c q .core)
+instructed-reached : (t : Clock) (c : Core) (q : Request) → Known (outlines.Asks q) → Reached (t .0) c → Reached (t .0) (instructed t c q .core)
 instructed-reached t c (Leave a) k r = record { template = r .template; mode = refl; used = r .used; verified = r .verified }
 instructed-reached t c (Read a) k r = record {
   template = raised-fit (c .template) (r .template);
@@ -141,11 +141,11 @@ instructed-reached t c (Enter a s) k r = record { template = r .template; mode =
     go Use = zeros-right
     go (Verifying m since) = r .verified
 
-hears-reached : (t : Clock) (c : Core) (v : View) → Known v → Reached (t .0) c → Reached (t .0) (hears t c v .core)
-hears-reached t c (views.Refused n) k r = r
-hears-reached t c views.Ack k r = r
-hears-reached t c (views.Data a) k r = r
-hears-reached t c (views.Asks q) k r = by-test (addressed (c .address) q) (λ own. rw own (instructed-reached t c q k r)) (λ other. rw other r)
+hears-reached : (t : Clock) (c : Core) (v : Outline) → Known v → Reached (t .0) c → Reached (t .0) (hears t c v .core)
+hears-reached t c (outlines.Refused n) k r = r
+hears-reached t c outlines.Ack k r = r
+hears-reached t c (outlines.Data a) k r = r
+hears-reached t c (outlines.Asks q) k r = by-test (addressed (c .address) q) (λ own. rw own (instructed-reached t c q k r)) (λ other. rw other r)
 
 force-reached : (last : ℕ) (c : Core) (v e : ℕ) → overflows (inForce c) v e ≡ false → Reached last c → Reached last (withForce c (plus (inForce c) v e))
 force-reached last c v e fits r = record { template = r .template; mode = r .mode; used = u (c .mode) fits; verified = w (c .mode) fits }
@@ -161,11 +161,11 @@ force-reached last c v e fits r = record { template = r .template; mode = r .mod
     w (Verifying m since) f = plus-right zeros (c .verified) v e (r .verified) f
 
 -- the places of the template stay
-hears-places : (t : Clock) (c : Core) (v : View) → hears t c v .core .template .entries ≡ c .template .entries
-hears-places t c (views.Refused n) = refl
-hears-places t c views.Ack = refl
-hears-places t c (views.Data a) = refl
-hears-places t c (views.Asks q) = by-test (addressed (c .address) q) (λ own. rw own (go q)) (λ other. rw other)
+hears-places : (t : Clock) (c : Core) (v : Outline) → hears t c v .core .template .entries ≡ c .template .entries
+hears-places t c (outlines.Refused n) = refl
+hears-places t c outlines.Ack = refl
+hears-places t c (outlines.Data a) = refl
+hears-places t c (outlines.Asks q) = by-test (addressed (c .address) q) (λ own. rw own (go q)) (λ other. rw other)
   where
     go : (q : Request) → instructed t c q .core .template .entries ≡ c .template .entries
     go (Read a) = refl
@@ -184,7 +184,7 @@ module _ (m : Meter) (g : Good m) (t : Clock) (small : t .0 < 256 ^ 8) where
 
   pub heard-good : (line : List ℕ) (d : Deed) → heardAt m line t ≡ reads d → Good (leaves t d)
   heard-good line d e =
-      let v = viewed (readLine line) in
+      let v = outlined (readLine line) in
       let deed : Deed = hears t (returned t (m .core)) v in
       let p = passed 70 (earlier (m .last .0) (t .0)) (reads deed) d e in
       let so = not-unreached (leaves t deed) (hears-reached t (returned t (m .core)) v (known line) (before (p .0))) in

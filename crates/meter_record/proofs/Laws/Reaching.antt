@@ -12,8 +12,8 @@ use Rattle.bench_clock.specs.Times.{due, earlier}
 use Rattle.bench_clock.proofs.Laws.Times.{lt-due}
 use Rattle.mbus_rules.specs.declared.Telegram.{Telegram}
 use Rattle.mbus_rules.specs.declared.Request.the-variants.{Enter, Leave}
-use Rattle.mbus_rules.specs.declared.View.{View}
-use Rattle.mbus_rules.specs.declared.View.the-variants as views
+use Rattle.mbus_rules.specs.declared.Outline.{Outline}
+use Rattle.mbus_rules.specs.declared.Outline.the-variants as outlines
 use Rattle.base_rules.specs.Answers.{reads, refuse}
 use Rattle.mbus_rules.specs.Lines.{isMethod, readLine}
 use Rattle.base_rules.specs.Lists.{any}
@@ -21,7 +21,7 @@ use Rattle.mbus_rules.proofs.Laws.RoundTrip.{write-then-read}
 use Rattle.mbus_rules.specs.Telegrams.{enterOf, leaveOf}
 use Rattle.base_rules.proofs.Laws.TestLaws.{none}
 use Rattle.base_rules.proofs.Laws.Tests.{neither}
-use Rattle.mbus_rules.specs.Views.{viewed}
+use Rattle.mbus_rules.specs.Outlines.{outlined}
 use Rattle.mbus_rules.specs.Writing.{lineOf, unwritable}
 use Rattle.meter_steps.specs.declared.Core.{Core}
 use Rattle.meter_steps.specs.declared.Meter.{Meter}
@@ -37,11 +37,11 @@ use Rattle.meter_record.proofs.Laws.RecordLaws.{reached, total-within}
 -- ---- one step at a time
 
 module _ (m : Meter) (t : Clock) (c : Core) (on : earlier (m .last .0) (t .0) ≡ false) (ret : returned t (m .core) ≡ c) where
-  heard-after : (line : List ℕ) (v : View) → viewed (readLine line) ≡ v → afterEvent m (hear line t) ≡ record { last = t; core = hears t c v .core }
-  heard-after line v view =
-      ap (λ (b : Bool). shownMeterStep m t (refuse 70 b (reads (hears t (returned t (m .core)) (viewed (readLine line))))) .meter) on
-      ∙ ap (λ (x : Core). record { last = t; core = hears t x (viewed (readLine line)) .core }) ret
-      ∙ ap (λ (w : View). record { last = t; core = hears t c w .core }) view
+  heard-after : (line : List ℕ) (v : Outline) → outlined (readLine line) ≡ v → afterEvent m (hear line t) ≡ record { last = t; core = hears t c v .core }
+  heard-after line v outline =
+      ap (λ (b : Bool). shownMeterStep m t (refuse 70 b (reads (hears t (returned t (m .core)) (outlined (readLine line))))) .meter) on
+      ∙ ap (λ (x : Core). record { last = t; core = hears t x (outlined (readLine line)) .core }) ret
+      ∙ ap (λ (w : Outline). record { last = t; core = hears t c w .core }) outline
 
   measured-after : (v e : ℕ) → overflows (inForce c) v e ≡ false → afterEvent m (measure v e t) ≡ record { last = t; core = withForce c (plus (inForce c) v e) }
   measured-after v e fits =
@@ -59,27 +59,27 @@ done m = refl
 
 -- ---- three lines: an enter and a leave to FE, and one that is refused
 
-enter-view : (s : ℕ) → isMethod s ≡ true → viewed (readLine (lineOf (enterOf 0xFE s))) ≡ views.Asks (Enter 0xFE s)
+enter-outline : (s : ℕ) → isMethod s ≡ true → outlined (readLine (lineOf (enterOf 0xFE s))) ≡ outlines.Asks (Enter 0xFE s)
 unfolding unwritable any
-enter-view s m = ap viewed (write-then-read (enterOf 0xFE s) (record {
+enter-outline s m = ap outlined (write-then-read (enterOf 0xFE s) (record {
   address = lit< tt;
   header = record
       { version = lit< tt; access = lit< tt; status = lit< tt };
   places = refl;
 }) (rw m))
 
-leave-view : viewed (readLine (lineOf (leaveOf 0xFE))) ≡ views.Asks (Leave 0xFE)
+leave-outline : outlined (readLine (lineOf (leaveOf 0xFE))) ≡ outlines.Asks (Leave 0xFE)
 unfolding unwritable any
-leave-view = ap viewed (write-then-read (leaveOf 0xFE) (record {
+leave-outline = ap outlined (write-then-read (leaveOf 0xFE) (record {
   address = lit< tt;
   header = record
       { version = lit< tt; access = lit< tt; status = lit< tt };
   places = refl;
 }) refl)
 
-refused-view : viewed (readLine []) ≡ views.Refused 1
+refused-outline : outlined (readLine []) ≡ outlines.Refused 1
 unfolding readLine
-refused-view = refl
+refused-outline = refl
 
 -- ---- totals
 
@@ -136,8 +136,8 @@ module _ (a : ℕ) (t : Telegram) where
   entered : (s : ℕ) (u v : Pair) (last now : Clock) → isMethod s ≡ true → last .0 ≤ now .0
       → afterEvent (stand last Use u v) (hear (lineOf (enterOf 0xFE s)) now) ≡ stand now (Verifying s now) u zeros
   entered s u v last now m l =
-      heard-after (stand last Use u v) now (core Use u v) (le-ltb (now .0) (last .0) l) refl (lineOf (enterOf 0xFE s)) (views.Asks (Enter 0xFE s))
-      (enter-view s m)
+      heard-after (stand last Use u v) now (core Use u v) (le-ltb (now .0) (last .0) l) refl (lineOf (enterOf 0xFE s)) (outlines.Asks (Enter 0xFE s))
+      (enter-outline s m)
 
   verified : (s : ℕ) (u p v : Pair) (now : Clock) → wrongPair p v ≡ false
       → afterEvent (stand now (Verifying s now) u p) (measure (v .volume - p .volume) (v .energy - p .energy) now) ≡ stand now (Verifying s now) u v
@@ -149,11 +149,11 @@ module _ (a : ℕ) (t : Telegram) where
   left : (s : ℕ) (u v : Pair) (now : Clock) → afterEvent (stand now (Verifying s now) u v) (hear (lineOf (leaveOf 0xFE)) now) ≡ stand now Use u v
   left s u v now =
       heard-after (stand now (Verifying s now) u v) now (core (Verifying s now) u v) (no-time now) (stays s now now u v (same-time now))
-      (lineOf (leaveOf 0xFE)) (views.Asks (Leave 0xFE)) leave-view
+      (lineOf (leaveOf 0xFE)) (outlines.Asks (Leave 0xFE)) leave-outline
 
   idle : (mode : Mode) (u v : Pair) (last now : Clock) → last .0 ≤ now .0 → returned now (core mode u v) ≡ core mode u v
       → afterEvent (stand last mode u v) (hear [] now) ≡ stand now mode u v
-  idle mode u v last now l ret = heard-after (stand last mode u v) now (core mode u v) (le-ltb (now .0) (last .0) l) ret [] (views.Refused 1) refused-view
+  idle mode u v last now l ret = heard-after (stand last mode u v) now (core mode u v) (le-ltb (now .0) (last .0) l) ret [] (outlines.Refused 1) refused-outline
 
   leads : (last : Clock) (mode : Mode) (u v : Pair) → wrongMode (last .0) mode ≡ false → wrongPair (pairIn (t .entries)) u ≡ false → wrongPair zeros v ≡ false
       → (es : List Event) × (runMeter (begunMeter a t) es ≡ stand last mode u v)

@@ -11,14 +11,14 @@ use Rattle.bench_clock.specs.declared.Clock.{Clock}
 use Rattle.mbus_rules.specs.declared.Request.{Request}
 use Rattle.mbus_rules.specs.declared.Request.the-variants.{Read, Enter, Leave}
 use Rattle.mbus_rules.specs.declared.Telegram.{Telegram}
-use Rattle.mbus_rules.specs.declared.View.{View}
-use Rattle.mbus_rules.specs.declared.View.the-variants as views
+use Rattle.mbus_rules.specs.declared.Outline.{Outline}
+use Rattle.mbus_rules.specs.declared.Outline.the-variants as outlines
 use Rattle.base_rules.specs.Answers.{Answer, reads, refusal, refuse}
 use Rattle.base_rules.proofs.Laws.AnswerLaws.{reads-same}
 use Rattle.mbus_rules.specs.Telegrams.{ack}
 use Rattle.mbus_rules.specs.Lines.{readLine}
 use Rattle.base_rules.proofs.Laws.Tests.{by-test, neither, passed}
-use Rattle.mbus_rules.specs.Views.{viewed}
+use Rattle.mbus_rules.specs.Outlines.{outlined}
 use Rattle.meter_template.specs.declared.Pair.{Pair}
 use Rattle.meter_template.specs.Templates.{raised, dataWith, overflows, plus}
 use Rattle.meter_steps.specs.declared.Core.{Core}
@@ -35,12 +35,12 @@ use Rattle.meter_steps.specs.Changes.{readAt, Rises}
 
 module _ (P : Meter → Type 0) (m : Meter) (t : Clock) (stays : P m) where
   pub by-hear : (line : List ℕ)
-      → (earlier (m .last .0) (t .0) ≡ false → P (record { last = t; core = hears t (returned t (m .core)) (viewed (readLine line)) .core }))
+      → (earlier (m .last .0) (t .0) ≡ false → P (record { last = t; core = hears t (returned t (m .core)) (outlined (readLine line)) .core }))
       → P (afterEvent m (hear line t))
   by-hear line taken = go (earlier (m .last .0) (t .0)) refl
     where
       go : (back : Bool) → earlier (m .last .0) (t .0) ≡ back
-          → P (shownMeterStep m t (refuse 70 back (reads (hears t (returned t (m .core)) (viewed (readLine line))))) .meter)
+          → P (shownMeterStep m t (refuse 70 back (reads (hears t (returned t (m .core)) (outlined (readLine line))))) .meter)
       go true e = stays
       go false e = taken e
 
@@ -70,23 +70,23 @@ first-any-time a template t = le-ltb t 0 zero-le
 
 -- ---- what an instruction tells
 
-pub record Instruction (kind : Request → Bool) (own : ℕ) (v : View) : Type 0 where
+pub record Instruction (kind : Request → Bool) (own : ℕ) (v : Outline) : Type 0 where
   pub request : Request
-  pub asks : v ≡ views.Asks request
+  pub asks : v ≡ outlines.Asks request
   pub addressed-here : addressed own request ≡ true
   pub such : kind request ≡ true
 
-instruction : (kind : Request → Bool) (own : ℕ) (v : View) → instructs kind own v ≡ true → Instruction kind own v
-instruction kind own (views.Refused n) e = absurd (true≢false (sym e))
-instruction kind own views.Ack e = absurd (true≢false (sym e))
-instruction kind own (views.Data a) e = absurd (true≢false (sym e))
-instruction kind own (views.Asks q) e =
+instruction : (kind : Request → Bool) (own : ℕ) (v : Outline) → instructs kind own v ≡ true → Instruction kind own v
+instruction kind own (outlines.Refused n) e = absurd (true≢false (sym e))
+instruction kind own outlines.Ack e = absurd (true≢false (sym e))
+instruction kind own (outlines.Data a) e = absurd (true≢false (sym e))
+instruction kind own (outlines.Asks q) e =
     let both = and-eq-true-iff (addressed own q) (kind q) .0 e in
     record { request = q; asks = refl; addressed-here = both .0; such = both .1 }
 
 -- An instruction does what its kind says, from the meter after the return.
 pub obeyed : (m : Meter) (line : List ℕ) (t : Clock) (q : Request)
-    → earlier (m .last .0) (t .0) ≡ false → viewed (readLine line) ≡ views.Asks q → addressed (m .core .address) q ≡ true
+    → earlier (m .last .0) (t .0) ≡ false → outlined (readLine line) ≡ outlines.Asks q → addressed (m .core .address) q ≡ true
     → stepOf m (hear line t) ≡ reads (instructed t (returned t (m .core)) q)
 obeyed m line t q on asks own = rw (on, asks, own)
 
@@ -94,13 +94,13 @@ obeyed m line t q on asks own = rw (on, asks, own)
 obeys-told : (kind : Request → Bool) (m : Meter) (line : List ℕ) (t : Clock) → obeys kind m (hear line t) ≡ true
     → (q : Request) × (kind q ≡ true) × (stepOf m (hear line t) ≡ reads (instructed t (returned t (m .core)) q))
 obeys-told kind m line t e =
-    let both = and-eq-true-iff (not (earlier (m .last .0) (t .0))) (instructs kind (m .core .address) (viewed (readLine line))) .0 e in
-    let i = instruction kind (m .core .address) (viewed (readLine line)) (both .1) in
+    let both = and-eq-true-iff (not (earlier (m .last .0) (t .0))) (instructs kind (m .core .address) (outlined (readLine line))) .0 e in
+    let i = instruction kind (m .core .address) (outlined (readLine line)) (both .1) in
     (i .request, i .such, obeyed m line t (i .request) (not-true (earlier (m .last .0) (t .0)) (both .0)) (i .asks) (i .addressed-here))
 
 -- Enter: in verification with the method, from now on.
 pub enter-verifies : (m : Meter) (line : List ℕ) (t : Clock) (a s : ℕ)
-    → earlier (m .last .0) (t .0) ≡ false → viewed (readLine line) ≡ views.Asks (Enter a s) → addressed (m .core .address) (Enter a s) ≡ true
+    → earlier (m .last .0) (t .0) ≡ false → outlined (readLine line) ≡ outlines.Asks (Enter a s) → addressed (m .core .address) (Enter a s) ≡ true
     → afterEvent m (hear line t) .core .mode ≡ Verifying s t
 enter-verifies m line t a s on asks own = ap (λ (n : Meter). n .core .mode) (afterwards m (hear line t) _ (obeyed m line t (Enter a s) on asks own))
 
@@ -163,14 +163,14 @@ read-answered m line t e =
 
 -- Every other line gets silence.
 pub others-silent : (m : Meter) (line : List ℕ) (t : Clock) → earlier (m .last .0) (t .0) ≡ false
-    → instructs (λ q. true) (m .core .address) (viewed (readLine line)) ≡ false → stepOf m (hear line t) ≡ reads (quiet (returned t (m .core)))
-others-silent m line t on e = rw on (ap reads (go (viewed (readLine line)) e))
+    → instructs (λ q. true) (m .core .address) (outlined (readLine line)) ≡ false → stepOf m (hear line t) ≡ reads (quiet (returned t (m .core)))
+others-silent m line t on e = rw on (ap reads (go (outlined (readLine line)) e))
   where
-    go : (v : View) → instructs (λ q. true) (m .core .address) v ≡ false → hears t (returned t (m .core)) v ≡ quiet (returned t (m .core))
-    go (views.Refused n) e = refl
-    go views.Ack e = refl
-    go (views.Data a) e = refl
-    go (views.Asks q) e = rw (sym (and-true (addressed (m .core .address) q)) ∙ e)
+    go : (v : Outline) → instructs (λ q. true) (m .core .address) v ≡ false → hears t (returned t (m .core)) v ≡ quiet (returned t (m .core))
+    go (outlines.Refused n) e = refl
+    go outlines.Ack e = refl
+    go (outlines.Data a) e = refl
+    go (outlines.Asks q) e = rw (sym (and-true (addressed (m .core .address) q)) ∙ e)
 
 -- ---- measuring changes the pair in force only
 
@@ -243,12 +243,12 @@ instructed-rises t c (Read a) e = rises-same
 instructed-rises t c (Leave a) e = rises-same
 instructed-rises t c (Enter a s) e = enter-kept (c .mode) (c .verified) e
 
-hears-rises : (t : Clock) (c : Core) (v : View) → (instructs isEnter (c .address) v && inUse (c .mode)) ≡ false
+hears-rises : (t : Clock) (c : Core) (v : Outline) → (instructs isEnter (c .address) v && inUse (c .mode)) ≡ false
     → Rises (c .verified) (hears t c v .core .verified)
-hears-rises t c (views.Refused n) e = rises-same
-hears-rises t c views.Ack e = rises-same
-hears-rises t c (views.Data a) e = rises-same
-hears-rises t c (views.Asks q) e =
+hears-rises t c (outlines.Refused n) e = rises-same
+hears-rises t c outlines.Ack e = rises-same
+hears-rises t c (outlines.Data a) e = rises-same
+hears-rises t c (outlines.Asks q) e =
     by-test (addressed (c .address) q)
     (λ own. rw own (instructed-rises t c q (rw own at e)))
     (λ other. rw other rises-same)
@@ -257,7 +257,7 @@ hears-rises t c (views.Asks q) e =
 pub only-enters-clear : (m : Meter) (s : Event) → entersFromUse m s ≡ false → Rises (m .core .verified) (afterEvent m s .core .verified)
 only-enters-clear m (hear line t) e =
     by-hear (λ (n : Meter). Rises (m .core .verified) (n .core .verified)) m t rises-same line
-    (λ on. hears-rises t (returned t (m .core)) (viewed (readLine line)) (rw on at e))
+    (λ on. hears-rises t (returned t (m .core)) (outlined (readLine line)) (rw on at e))
 only-enters-clear m (measure v e t) x =
     by-measure (λ (n : Meter). Rises (m .core .verified) (n .core .verified)) m t rises-same v e
     (λ on fits. measure-rises (modeAt t (m .core .mode)) (m .core .used) (m .core .verified) v e)
@@ -303,12 +303,12 @@ zero-by-enter es m some z = by-test (sometime entersFromUse m es) (λ found. fou
 finds-verifying : (m : Meter) (e : Event) → isAccepted (stepOf m e) ≡ true → inUse (m .core .mode) ≡ false → returnsFirst m e ≡ false → findsInUse m e ≡ false
 finds-verifying m e found verifying never = rw (found, verifying) at never
 
-hears-verifying : (t : Clock) (c : Core) (v : View) → inUse (c .mode) ≡ false → instructs isLeave (c .address) v ≡ false → inUse (hears t c v .core .mode)
+hears-verifying : (t : Clock) (c : Core) (v : Outline) → inUse (c .mode) ≡ false → instructs isLeave (c .address) v ≡ false → inUse (hears t c v .core .mode)
     ≡ false
-hears-verifying t c (views.Refused n) h never = h
-hears-verifying t c views.Ack h never = h
-hears-verifying t c (views.Data a) h never = h
-hears-verifying t c (views.Asks q) h never = by-test (addressed (c .address) q) (λ own. rw own (go q (rw own at never))) (λ other. rw other h)
+hears-verifying t c (outlines.Refused n) h never = h
+hears-verifying t c outlines.Ack h never = h
+hears-verifying t c (outlines.Data a) h never = h
+hears-verifying t c (outlines.Asks q) h never = by-test (addressed (c .address) q) (λ own. rw own (go q (rw own at never))) (λ other. rw other h)
   where
     read : (mode : Mode) → inUse mode ≡ false → inUse (instructedAt t mode) ≡ false
     read Use e = e
@@ -324,7 +324,7 @@ stays-verifying : (m : Meter) (e : Event) → inUse (m .core .mode) ≡ false �
 stays-verifying m (hear line t) h never =
     let both = neither (obeys isLeave m (hear line t)) (returnsFirst m (hear line t)) never in
     by-hear (λ (n : Meter). inUse (n .core .mode) ≡ false) m t h line
-    (λ on. hears-verifying t (returned t (m .core)) (viewed (readLine line)) (finds-verifying m (hear line t) (rw on) h (both .1)) (rw on at (both .0)))
+    (λ on. hears-verifying t (returned t (m .core)) (outlined (readLine line)) (finds-verifying m (hear line t) (rw on) h (both .1)) (rw on at (both .0)))
 stays-verifying m (measure v e t) h never =
     by-measure (λ (n : Meter). inUse (n .core .mode) ≡ false) m t h v e
     (λ on fits. finds-verifying m (measure v e t) (rw (on, fits)) h never)

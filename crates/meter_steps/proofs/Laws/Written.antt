@@ -9,15 +9,15 @@ use Rattle.bench_clock.specs.declared.Clock.{Clock}
 use Rattle.mbus_rules.specs.declared.Request.{Request}
 use Rattle.mbus_rules.specs.declared.Request.the-variants.{Read, Enter, Leave}
 use Rattle.mbus_rules.specs.declared.Telegram.{Telegram}
-use Rattle.mbus_rules.specs.declared.View.{View}
-use Rattle.mbus_rules.specs.declared.View.the-variants as views
+use Rattle.mbus_rules.specs.declared.Outline.{Outline}
+use Rattle.mbus_rules.specs.declared.Outline.the-variants as outlines
 use Rattle.base_rules.specs.Answers.{reads}
 use Rattle.base_rules.proofs.Laws.AnswerLaws.{reads-same}
 use Rattle.base_rules.specs.Lists.{any}
 use Rattle.mbus_rules.specs.Lines.{readLine}
 use Rattle.mbus_rules.specs.Telegrams.{ack}
 use Rattle.base_rules.proofs.Laws.Tests.{by-test, passed}
-use Rattle.mbus_rules.specs.Views.{viewed}
+use Rattle.mbus_rules.specs.Outlines.{outlined}
 use Rattle.mbus_rules.specs.Writing.{unwritable}
 use Rattle.mbus_rules.specs.TelegramSizes.{Sized}
 use Rattle.mbus_rules.specs.declared.Kind.the-variants.{Ack}
@@ -67,11 +67,11 @@ instructed-sound t c (Enter a m) s = record { own = s .own; sized = s .sized; te
     go Use = zeros-within
     go (Verifying m since) = s .verified
 
-hears-sound : (t : Clock) (c : Core) (v : View) → Sound c → Sound (hears t c v .core)
-hears-sound t c (views.Refused n) s = s
-hears-sound t c views.Ack s = s
-hears-sound t c (views.Data a) s = s
-hears-sound t c (views.Asks q) s = by-test (addressed (c .address) q) (λ own. rw own (instructed-sound t c q s)) (λ other. rw other s)
+hears-sound : (t : Clock) (c : Core) (v : Outline) → Sound c → Sound (hears t c v .core)
+hears-sound t c (outlines.Refused n) s = s
+hears-sound t c outlines.Ack s = s
+hears-sound t c (outlines.Data a) s = s
+hears-sound t c (outlines.Asks q) s = by-test (addressed (c .address) q) (λ own. rw own (instructed-sound t c q s)) (λ other. rw other s)
 
 force-sound : (c : Core) (p : Pair) → Within p → Sound c → Sound (withForce c p)
 force-sound c p fits s = record { own = s .own; sized = s .sized; template = s .template; used = u (c .mode); verified = w (c .mode) }
@@ -88,7 +88,7 @@ returned-sound : (t : Clock) (c : Core) → Sound c → Sound (returned t c)
 returned-sound t c s = record { own = s .own; sized = s .sized; template = s .template; used = s .used; verified = s .verified }
 
 pub after-sound : (m : Meter) (e : Event) → Sound (m .core) → Sound (afterEvent m e .core)
-after-sound m (hear line t) s = by-hear (λ (n : Meter). Sound (n .core)) m t s line (λ on. hears-sound t (returned t (m .core)) (viewed (readLine line))
+after-sound m (hear line t) s = by-hear (λ (n : Meter). Sound (n .core)) m t s line (λ on. hears-sound t (returned t (m .core)) (outlined (readLine line))
     (returned-sound t (m .core) s))
 after-sound m (measure v e t) s = by-measure (λ (n : Meter). Sound (n .core)) m t s v e (λ on fits. force-sound (returned t (m .core))
     (plus (inForce (returned t (m .core))) v e) (plus-within (inForce (returned t (m .core))) v e fits) (returned-sound t (m .core) s))
@@ -122,25 +122,25 @@ instructed-proper t c (Enter a m) s = ack-proper (c .address)
 instructed-proper t c (Leave a) s = ack-proper (c .address)
 instructed-proper t c (Read a) s = answer-proper (read t c) (instructed-sound t c (Read a) s)
 
-hears-proper : (t : Clock) (c : Core) (v : View) → Sound c → Proper (c .address) (hears t c v .said)
-hears-proper t c (views.Refused n) s = tt
-hears-proper t c views.Ack s = tt
-hears-proper t c (views.Data a) s = tt
-hears-proper t c (views.Asks q) s = by-test (addressed (c .address) q) (λ own. rw own (instructed-proper t c q s)) (λ other. rw other tt)
+hears-proper : (t : Clock) (c : Core) (v : Outline) → Sound c → Proper (c .address) (hears t c v .said)
+hears-proper t c (outlines.Refused n) s = tt
+hears-proper t c outlines.Ack s = tt
+hears-proper t c (outlines.Data a) s = tt
+hears-proper t c (outlines.Asks q) s = by-test (addressed (c .address) q) (λ own. rw own (instructed-proper t c q s)) (λ other. rw other tt)
 
 step-proper : (m : Meter) (e : Event) (d : Deed) → Sound (m .core) → stepOf m e ≡ reads d → Proper (m .core .address) (d .said)
 step-proper m (hear line t) d s r =
     subst (λ (x : Deed). Proper (m .core .address) (x .said)) (reads-same (passed 70 (earlier (m .last .0) (t .0)) _ d r .1))
-    (hears-proper t (returned t (m .core)) (viewed (readLine line)) (returned-sound t (m .core) s))
+    (hears-proper t (returned t (m .core)) (outlined (readLine line)) (returned-sound t (m .core) s))
 step-proper m (measure v e t) d s r =
     subst (λ (x : Deed). Proper (m .core .address) (x .said))
     (reads-same (passed 71 (overflows (inForce (returned t (m .core))) v e) _ d (passed 70 (earlier (m .last .0) (t .0)) _ d r .1) .1)) tt
 
-hears-address : (t : Clock) (c : Core) (v : View) → hears t c v .core .address ≡ c .address
-hears-address t c (views.Refused n) = refl
-hears-address t c views.Ack = refl
-hears-address t c (views.Data a) = refl
-hears-address t c (views.Asks q) = by-test (addressed (c .address) q) (λ own. rw own (go q)) (λ other. rw other)
+hears-address : (t : Clock) (c : Core) (v : Outline) → hears t c v .core .address ≡ c .address
+hears-address t c (outlines.Refused n) = refl
+hears-address t c outlines.Ack = refl
+hears-address t c (outlines.Data a) = refl
+hears-address t c (outlines.Asks q) = by-test (addressed (c .address) q) (λ own. rw own (go q)) (λ other. rw other)
   where
     go : (q : Request) → instructed t c q .core .address ≡ c .address
     go (Read a) = refl
@@ -154,7 +154,7 @@ address-stays (e ∷ es) m = address-stays es (afterEvent m e) ∙ one m e
   where
     one : (m : Meter) (e : Event) → afterEvent m e .core .address ≡ m .core .address
     one m (hear line t) = by-hear (λ (n : Meter). n .core .address ≡ m .core .address) m t refl line
-        (λ on. hears-address t (returned t (m .core)) (viewed (readLine line)))
+        (λ on. hears-address t (returned t (m .core)) (outlined (readLine line)))
     one m (measure v e t) = by-measure (λ (n : Meter). n .core .address ≡ m .core .address) m t refl v e (λ on fits. refl)
 
 -- A meter that was set up, after any history: what it answers can be written, its line reads as it, and it is the ack or comes from

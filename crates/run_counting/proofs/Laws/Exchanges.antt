@@ -8,8 +8,8 @@ use lib.Dec.{leb, ltb}
 use Rattle.base_rules.specs.Answers.{Answer, reads, refusal}
 use Rattle.base_rules.specs.Lists.{any}
 use Rattle.mbus_rules.specs.declared.Request.the-variants.{Read}
-use Rattle.mbus_rules.specs.declared.View.{View}
-use Rattle.mbus_rules.specs.declared.View.the-variants.{Asks}
+use Rattle.mbus_rules.specs.declared.Outline.{Outline}
+use Rattle.mbus_rules.specs.declared.Outline.the-variants.{Asks}
 use Rattle.base_rules.proofs.Laws.Tests.{neither, by-test}
 use Rattle.bench_clock.specs.Times.{late}
 use Rattle.exchange_replies.specs.Fits.{fits}
@@ -20,7 +20,7 @@ use Rattle.exchange_steps.specs.declared.Cause.the-variants.{Silent}
 use Rattle.exchange_steps.specs.declared.State.the-variants.{Well}
 use Rattle.exchange_steps.specs.Histories.{exchangeAfter}
 use Rattle.bundle_check.specs.Records.{Recorded}
-use Rattle.run_counting.specs.Counting.{isSent, rowView, sendEnd, beginsFrom, answersRead, counts, onward, keptIf, countedAfter}
+use Rattle.run_counting.specs.Counting.{isSent, rowOutline, sendEnd, beginsFrom, answersRead, counts, onward, keptIf, countedAfter}
 use Rattle.run_counting.proofs.Laws.Others.{counted-append, stretch-since}
 use Rattle.run_counting.specs.Exchanges.{rowClock, rowHeard, toldRows, endsWellBy}
 
@@ -49,7 +49,7 @@ module _ (address end : ℕ) where
   fresh = begun (Read address) (rowClock end)
 
   abbrev after : Recorded → Exchange
-  after k = moved fresh (afterLine (Read address) 1 (late end (k .time)) (rowView k)) (rowClock (k .time))
+  after k = moved fresh (afterLine (Read address) 1 (late end (k .time)) (rowOutline k)) (rowClock (k .time))
 
   early-refused : (k : Recorded) → beginsFrom end k ≡ false → rowHeard fresh k ≡ refusal 40
   early-refused k e = rw (lt-ltb (k .time) end (leb-false end (k .time) e))
@@ -58,17 +58,17 @@ module _ (address end : ℕ) where
   later-taken k e = rw (le-ltb (k .time) end (leb-true end (k .time) e))
 
   decides : (k : Recorded) → waits (after k .state) ≡ false
-  decides k = go (late end (k .time)) (fits (Read address) (rowView k))
+  decides k = go (late end (k .time)) (fits (Read address) (rowOutline k))
     where
-      go : (silent fit : Bool) → waits (cond silent (failed 1 Silent) (cond fit Well (failed 1 (causeOf (rowView k))))) ≡ false
+      go : (silent fit : Bool) → waits (cond silent (failed 1 Silent) (cond fit Well (failed 1 (causeOf (rowOutline k))))) ≡ false
       go true fit = refl
       go false true = refl
       go false false = refl
 
-  decides-well : (k : Recorded) → isWell (after k .state) ≡ (not (late end (k .time)) && fits (Read address) (rowView k))
-  decides-well k = go (late end (k .time)) (fits (Read address) (rowView k))
+  decides-well : (k : Recorded) → isWell (after k .state) ≡ (not (late end (k .time)) && fits (Read address) (rowOutline k))
+  decides-well k = go (late end (k .time)) (fits (Read address) (rowOutline k))
     where
-      go : (silent fit : Bool) → isWell (cond silent (failed 1 Silent) (cond fit Well (failed 1 (causeOf (rowView k))))) ≡ (not silent && fit)
+      go : (silent fit : Bool) → isWell (cond silent (failed 1 Silent) (cond fit Well (failed 1 (causeOf (rowOutline k))))) ≡ (not silent && fit)
       go true fit = refl
       go false true = refl
       go false false = refl
@@ -105,13 +105,13 @@ module _ (address end : ℕ) where
 -- A row heard after an accepted read and the rows heard since counts exactly when the exchange that the read began, told of those rows,
 -- ends well by it.
 pub counts-as : (send : Recorded) (address : ℕ) (since : List Recorded) (k : Recorded)
-    → isSent send ≡ true → rowView send ≡ Asks (Read address) → isSent k ≡ false
+    → isSent send ≡ true → rowOutline send ≡ Asks (Read address) → isSent k ≡ false
     → counts (send ∷ since) k ≡ endsWellBy (toldRows (begun (Read address) (rowClock (sendEnd send))) since) k
 counts-as send address since k s r h = rw (s, h, r) (ends-well-by address (sendEnd send) since k)
 
 -- the same of the whole list of rows
 pub counted-as : (front : List Recorded) (send : Recorded) (address : ℕ) (since : List Recorded) (k : Recorded) (later : List Recorded)
-    → isSent send ≡ true → rowView send ≡ Asks (Read address) → any isSent since ≡ false → isSent k ≡ false
+    → isSent send ≡ true → rowOutline send ≡ Asks (Read address) → any isSent since ≡ false → isSent k ≡ false
     → countedAfter [] ((front ++ (send ∷ since)) ++ (k ∷ later))
     ≡ countedAfter [] (front ++ (send ∷ since))
     ++ keptIf (endsWellBy (toldRows (begun (Read address) (rowClock (sendEnd send))) since) k) k (countedAfter (send ∷ (since ++ (k ∷ []))) later)

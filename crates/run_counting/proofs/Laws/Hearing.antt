@@ -7,8 +7,8 @@ use borrow.Author.Tests.{leb-true, leb-false, le-ltb, lt-ltb}
 use lib.Dec.{leb}
 use Rattle.base_rules.specs.Lists.{any}
 use Rattle.mbus_rules.specs.declared.Request.the-variants.{Read, Enter, Leave}
-use Rattle.mbus_rules.specs.declared.View.{View}
-use Rattle.mbus_rules.specs.declared.View.the-variants.{Refused, Ack, Asks, Data}
+use Rattle.mbus_rules.specs.declared.Outline.{Outline}
+use Rattle.mbus_rules.specs.declared.Outline.the-variants.{Refused, Ack, Asks, Data}
 use Rattle.bench_clock.specs.Times.{late}
 use Rattle.exchange_replies.specs.Fits.{fits}
 use Rattle.base_rules.proofs.Laws.ListLaws.{any-append}
@@ -16,21 +16,21 @@ use Rattle.bundle_check.specs.Records.{Recorded}
 use Rattle.run_counting.specs.declared.ear.Ear.{Ear}
 use Rattle.run_counting.specs.declared.ear.Ear.the-variants.{Deaf, Open}
 use Rattle.run_counting.specs.declared.ear.Turn.{Turn}
-use Rattle.run_counting.specs.Counting.{isSent, rowView, looked, sendEnd, beginsFrom, countsAfter, counts, onward, keptIf, numbersFrom}
+use Rattle.run_counting.specs.Counting.{isSent, rowOutline, looked, sendEnd, beginsFrom, countsAfter, counts, onward, keptIf, numbersFrom}
 use Rattle.run_counting.specs.Ears.{earOpened, uncounted, heardBy, turnOf, passedBy}
 
 -- what is open after a send that is one, with whether a row that could decide was heard since
-abbrev openFor : Bool → Bool → View → ℕ → Ear
-openFor sent heard view end = cond (sent && not heard) (earOpened view end) Deaf
+abbrev openFor : Bool → Bool → Outline → ℕ → Ear
+openFor sent heard outline end = cond (sent && not heard) (earOpened outline end) Deaf
 
 abbrev pub earOf : List Recorded → Ear
 earOf [] = Deaf
-earOf (send ∷ since) = openFor (isSent send) (any (beginsFrom (sendEnd send)) since) (rowView send) (sendEnd send)
+earOf (send ∷ since) = openFor (isSent send) (any (beginsFrom (sendEnd send)) since) (rowOutline send) (sendEnd send)
 
 -- One more row heard at t, over plain tests: `sent` that the send is one, `heard` that a row since could decide, `later` that this row
 -- begins at or after the end.
-module _ (end t : ℕ) (now : View) where
-  abbrev countsBy : View → Bool → Bool → Bool
+module _ (end t : ℕ) (now : Outline) where
+  abbrev countsBy : Outline → Bool → Bool → Bool
   countsBy (Asks (Read address)) heard later = not heard && later && not (late end t) && fits (Read address) now
   countsBy (Asks (Enter address method)) heard later = false
   countsBy (Asks (Leave address)) heard later = false
@@ -38,7 +38,7 @@ module _ (end t : ℕ) (now : View) where
   countsBy Ack heard later = false
   countsBy (Data address) heard later = false
 
-  decided : (view : View) (later : Bool) → countsBy view true later ≡ false
+  decided : (outline : Outline) (later : Bool) → countsBy outline true later ≡ false
   decided (Asks (Read address)) later = refl
   decided (Asks (Enter address method)) later = refl
   decided (Asks (Leave address)) later = refl
@@ -46,14 +46,14 @@ module _ (end t : ℕ) (now : View) where
   decided Ack later = refl
   decided (Data address) later = refl
 
-  abbrev Turns : Bool → Bool → View → Bool → Type 0
-  Turns sent heard view later =
-      heardBy (openFor sent heard view end) t now
-      ≡ record { ear = openFor sent (heard || (later || false)) view end; counts = (sent && true) && countsBy view heard later }
+  abbrev Turns : Bool → Bool → Outline → Bool → Type 0
+  Turns sent heard outline later =
+      heardBy (openFor sent heard outline end) t now
+      ≡ record { ear = openFor sent (heard || (later || false)) outline end; counts = (sent && true) && countsBy outline heard later }
 
-  turns : (sent heard : Bool) (view : View) (later : Bool) → leb end t ≡ later → Turns sent heard view later
-  turns false heard view later e = refl
-  turns true true view later e = rw (decided view later)
+  turns : (sent heard : Bool) (outline : Outline) (later : Bool) → leb end t ≡ later → Turns sent heard outline later
+  turns false heard outline later e = refl
+  turns true true outline later e = rw (decided outline later)
   turns true false (Asks (Read address)) true e = rw (le-ltb t end (leb-true end t e))
   turns true false (Asks (Read address)) false e = rw (lt-ltb t end (leb-false end t e))
   turns true false (Asks (Enter address method)) true e = refl
@@ -68,8 +68,8 @@ module _ (end t : ℕ) (now : View) where
   turns true false (Data address) false e = refl
 
 -- the rule over those tests
-counts-by : (view : View) (end : ℕ) (since : List Recorded) (k : Recorded)
-    → countsAfter view end since k ≡ countsBy end (k .time) (rowView k) view (any (beginsFrom end) since) (leb end (k .time))
+counts-by : (outline : Outline) (end : ℕ) (since : List Recorded) (k : Recorded)
+    → countsAfter outline end since k ≡ countsBy end (k .time) (rowOutline k) outline (any (beginsFrom end) since) (leb end (k .time))
 counts-by (Asks (Read address)) end since k = refl
 counts-by (Asks (Enter address method)) end since k = refl
 counts-by (Asks (Leave address)) end since k = refl
@@ -82,7 +82,7 @@ sent-counts-not : (stretch : List Recorded) (k : Recorded) → isSent k ≡ true
 sent-counts-not [] k e = refl
 sent-counts-not (send ∷ since) k e = go (isSent send)
   where
-    go : (sent : Bool) → sent && not (isSent k) && countsAfter (rowView send) (sendEnd send) since k ≡ false
+    go : (sent : Bool) → sent && not (isSent k) && countsAfter (rowOutline send) (sendEnd send) since k ≡ false
     go true = rw e
     go false = refl
 
@@ -96,8 +96,8 @@ turn-is stretch k = go (isSent k) refl stretch
     go true e stretch = rw (sent-counts-not stretch k e, e, e)
     go false e [] = rw (e, e)
     go false e (send ∷ since) =
-        rw (e, any-append (beginsFrom (sendEnd send)) since (k ∷ []), counts-by (rowView send) (sendEnd send) since k)
-        (turns (sendEnd send) (k .time) (rowView k) (isSent send) (any (beginsFrom (sendEnd send)) since) (rowView send) (leb (sendEnd send) (k .time)) refl)
+        rw (e, any-append (beginsFrom (sendEnd send)) since (k ∷ []), counts-by (rowOutline send) (sendEnd send) since k)
+        (turns (sendEnd send) (k .time) (rowOutline k) (isSent send) (any (beginsFrom (sendEnd send)) since) (rowOutline send) (leb (sendEnd send) (k .time)) refl)
 
 -- any row: what comes next is open, and its number is noted where it counts
 pub record Next (position i : ℕ) (stretch : List Recorded) (k : Recorded) (ks : List Recorded) (turn : Turn) : Type 0 where

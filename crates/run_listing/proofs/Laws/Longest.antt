@@ -22,7 +22,7 @@ use Rattle.mbus_rules.specs.Telegrams.{ack, readOf, dataOf}
 use Rattle.base_characters.specs.Characters.{over, odd, byteOf, chars}
 use Rattle.mbus_rules.specs.Lines.{isAck, isShort, wrongStart, wrongCount, wrongLengths, wrongEnd, wrongSum, field}
 use Rattle.mbus_rules.specs.Lines.{isCommand, isData, commandOf, readLong, readBody, readLine}
-use Rattle.mbus_rules.specs.Views.{viewOf, viewed}
+use Rattle.mbus_rules.specs.Outlines.{outlineOf, outlined}
 use Rattle.bundle_rows.specs.declared.Row.{Row}
 use Rattle.base_numbers.specs.Numbers.{number}
 use Rattle.base_numbers.proofs.Laws.NumberLaws.{Bytes, number-below}
@@ -107,16 +107,16 @@ check-small b =
 refused-short : (n : ℕ) → n < 100 → length (refusedText n) ≤ 10
 refused-short n h = omega (arith, length-append (text "refused ") (decimal n), decimal-few 1 n (omega arith))
 
-view-short : (k : Kind) (a s : ℕ) → length (wordFor (viewOf k a s)) ≤ 10
-view-short kinds.Ack a s = omega arith
-view-short kinds.Read a s = omega arith
-view-short kinds.Enter a s = omega arith
-view-short kinds.Leave a s = omega arith
-view-short kinds.Data a s = omega arith
+outline-short : (k : Kind) (a s : ℕ) → length (wordFor (outlineOf k a s)) ≤ 10
+outline-short kinds.Ack a s = omega arith
+outline-short kinds.Read a s = omega arith
+outline-short kinds.Enter a s = omega arith
+outline-short kinds.Leave a s = omega arith
+outline-short kinds.Data a s = omega arith
 
-word-short : {a : Answer Telegram} → Small a → length (wordFor (viewed a)) ≤ 10
+word-short : {a : Answer Telegram} → Small a → length (wordFor (outlined a)) ≤ 10
 word-short (low n h) = refused-short n h
-word-short (value t) = view-short (t .kind) (t .address) (t .method)
+word-short (value t) = outline-short (t .kind) (t .address) (t .method)
 
 chosen-short : (t : Bool) (a b : List ℕ) (n : ℕ) → length a ≤ n → length b ≤ n → length (cond t a b) ≤ n
 chosen-short true a b n p q = p
@@ -126,7 +126,7 @@ line-short : (s : List ℕ) → length (wordOf s) ≤ 10
 unfolding wordOf columnOf
 line-short s = go (isWake s)
   where
-    go : (t : Bool) → length (columnText (cond t Wake (Reads (viewed (readLine s))))) ≤ 10
+    go : (t : Bool) → length (columnText (cond t Wake (Reads (outlined (readLine s))))) ≤ 10
     go true = omega arith
     go false = word-short (line-small s)
 

@@ -12,7 +12,7 @@ use Rattle.mbus_rules.specs.declared.Telegram.{Telegram}
 use Rattle.base_rules.specs.Answers.{Answer, reads, refusal}
 use Rattle.base_characters.specs.Characters.{carrier, chars}
 use Rattle.mbus_rules.specs.Lines.{readLine}
-use Rattle.mbus_rules.specs.Views.{viewOf, viewed}
+use Rattle.mbus_rules.specs.Outlines.{outlineOf, outlined}
 use Rattle.mbus_rules.specs.Writing.{entriesOf, bytesOfKind, lineOf, wrongFor, unwritable}
 use Rattle.base_characters.specs.Closing.{closed}
 use Rattle.base_characters.proofs.Laws.Closing.{closed-length}
@@ -25,7 +25,7 @@ use Rattle.bundle_rows.proofs.Laws.CharacterLaws.{body-whole}
 use Rattle.bundle_check.specs.Bundles.{checkOf}
 use Rattle.bundle_check.specs.Records.{Recorded}
 use Rattle.bundle_check.proofs.Laws.BodyLaws.{unchecked-inside}
-use Rattle.run_counting.specs.Counting.{isSent, rowView}
+use Rattle.run_counting.specs.Counting.{isSent, rowOutline}
 use Rattle.run_counting.specs.Ears.{rowIn}
 use Rattle.run_repeats.specs.Repeats.{tellsData, givesReading}
 use Rattle.run_repeats.specs.Marks.{DataAt}
@@ -36,17 +36,17 @@ pub record DataLine (s : List ℕ) : Type 0 where
   pub read : readLine s ≡ reads telegram
   pub kind : telegram .kind ≡ kinds.Data
 
-data-kind : (k : Kind) (address method : ℕ) → tellsData (viewOf k address method) ≡ true → k ≡ kinds.Data
+data-kind : (k : Kind) (address method : ℕ) → tellsData (outlineOf k address method) ≡ true → k ≡ kinds.Data
 data-kind kinds.Ack a m e = absurd (false≢true e)
 data-kind kinds.Read a m e = absurd (false≢true e)
 data-kind kinds.Enter a m e = absurd (false≢true e)
 data-kind kinds.Leave a m e = absurd (false≢true e)
 data-kind kinds.Data a m e = refl
 
-pub data-line : (s : List ℕ) → tellsData (viewed (readLine s)) ≡ true → DataLine s
+pub data-line : (s : List ℕ) → tellsData (outlined (readLine s)) ≡ true → DataLine s
 data-line s e = go (readLine s) refl e
   where
-    go : (a : Answer Telegram) → readLine s ≡ a → tellsData (viewed a) ≡ true → DataLine s
+    go : (a : Answer Telegram) → readLine s ≡ a → tellsData (outlined a) ≡ true → DataLine s
     go (refusal n) r f = absurd (false≢true f)
     go (reads t) r f = record { telegram = t; read = r; kind = data-kind (t .kind) (t .address) (t .method) f }
 
@@ -74,9 +74,9 @@ module _ {s : List ℕ} (d : DataLine s) where
 -- ---- rows
 
 pub gives-line : (k : Recorded) → givesReading k ≡ true → (isSent k ≡ false) × DataLine (chars (k .body))
-gives-line k e = go (isSent k) (tellsData (rowView k)) refl refl e
+gives-line k e = go (isSent k) (tellsData (rowOutline k)) refl refl e
   where
-    go : (sent tells : Bool) → isSent k ≡ sent → tellsData (rowView k) ≡ tells → not sent && tells ≡ true → (isSent k ≡ false) × DataLine (chars (k .body))
+    go : (sent tells : Bool) → isSent k ≡ sent → tellsData (rowOutline k) ≡ tells → not sent && tells ≡ true → (isSent k ≡ false) × DataLine (chars (k .body))
     go true tells p q f = absurd (false≢true f)
     go false true p q f = (p, data-line (chars (k .body)) q)
     go false false p q f = absurd (false≢true f)

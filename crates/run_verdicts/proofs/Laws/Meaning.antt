@@ -13,16 +13,16 @@ use Rattle.base_characters.specs.Characters.{chars}
 use Rattle.base_rules.specs.Lists.{any}
 use Rattle.mbus_rules.specs.declared.Request.{Request}
 use Rattle.mbus_rules.specs.declared.Request.the-variants.{Read, Enter, Leave}
-use Rattle.mbus_rules.specs.declared.View.{View}
-use Rattle.mbus_rules.specs.declared.View.the-variants as views
+use Rattle.mbus_rules.specs.declared.Outline.{Outline}
+use Rattle.mbus_rules.specs.declared.Outline.the-variants as outlines
 use Rattle.base_rules.proofs.Laws.ListLaws.{any-append}
 use Rattle.base_rules.proofs.Laws.Tests.{by-test}
 use Rattle.bench_clock.specs.declared.Clock.{Clock}
 use Rattle.bench_clock.specs.Times.{late}
 use Rattle.bench_clock.specs.Wakes.{isWake}
 use Rattle.exchange_replies.specs.Fits.{fits}
-use Rattle.exchange_steps.specs.declared.Bench.{Bench}
-use Rattle.exchange_steps.specs.declared.Bench.the-variants.{Idle, Busy}
+use Rattle.exchange_steps.specs.declared.Slot.{Slot}
+use Rattle.exchange_steps.specs.declared.Slot.the-variants.{Idle, Busy}
 use Rattle.exchange_steps.specs.declared.Cause.{Cause}
 use Rattle.exchange_steps.specs.declared.Cause.the-variants.{Silent}
 use Rattle.exchange_steps.specs.declared.Exchange.{Exchange}
@@ -33,18 +33,18 @@ use Rattle.exchange_steps.specs.Histories.{exchangeAfter, stands}
 use Rattle.exchange_steps.proofs.Laws.Steps.{by-cond, step-cases, step-taken, uncalled, asks-only, resent-same}
 use Rattle.bundle_check.specs.Records.{Recorded}
 use Rattle.bundle_check.specs.Walks.{endOf}
-use Rattle.run_counting.specs.Counting.{isSent, rowView, looked, sendEnd, beginsFrom, countsAfter, counts, onward, keptIf, lookedAt, numbersFrom, numbersOf}
+use Rattle.run_counting.specs.Counting.{isSent, rowOutline, looked, sendEnd, beginsFrom, countsAfter, counts, onward, keptIf, lookedAt, numbersFrom, numbersOf}
 use Rattle.run_counting.specs.Exchanges.{rowClock}
 use Rattle.run_verdicts.specs.declared.Verdict.{Verdict}
 use Rattle.run_verdicts.specs.declared.Verdict.the-variants.{Counts, LeftOver, Second, Unasked}
 use Rattle.run_verdicts.specs.Verdicts.{unfitting, decidedBy, heardVerdict, afterHeard, waited, resentOn, sentAs, sentVerdict, afterSent}
-use Rattle.run_verdicts.specs.Verdicts.{verdictAfter, benchAfter, toldTo, benchOf, verdictsFrom, verdictsOf}
+use Rattle.run_verdicts.specs.Verdicts.{verdictAfter, slotAfter, toldTo, slotOf, verdictsFrom, verdictsOf}
 use Rattle.run_verdicts.specs.Words.{verdictBehind, stretchOf, heardSince, heardBehind, isCounts, readSent, asksRead}
 use Rattle.run_verdicts.proofs.Laws.Telling.{end-append}
 
 -- ---- the exchange behind a send of a request, and whether a row heard since began at or after its end
 
-record Outstanding (request : Request) (end : ℕ) (heard : Bool) (b : Bench) : Type 0 where
+record Outstanding (request : Request) (end : ℕ) (heard : Bool) (b : Slot) : Type 0 where
   x : Exchange
   is : b ≡ Busy x
   same : x .request ≡ request
@@ -60,15 +60,15 @@ failed-waits-not sends cause = go (ltb sends mostSends)
     go true = refl
     go false = refl
 
-line-decides : (request : Request) (sends : ℕ) (silent : Bool) (view : View) → waits (afterLine request sends silent view) ≡ false
-line-decides request sends silent view = go silent (fits request view)
+line-decides : (request : Request) (sends : ℕ) (silent : Bool) (outline : Outline) → waits (afterLine request sends silent outline) ≡ false
+line-decides request sends silent outline = go silent (fits request outline)
   where
-    go : (silent fit : Bool) → waits (cond silent (failed sends Silent) (cond fit Well (failed sends (causeOf view)))) ≡ false
+    go : (silent fit : Bool) → waits (cond silent (failed sends Silent) (cond fit Well (failed sends (causeOf outline)))) ≡ false
     go true fit = failed-waits-not sends Silent
     go false true = refl
-    go false false = failed-waits-not sends (causeOf view)
+    go false false = failed-waits-not sends (causeOf outline)
 
-heard-on : (request : Request) (end t : ℕ) (now : View) (heard : Bool) (b : Bench) → Outstanding request end heard b
+heard-on : (request : Request) (end t : ℕ) (now : Outline) (heard : Bool) (b : Slot) → Outstanding request end heard b
     → Outstanding request end (heard || (leb end t || false)) (afterHeard b now (rowClock t))
 heard-on request end t now true b o =
     let x = o .x in
@@ -95,9 +95,9 @@ heard-on request end t now false b o =
     rw f (record { x = x; is = rw (o .is) early; same = o .same; ended = o .ended; waiting = o .waiting; last = o .last }))
 
 -- a send of a request: the exchange takes it as a resend, or begins another
-sent-on : (b : Bench) (request : Request) (end : ℕ) → Outstanding request end false (afterSent b (views.Asks request) (rowClock end))
+sent-on : (b : Slot) (request : Request) (end : ℕ) → Outstanding request end false (afterSent b (outlines.Asks request) (rowClock end))
 sent-on Idle request end = record { x = begun request (rowClock end); is = refl; same = refl; ended = refl; waiting = refl; last = λ d. refl }
-sent-on (Busy x) request end = go (asksFor (x .request) (views.Asks request)) refl
+sent-on (Busy x) request end = go (asksFor (x .request) (outlines.Asks request)) refl
   where
     t : Clock
     t = rowClock end
@@ -112,62 +112,62 @@ sent-on (Busy x) request end = go (asksFor (x .request) (views.Asks request)) re
     asked (refusal n) = fresh n
     asked (reads y) = fresh 43
 
-    go : (same : Bool) → asksFor (x .request) (views.Asks request) ≡ same → P (resentIn x (views.Asks request) t)
+    go : (same : Bool) → asksFor (x .request) (outlines.Asks request) ≡ same → P (resentIn x (outlines.Asks request) t)
     go true e =
-        let own : request ≡ x .request = cc (asks-only (x .request) (views.Asks request) e) in
-        rw (resent-same x (views.Asks request) t e)
+        let own : request ≡ x .request = cc (asks-only (x .request) (outlines.Asks request) e) in
+        rw (resent-same x (outlines.Asks request) t e)
         (step-cases x t P (asksResend (x .state) (x .sends)) (sending (x .request) (x .sends + 1) t) fresh
         (λ l c. record { x = sending (x .request) (x .sends + 1) t; is = refl; same = sym own; ended = refl; waiting = refl; last = λ d. refl }))
     go false e = rw e (asked (sentIn x t))
 
 -- ---- the exchange of a position against its last sent row and the rows heard since
 
-abbrev After : View → ℕ → Bool → Bench → Type 0
-After (views.Asks request) end heard b = Outstanding request end heard b
-After (views.Refused n) end heard b = b ≡ Idle
-After views.Ack end heard b = b ≡ Idle
-After (views.Data answers) end heard b = b ≡ Idle
+abbrev After : Outline → ℕ → Bool → Slot → Type 0
+After (outlines.Asks request) end heard b = Outstanding request end heard b
+After (outlines.Refused n) end heard b = b ≡ Idle
+After outlines.Ack end heard b = b ≡ Idle
+After (outlines.Data answers) end heard b = b ≡ Idle
 
-abbrev Behind : Bool → View → ℕ → Bool → Bench → Type 0
-Behind true view end heard b = After view end heard b
-Behind false view end heard b = b ≡ Idle
+abbrev Behind : Bool → Outline → ℕ → Bool → Slot → Type 0
+Behind true outline end heard b = After outline end heard b
+Behind false outline end heard b = b ≡ Idle
 
-abbrev Stands : List Recorded → Bench → Type 0
+abbrev Stands : List Recorded → Slot → Type 0
 Stands [] b = b ≡ Idle
-Stands (send ∷ since) b = Behind (isSent send) (rowView send) (sendEnd send) (any (beginsFrom (sendEnd send)) since) b
+Stands (send ∷ since) b = Behind (isSent send) (rowOutline send) (sendEnd send) (any (beginsFrom (sendEnd send)) since) b
 
-idle-hears : (b : Bench) (now : View) (t : Clock) → b ≡ Idle → afterHeard b now t ≡ Idle
+idle-hears : (b : Slot) (now : Outline) (t : Clock) → b ≡ Idle → afterHeard b now t ≡ Idle
 idle-hears b now t e = rw e
 
-stands-heard : (stretch : List Recorded) (k : Recorded) (b : Bench) → isSent k ≡ false → Stands stretch b
-    → Stands (onward stretch k) (afterHeard b (rowView k) (rowClock (k .time)))
+stands-heard : (stretch : List Recorded) (k : Recorded) (b : Slot) → isSent k ≡ false → Stands stretch b
+    → Stands (onward stretch k) (afterHeard b (rowOutline k) (rowClock (k .time)))
 unfolding any
-stands-heard [] k b h s = rw (h, h) (idle-hears b (rowView k) (rowClock (k .time)) s)
+stands-heard [] k b h s = rw (h, h) (idle-hears b (rowOutline k) (rowClock (k .time)) s)
 stands-heard (send ∷ since) k b h s =
     rw (h, any-append (beginsFrom (sendEnd send)) since (k ∷ []))
-    (go (isSent send) (rowView send) (any (beginsFrom (sendEnd send)) since) s)
+    (go (isSent send) (rowOutline send) (any (beginsFrom (sendEnd send)) since) s)
   where
     t : Clock
     t = rowClock (k .time)
 
-    go : (sent : Bool) (view : View) (heard : Bool) → Behind sent view (sendEnd send) heard b
-        → Behind sent view (sendEnd send) (heard || (beginsFrom (sendEnd send) k || false)) (afterHeard b (rowView k) t)
-    go false view heard s = idle-hears b (rowView k) t s
-    go true (views.Asks request) heard s = heard-on request (sendEnd send) (k .time) (rowView k) heard b s
-    go true (views.Refused n) heard s = idle-hears b (rowView k) t s
-    go true views.Ack heard s = idle-hears b (rowView k) t s
-    go true (views.Data answers) heard s = idle-hears b (rowView k) t s
+    go : (sent : Bool) (outline : Outline) (heard : Bool) → Behind sent outline (sendEnd send) heard b
+        → Behind sent outline (sendEnd send) (heard || (beginsFrom (sendEnd send) k || false)) (afterHeard b (rowOutline k) t)
+    go false outline heard s = idle-hears b (rowOutline k) t s
+    go true (outlines.Asks request) heard s = heard-on request (sendEnd send) (k .time) (rowOutline k) heard b s
+    go true (outlines.Refused n) heard s = idle-hears b (rowOutline k) t s
+    go true outlines.Ack heard s = idle-hears b (rowOutline k) t s
+    go true (outlines.Data answers) heard s = idle-hears b (rowOutline k) t s
 
-stands-sent : (stretch : List Recorded) (k : Recorded) (b : Bench) → isSent k ≡ true
-    → Stands (onward stretch k) (afterSent b (rowView k) (rowClock (sendEnd k)))
+stands-sent : (stretch : List Recorded) (k : Recorded) (b : Slot) → isSent k ≡ true
+    → Stands (onward stretch k) (afterSent b (rowOutline k) (rowClock (sendEnd k)))
 unfolding any
-stands-sent stretch k b h = rw (h, h) (go (rowView k))
+stands-sent stretch k b h = rw (h, h) (go (rowOutline k))
   where
-    go : (view : View) → After view (sendEnd k) false (afterSent b view (rowClock (sendEnd k)))
-    go (views.Asks request) = sent-on b request (sendEnd k)
-    go (views.Refused n) = refl
-    go views.Ack = refl
-    go (views.Data answers) = refl
+    go : (outline : Outline) → After outline (sendEnd k) false (afterSent b outline (rowClock (sendEnd k)))
+    go (outlines.Asks request) = sent-on b request (sendEnd k)
+    go (outlines.Refused n) = refl
+    go outlines.Ack = refl
+    go (outlines.Data answers) = refl
 
 -- a row that is looked at, and one that is not
 both : (a b : Bool) → (a && b) ≡ true → (a ≡ true) × (b ≡ true)
@@ -181,8 +181,8 @@ looked-row position k e =
     let p = both (eqb (k .position) position) (not (isWake (chars (k .body)))) e in
     (eqb-true (k .position) position (p .0), not-true (isWake (chars (k .body))) (p .1))
 
-pub told-not : (position : ℕ) (k : Recorded) (b : Bench) → looked position k ≡ false → toldTo position b k ≡ b
-unfolding looked benchAfter
+pub told-not : (position : ℕ) (k : Recorded) (b : Slot) → looked position k ≡ false → toldTo position b k ≡ b
+unfolding looked slotAfter
 told-not position k b e = go (eqb (k .position) position) (isWake (chars (k .body))) refl refl e
   where
     go : (own wake : Bool) → eqb (k .position) position ≡ own → isWake (chars (k .body)) ≡ wake → (own && not wake) ≡ false → toldTo position b k ≡ b
@@ -190,16 +190,16 @@ told-not position k b e = go (eqb (k .position) position) (isWake (chars (k .bod
     go true true p w f = rw (p, w)
     go true false p w f = let z : _≡_ {A = ℕ} 0 1 = cc in absurd (omega arith)
 
-stands-on : (position : ℕ) (stretch : List Recorded) (k : Recorded) (b : Bench) → looked position k ≡ true → Stands stretch b
+stands-on : (position : ℕ) (stretch : List Recorded) (k : Recorded) (b : Slot) → looked position k ≡ true → Stands stretch b
     → Stands (onward stretch k) (toldTo position b k)
-unfolding benchAfter
+unfolding slotAfter
 stands-on position stretch k b e s =
     let p = looked-row position k e in
     rw (eq-eqb (k .position) position (p .0), p .1)
-    (by-cond (Stands (onward stretch k)) (isSent k) (afterSent (waited b (rowClock (k .time))) (rowView k) (rowClock (sendEnd k)))
-    (afterHeard b (rowView k) (rowClock (k .time))) (λ h. stands-sent stretch k (waited b (rowClock (k .time))) h) (λ h. stands-heard stretch k b h s))
+    (by-cond (Stands (onward stretch k)) (isSent k) (afterSent (waited b (rowClock (k .time))) (rowOutline k) (rowClock (sendEnd k)))
+    (afterHeard b (rowOutline k) (rowClock (k .time))) (λ h. stands-sent stretch k (waited b (rowClock (k .time))) h) (λ h. stands-heard stretch k b h s))
 
-stands-all : (position : ℕ) (stretch : List Recorded) (b : Bench) (ks : List Recorded) → Stands stretch b
+stands-all : (position : ℕ) (stretch : List Recorded) (b : Slot) (ks : List Recorded) → Stands stretch b
     → Stands (endOf onward stretch (lookedAt position ks)) (endOf (toldTo position) b ks)
 unfolding endOf lookedAt
 stands-all position stretch b [] s = s
@@ -208,46 +208,46 @@ stands-all position stretch b (k ∷ ks) s =
     (λ e. rw e (stands-all position (onward stretch k) (toldTo position b k) ks (stands-on position stretch k b e s)))
     (λ e. rw (e, told-not position k b e) (stands-all position stretch b ks s))
 
-stands-so : (position : ℕ) (before : List Recorded) → Stands (stretchOf position before) (benchOf position before)
+stands-so : (position : ℕ) (before : List Recorded) → Stands (stretchOf position before) (slotOf position before)
 stands-so position before = stands-all position [] Idle before refl
 
 -- ---- so a heard row has the verdict that the rows say
 
-heard-verdict : (stretch : List Recorded) (k : Recorded) (b : Bench) → Stands stretch b
-    → heardVerdict b (rowView k) (rowClock (k .time)) ≡ heardBehind stretch k
+heard-verdict : (stretch : List Recorded) (k : Recorded) (b : Slot) → Stands stretch b
+    → heardVerdict b (rowOutline k) (rowClock (k .time)) ≡ heardBehind stretch k
 heard-verdict [] k b s = rw s
-heard-verdict (send ∷ since) k b s = go (isSent send) (rowView send) s
+heard-verdict (send ∷ since) k b s = go (isSent send) (rowOutline send) s
   where
-    idle : b ≡ Idle → heardVerdict b (rowView k) (rowClock (k .time)) ≡ Unasked
+    idle : b ≡ Idle → heardVerdict b (rowOutline k) (rowClock (k .time)) ≡ Unasked
     idle e = rw e
 
-    go : (sent : Bool) (view : View) → Behind sent view (sendEnd send) (any (beginsFrom (sendEnd send)) since) b
-        → heardVerdict b (rowView k) (rowClock (k .time)) ≡ cond sent (heardSince view (sendEnd send) since k) Unasked
-    go false view s = idle s
-    go true (views.Asks request) s = rw (s .is, s .ended, s .same, s .waiting) (flip (any (beginsFrom (sendEnd send)) since))
+    go : (sent : Bool) (outline : Outline) → Behind sent outline (sendEnd send) (any (beginsFrom (sendEnd send)) since) b
+        → heardVerdict b (rowOutline k) (rowClock (k .time)) ≡ cond sent (heardSince outline (sendEnd send) since k) Unasked
+    go false outline s = idle s
+    go true (outlines.Asks request) s = rw (s .is, s .ended, s .same, s .waiting) (flip (any (beginsFrom (sendEnd send)) since))
       where
         flip : (heard : Bool)
-            → cond (ltb (k .time) (sendEnd send)) LeftOver (cond (not heard) (decidedBy request (late (sendEnd send) (k .time)) (rowView k)) Second)
-            ≡ cond (ltb (k .time) (sendEnd send)) LeftOver (cond heard Second (decidedBy request (late (sendEnd send) (k .time)) (rowView k)))
+            → cond (ltb (k .time) (sendEnd send)) LeftOver (cond (not heard) (decidedBy request (late (sendEnd send) (k .time)) (rowOutline k)) Second)
+            ≡ cond (ltb (k .time) (sendEnd send)) LeftOver (cond heard Second (decidedBy request (late (sendEnd send) (k .time)) (rowOutline k)))
         flip true = refl
         flip false = refl
-    go true (views.Refused n) s = idle s
-    go true views.Ack s = idle s
-    go true (views.Data answers) s = idle s
+    go true (outlines.Refused n) s = idle s
+    go true outlines.Ack s = idle s
+    go true (outlines.Data answers) s = idle s
 
 pub heard-means : (before : List Recorded) (k : Recorded) → isWake (chars (k .body)) ≡ false → isSent k ≡ false
     → verdictBehind before k ≡ heardBehind (stretchOf (k .position) before) k
 unfolding verdictAfter
-heard-means before k w h = rw (w, h) (heard-verdict (stretchOf (k .position) before) k (benchOf (k .position) before) (stands-so (k .position) before))
+heard-means before k w h = rw (w, h) (heard-verdict (stretchOf (k .position) before) k (slotOf (k .position) before) (stands-so (k .position) before))
 
 -- ---- what has no part in it
 
 pub others-told-not : (position : ℕ) (front : List Recorded) (k : Recorded) (later : List Recorded) → looked position k ≡ false
-    → benchOf position (front ++ (k ∷ later)) ≡ benchOf position (front ++ later)
+    → slotOf position (front ++ (k ∷ later)) ≡ slotOf position (front ++ later)
 unfolding endOf
 others-told-not position front k later e =
     end-append (toldTo position) Idle front (k ∷ later)
-    ∙ ap (λ (b : Bench). endOf (toldTo position) b later) (told-not position k (endOf (toldTo position) Idle front) e)
+    ∙ ap (λ (b : Slot). endOf (toldTo position) b later) (told-not position k (endOf (toldTo position) Idle front) e)
     ∙ sym (end-append (toldTo position) Idle front later)
 
 -- ---- the verdict at a place
@@ -258,27 +258,27 @@ unfolding verdictsFrom
 verdict-there before k later = go [] before
   where
     go : (done before : List Recorded)
-        → getD (verdictsFrom done (before ++ (k ∷ later))) (length before) Unasked ≡ verdictAfter (benchOf (k .position) (done ++ before)) k
-    go done [] = ap (λ (l : List Recorded). verdictAfter (benchOf (k .position) l) k) (sym (append-nil done))
+        → getD (verdictsFrom done (before ++ (k ∷ later))) (length before) Unasked ≡ verdictAfter (slotOf (k .position) (done ++ before)) k
+    go done [] = ap (λ (l : List Recorded). verdictAfter (slotOf (k .position) l) k) (sym (append-nil done))
     go done (j ∷ before) =
-        go (done ++ (j ∷ [])) before ∙ ap (λ (l : List Recorded). verdictAfter (benchOf (k .position) l) k) (append-assoc done (j ∷ []) before)
+        go (done ++ (j ∷ [])) before ∙ ap (λ (l : List Recorded). verdictAfter (slotOf (k .position) l) k) (append-assoc done (j ∷ []) before)
 
 -- ---- counts for reads is 2026-04's
 
-decides-counts : (request : Request) (silent : Bool) (now : View) → isCounts (decidedBy request silent now) ≡ (not silent && fits request now)
+decides-counts : (request : Request) (silent : Bool) (now : Outline) → isCounts (decidedBy request silent now) ≡ (not silent && fits request now)
 decides-counts request true now = refl
 decides-counts request false now = go (fits request now) now
   where
-    go : (fit : Bool) (now : View) → isCounts (cond fit Counts (unfitting now)) ≡ (true && fit)
+    go : (fit : Bool) (now : Outline) → isCounts (cond fit Counts (unfitting now)) ≡ (true && fit)
     go true now = refl
-    go false (views.Refused n) = refl
-    go false views.Ack = refl
-    go false (views.Asks other) = refl
-    go false (views.Data answers) = refl
+    go false (outlines.Refused n) = refl
+    go false outlines.Ack = refl
+    go false (outlines.Asks other) = refl
+    go false (outlines.Data answers) = refl
 
 counted-heard : (stretch : List Recorded) (k : Recorded) → isSent k ≡ false → counts stretch k ≡ (asksRead stretch && isCounts (heardBehind stretch k))
 counted-heard [] k h = refl
-counted-heard (send ∷ since) k h = rw h (go (isSent send) (rowView send))
+counted-heard (send ∷ since) k h = rw h (go (isSent send) (rowOutline send))
   where
     end : ℕ
     end = sendEnd send
@@ -288,39 +288,39 @@ counted-heard (send ∷ since) k h = rw h (go (isSent send) (rowView send))
     none false = refl
 
     read : (address : ℕ) (heard later : Bool) → leb end (k .time) ≡ later
-        → (not heard && later && not (late end (k .time)) && fits (Read address) (rowView k))
-        ≡ isCounts (cond (ltb (k .time) end) LeftOver (cond heard Second (decidedBy (Read address) (late end (k .time)) (rowView k))))
+        → (not heard && later && not (late end (k .time)) && fits (Read address) (rowOutline k))
+        ≡ isCounts (cond (ltb (k .time) end) LeftOver (cond heard Second (decidedBy (Read address) (late end (k .time)) (rowOutline k))))
     read address true true e = rw (le-ltb (k .time) end (leb-true end (k .time) e))
     read address true false e = rw (lt-ltb (k .time) end (leb-false end (k .time) e))
-    read address false true e = rw (le-ltb (k .time) end (leb-true end (k .time) e)) (sym (decides-counts (Read address) (late end (k .time)) (rowView k)))
+    read address false true e = rw (le-ltb (k .time) end (leb-true end (k .time) e)) (sym (decides-counts (Read address) (late end (k .time)) (rowOutline k)))
     read address false false e = rw (lt-ltb (k .time) end (leb-false end (k .time) e))
 
-    go : (sent : Bool) (view : View)
-        → (sent && true && countsAfter view end since k) ≡ ((sent && readSent view) && isCounts (cond sent (heardSince view end since k) Unasked))
-    go false view = refl
-    go true (views.Asks (Read address)) = read address (any (beginsFrom end) since) (leb end (k .time)) refl
-    go true (views.Asks (Enter address method)) = refl
-    go true (views.Asks (Leave address)) = refl
-    go true (views.Refused n) = refl
-    go true views.Ack = refl
-    go true (views.Data answers) = refl
+    go : (sent : Bool) (outline : Outline)
+        → (sent && true && countsAfter outline end since k) ≡ ((sent && readSent outline) && isCounts (cond sent (heardSince outline end since k) Unasked))
+    go false outline = refl
+    go true (outlines.Asks (Read address)) = read address (any (beginsFrom end) since) (leb end (k .time)) refl
+    go true (outlines.Asks (Enter address method)) = refl
+    go true (outlines.Asks (Leave address)) = refl
+    go true (outlines.Refused n) = refl
+    go true outlines.Ack = refl
+    go true (outlines.Data answers) = refl
 
 -- a sent row does not count, by either
-sent-never : (b : Bench) (view : View) (end : Clock) → isCounts (sentVerdict b view end) ≡ false
-sent-never b (views.Refused n) end = refl
-sent-never b views.Ack end = refl
-sent-never b (views.Asks request) end = go (resentOn b (views.Asks request) end)
+sent-never : (b : Slot) (outline : Outline) (end : Clock) → isCounts (sentVerdict b outline end) ≡ false
+sent-never b (outlines.Refused n) end = refl
+sent-never b outlines.Ack end = refl
+sent-never b (outlines.Asks request) end = go (resentOn b (outlines.Asks request) end)
   where
     go : (a : Answer Exchange) → isCounts (sentAs a) ≡ false
     go (refusal n) = refl
     go (reads x) = refl
-sent-never b (views.Data answers) end = refl
+sent-never b (outlines.Data answers) end = refl
 
 counted-sent : (stretch : List Recorded) (k : Recorded) → isSent k ≡ true → counts stretch k ≡ false
 counted-sent [] k h = refl
 counted-sent (send ∷ since) k h = rw h (go (isSent send))
   where
-    go : (sent : Bool) → (sent && false && countsAfter (rowView send) (sendEnd send) since k) ≡ false
+    go : (sent : Bool) → (sent && false && countsAfter (rowOutline send) (sendEnd send) since k) ≡ false
     go true = refl
     go false = refl
 
@@ -331,7 +331,7 @@ counts-as-judged position before k e =
     let p = looked-row position k e in
     by-test (isSent k)
     (λ h. counted-sent (stretchOf position before) k h
-    ∙ rw (p .1, h, sent-never (waited (benchOf (k .position) before) (rowClock (k .time))) (rowView k) (rowClock (sendEnd k)))
+    ∙ rw (p .1, h, sent-never (waited (slotOf (k .position) before) (rowClock (k .time))) (rowOutline k) (rowClock (sendEnd k)))
     (sym (none (asksRead (stretchOf position before)))))
     (λ h. counted-heard (stretchOf position before) k h
     ∙ ap (λ (v : Verdict). asksRead (stretchOf position before) && isCounts v)
@@ -387,11 +387,11 @@ numbers-as-judged position before k =
 
 -- ---- a row counts exactly where the exchange ends well by it
 
-line-well : (request : Request) (sends : ℕ) (silent : Bool) (view : View) → isWell (afterLine request sends silent view) ≡ (not silent && fits request view)
-line-well request sends silent view = go silent (fits request view) (ltb sends mostSends)
+line-well : (request : Request) (sends : ℕ) (silent : Bool) (outline : Outline) → isWell (afterLine request sends silent outline) ≡ (not silent && fits request outline)
+line-well request sends silent outline = go silent (fits request outline) (ltb sends mostSends)
   where
     go : (silent fit more : Bool)
-        → isWell (cond silent (cond more (Resend Silent) (Failed Silent)) (cond fit Well (cond more (Resend (causeOf view)) (Failed (causeOf view)))))
+        → isWell (cond silent (cond more (Resend Silent) (Failed Silent)) (cond fit Well (cond more (Resend (causeOf outline)) (Failed (causeOf outline)))))
         ≡ (not silent && fit)
     go true fit true = refl
     go true fit false = refl
@@ -399,7 +399,7 @@ line-well request sends silent view = go silent (fits request view) (ltb sends m
     go false false true = refl
     go false false false = refl
 
-well-so : (request : Request) (end t : ℕ) (now : View) (heard : Bool) (b : Bench) → Outstanding request end heard b
+well-so : (request : Request) (end t : ℕ) (now : Outline) (heard : Bool) (b : Slot) → Outstanding request end heard b
     → isCounts (heardVerdict b now (rowClock t)) ≡ endsWell (shownStep (heardOn b now (rowClock t)))
 well-so request end t now true b o =
     let x = o .x in
@@ -422,27 +422,27 @@ well-so request end t now false b o =
     (λ f. let before = leb-false end t f in rw (o .is, lt-ltb t (x .began .0) (omega arith), lt-ltb t (x .last .0) (omega arith)))
 
 pub ends-well : (before : List Recorded) (k : Recorded) → isWake (chars (k .body)) ≡ false → isSent k ≡ false
-    → isCounts (verdictBehind before k) ≡ endsWell (shownStep (heardOn (benchOf (k .position) before) (rowView k) (rowClock (k .time))))
+    → isCounts (verdictBehind before k) ≡ endsWell (shownStep (heardOn (slotOf (k .position) before) (rowOutline k) (rowClock (k .time))))
 unfolding verdictAfter
 ends-well before k w h = rw (w, h) (go (stretchOf (k .position) before) (stands-so (k .position) before))
   where
-    b : Bench
-    b = benchOf (k .position) before
+    b : Slot
+    b = slotOf (k .position) before
 
     Well-so : Type 0
-    Well-so = isCounts (heardVerdict b (rowView k) (rowClock (k .time))) ≡ endsWell (shownStep (heardOn b (rowView k) (rowClock (k .time))))
+    Well-so = isCounts (heardVerdict b (rowOutline k) (rowClock (k .time))) ≡ endsWell (shownStep (heardOn b (rowOutline k) (rowClock (k .time))))
 
     idle : b ≡ Idle → Well-so
-    idle e = ap (λ (c : Bench). isCounts (heardVerdict c (rowView k) (rowClock (k .time)))) e
-        ∙ sym (ap (λ (c : Bench). endsWell (shownStep (heardOn c (rowView k) (rowClock (k .time))))) e)
+    idle e = ap (λ (c : Slot). isCounts (heardVerdict c (rowOutline k) (rowClock (k .time)))) e
+        ∙ sym (ap (λ (c : Slot). endsWell (shownStep (heardOn c (rowOutline k) (rowClock (k .time))))) e)
 
-    by : (sent : Bool) (view : View) (end : ℕ) (heard : Bool) → Behind sent view end heard b → Well-so
-    by false view end heard s = idle s
-    by true (views.Asks request) end heard s = well-so request end (k .time) (rowView k) heard b s
-    by true (views.Refused n) end heard s = idle s
-    by true views.Ack end heard s = idle s
-    by true (views.Data answers) end heard s = idle s
+    by : (sent : Bool) (outline : Outline) (end : ℕ) (heard : Bool) → Behind sent outline end heard b → Well-so
+    by false outline end heard s = idle s
+    by true (outlines.Asks request) end heard s = well-so request end (k .time) (rowOutline k) heard b s
+    by true (outlines.Refused n) end heard s = idle s
+    by true outlines.Ack end heard s = idle s
+    by true (outlines.Data answers) end heard s = idle s
 
     go : (stretch : List Recorded) → Stands stretch b → Well-so
     go [] s = idle s
-    go (send ∷ since) s = by (isSent send) (rowView send) (sendEnd send) (any (beginsFrom (sendEnd send)) since) s
+    go (send ∷ since) s = by (isSent send) (rowOutline send) (sendEnd send) (any (beginsFrom (sendEnd send)) since) s

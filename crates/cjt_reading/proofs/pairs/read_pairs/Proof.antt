@@ -3,7 +3,7 @@ use borrow.Author.Needs.{needs}
 use denote.Ref.{now}
 use native.Mathlib.Omega.{arith}
 use mathlib.Core.Path.{sym, ap, _∙_}
-use Rattle.cjt_rules.specs.CjtViews.{cjtShown}
+use Rattle.cjt_rules.specs.CjtOutlines.{cjtShown}
 use Rattle.base_characters.specs.Characters.{chars}
 use Rattle.base_characters.proofs.Laws.PairLaws.{length-characters}
 use Rattle.cjt_reading.proofs.Laws.TakingLaws.{none-is, taken-far, near-refused, near-count, near-sum, near-passed}

@@ -7,18 +7,18 @@ use Rattle.exchange_steps.proofs.Exchange.resent.Tie as tie
 returns : tie.Need-returns
 returns c =
     let a = c .before .before .before .args in
-    resent-taken (a .self) (a .view) (a .t) (c .before .before .sent .ensures) (c .before .asks-for .ensures) (c .if1 .taken)
+    resent-taken (a .self) (a .outline) (a .t) (c .before .before .sent .ensures) (c .before .asks-for .ensures) (c .if1 .taken)
 
 returns-2 : tie.Need-returns-2
 returns-2 c =
     let a = c .before .before .before .before .before .before .args in
-    resent-refused (a .self) (a .view) (a .t) (c .before .before .before .before .before .sent .ensures)
+    resent-refused (a .self) (a .outline) (a .t) (c .before .before .before .before .before .sent .ensures)
     (c .before .before .before .before .asks-for .ensures) (c .before .stepped .given .1)
 
 returns-3 : tie.Need-returns-3
 returns-3 c =
     let a = c .before .before .before .before .before .args in
-    resent-another (a .self) (a .view) (a .t) (c .before .before .before .before .sent .ensures)
+    resent-another (a .self) (a .outline) (a .t) (c .before .before .before .before .sent .ensures)
     (c .before .before .before .asks-for .ensures) (c .before .before .if1 .left) (c .enum-told .given .1)
 
 pub resent-spec : {M : Type 1} → statement M

@@ -8,7 +8,7 @@ returns : tie.Need-returns
 returns c =
     let a = c .before .before .before .before .before .before .args in
     line-parts (a .self) (a .t) (c .before .before .before .before .before .waits .ensures) (c .before .before .before .late .ensures)
-    (c .before .moved .ensures) (c .step .ensures) (a .view) (c .before .before .after-line .ensures)
+    (c .before .moved .ensures) (c .step .ensures) (a .outline) (c .before .before .after-line .ensures)
 
 pub seen-spec : {M : Type 1} → statement M
 seen-spec =

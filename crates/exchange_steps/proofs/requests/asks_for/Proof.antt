@@ -1,10 +1,10 @@
--- `requests::asks_for` meets its contract, view by view.
+-- `requests::asks_for` meets its contract, outline by outline.
 use borrow.Author.Needs.{needs}
 use Rattle.exchange_steps.proofs.requests.asks_for.Statement.{statement}
 use Rattle.exchange_steps.proofs.requests.asks_for.Tie as tie
 
 returns-3 : tie.Need-returns-3
-returns-3 c = rw (c .before .before .view .given .1) (c .same-request .ensures)
+returns-3 c = rw (c .before .before .outline .given .1) (c .same-request .ensures)
 
 pub asks-for-spec : {M : Type 1} → statement M
 asks-for-spec =

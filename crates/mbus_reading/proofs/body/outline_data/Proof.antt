@@ -2,14 +2,14 @@
 use borrow.Author.Needs.{needs}
 use denote.Ref.{now}
 use mathlib.Core.Path.{sym, ap, _∙_}
-use Rattle.mbus_rules.specs.Views.{viewed}
+use Rattle.mbus_rules.specs.Outlines.{outlined}
 use Rattle.mbus_reading.proofs.Laws.BodyLaws.{data-refused, data-outlined}
 use Rattle.mbus_reading.proofs.body.outline_data.Statement.{statement}
 use Rattle.mbus_reading.proofs.body.outline_data.Tie as tie
 
 returns : tie.Need-returns
 returns c =
-    ap viewed
+    ap outlined
     (sym
     (data-refused (c .before .before .before .before .before .args .address) (now (c .before .before .before .before .before .args .part))
     (c .before .before .before .body-of .result) (c .before .before .before .body-of .ensures) _ (c .before .outcome .given .1)))

@@ -5,7 +5,7 @@ use Prim.Native.Nat.{_-_}
 use native.Mathlib.Omega.{arith}
 use lib.ListN.{length, drop, length-take, length-drop}
 use mathlib.Core.Path.{sym, ap, _∙_}
-use Rattle.mbus_rules.specs.Views.{viewed}
+use Rattle.mbus_rules.specs.Outlines.{outlined}
 use Rattle.mbus_shape.proofs.Laws.LeftLaws.{left-by, asks-left}
 use Rattle.mbus_reading.proofs.body.outline_in.Statement.{statement}
 use Rattle.mbus_reading.proofs.body.outline_in.Tie as tie
@@ -36,17 +36,17 @@ outline-data-requires c κs =
 returns : tie.Need-returns
 returns c = let h = left-by (now (c .before .before .before .before .before .before .before .args .bytes))
     (c .before .before .before .before .before .before .before .args .sum)
-    (c .before .before .before .before .before .shape-of .ensures) (c .before .before .before .shape .given .1) in c .outline-data .ensures ∙ ap viewed
+    (c .before .before .before .before .before .shape-of .ensures) (c .before .before .before .shape .given .1) in c .outline-data .ensures ∙ ap outlined
     (sym (h .1))
 
 returns-2 : tie.Need-returns-2
-returns-2 c = ap viewed
+returns-2 c = ap outlined
     (sym
     (left-by (now (c .before .before .before .before .before .args .bytes)) (c .before .before .before .before .before .args .sum)
     (c .before .before .before .shape-of .ensures) (c .before .shape2 .given .1)))
 
 returns-3 : tie.Need-returns-3
-returns-3 c = ap viewed (sym (left-by (now (c .before .before .before .before .args .bytes)) (c .before .before .before .before .args .sum)
+returns-3 c = ap outlined (sym (left-by (now (c .before .before .before .before .args .bytes)) (c .before .before .before .before .args .sum)
     (c .before .before .shape-of .ensures) (c .enum-told .given .1)))
 
 returns-4 : tie.Need-returns-4

@@ -5,7 +5,7 @@ use native.Mathlib.Omega.{arith}
 use mathlib.Core.Path.{sym, ap, _∙_}
 use Rattle.base_characters.specs.Characters.{byteOf, chars}
 use Rattle.base_characters.proofs.Laws.CharacterLaws.{at-bytes}
-use Rattle.mbus_rules.specs.Views.{viewed}
+use Rattle.mbus_rules.specs.Outlines.{outlined}
 use Rattle.base_characters.proofs.Laws.PairLaws.{length-characters}
 use Rattle.mbus_reading.proofs.Laws.TakingLaws.{far-line}
 use Rattle.mbus_reading.proofs.pairs.outline_far.Statement.{statement}
@@ -16,7 +16,7 @@ returns c =
     let b = now (c .before .before .before .before .args .bytes) in
     let s = chars b in
     rw (c .far-of .ensures)
-    (ap viewed
+    (ap outlined
     (sym
     (far-line s (omega (arith, length-characters b, c .before .before .before .before .pre)) (c .before .before .soundness-of .ensures)
     (ap byteOf (c .before .character-at .ensures) ∙ sym (at-bytes s 0)))))

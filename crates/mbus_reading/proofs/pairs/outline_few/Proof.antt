@@ -8,7 +8,7 @@ use mathlib.Core.Path.{sym, ap, _∙_}
 use lib.ListN.{take}
 use Rattle.base_characters.specs.Characters.{byteOf, chars}
 use Rattle.base_rules.specs.Lists.{total}
-use Rattle.mbus_rules.specs.Views.{viewed}
+use Rattle.mbus_rules.specs.Outlines.{outlined}
 use Rattle.base_characters.proofs.Laws.PairLaws.{length-characters}
 use Rattle.mbus_reading.proofs.Laws.TakingLaws.{taken-as, cut-count}
 use Rattle.mbus_reading.proofs.Laws.FewLaws.{few-is, none-is}
@@ -18,7 +18,7 @@ use Rattle.mbus_reading.proofs.pairs.outline_few.Tie as tie
 returns : tie.Need-returns
 returns c =
     let b = now (c .before .before .args .bytes) in
-    ap viewed (sym (none-is (chars b) (length-characters b ∙ c .if1 .taken)))
+    ap outlined (sym (none-is (chars b) (length-characters b ∙ c .if1 .taken)))
 
 returns-2 : tie.Need-returns-2
 returns-2 c =
@@ -27,7 +27,7 @@ returns-2 c =
     let low = c .before .before .before .before .take-few .last .1 .0 in
     let size = length-characters b in
     let t = taken-as s low (total (map byteOf s) % 256) (c .before .outcome .given .1) (c .before .before .before .before .take-few .ensures) in
-    ap viewed (sym t)
+    ap outlined (sym t)
 
 slice-aggregate-brief-shape : tie.Need-slice-aggregate-brief-shape
 slice-aggregate-brief-shape c =

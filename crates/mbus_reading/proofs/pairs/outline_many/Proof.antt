@@ -6,7 +6,7 @@ use native.Mathlib.Omega.{arith}
 use mathlib.Core.Path.{sym, ap, _∙_}
 use lib.ListN.{take, length-replicate}
 use Rattle.base_characters.specs.Characters.{chars}
-use Rattle.mbus_rules.specs.Views.{viewed}
+use Rattle.mbus_rules.specs.Outlines.{outlined}
 use Rattle.base_characters.proofs.Laws.PairLaws.{length-characters}
 use Rattle.mbus_reading.specs.Taking.{TakenBytes}
 use Rattle.mbus_reading.proofs.Laws.TakingLaws.{taken-some, taken-as, cut-count, taken-frame}
@@ -28,7 +28,7 @@ taken c =
 returns : tie.Need-returns
 returns c =
     let g = c .before .before .before .before .gather in
-    ap viewed (sym (taken-as _ (g .last .1 .0) (g .result .sum) (c .before .outcome .given .1) (taken (c .before .before .before .before))))
+    ap outlined (sym (taken-as _ (g .last .1 .0) (g .result .sum) (c .before .outcome .given .1) (taken (c .before .before .before .before))))
 
 slice-aggregate-outline-in : tie.Need-slice-aggregate-outline-in
 slice-aggregate-outline-in c =
@@ -43,7 +43,7 @@ returns-2 c =
     let b = now (c .before .before .before .before .before .before .before .before .before .before .before .args .bytes) in
     let g = c .before .before .before .before .before .gather in
     let t = taken-as (chars b) (g .last .1 .0) (g .result .sum) (c .before .before .enum-told .given .1) (taken (c .before .before .before .before .before)) in
-    c .outline-in .ensures ∙ ap viewed (taken-frame (chars b) (g .last .1 .0) (g .result .sum) (sym (length-characters b)) t)
+    c .outline-in .ensures ∙ ap outlined (taken-frame (chars b) (g .last .1 .0) (g .result .sum) (sym (length-characters b)) t)
 
 pub outline-many-spec : {M : Type 1} → statement M
 outline-many-spec =

@@ -4,33 +4,33 @@ use mathlib.Core.Path.{_≡_, refl, ap, _∙_}
 use denote.Enum.Declared.{tagOf}
 use types.Run.{OneOf, miss}
 use Rattle.bench_clock.specs.declared.Clock.{Clock}
-use Rattle.mbus_rules.specs.declared.View.{View}
-use Rattle.mbus_rules.specs.declared.View.the-variants as views
-use Rattle.mbus_rules.proofs.View as told
+use Rattle.mbus_rules.specs.declared.Outline.{Outline}
+use Rattle.mbus_rules.specs.declared.Outline.the-variants as outlines
+use Rattle.mbus_rules.proofs.Outline as told
 use Rattle.meter_steps.specs.declared.Core.{Core}
 use Rattle.meter_steps.specs.Meters.{quiet, returned, asked, hears, takenAt}
 use borrow.Author.Needs.{needs}
 use Rattle.meter_steps.proofs.Core.hears.Statement.{statement}
 use Rattle.meter_steps.proofs.Core.hears.Tie as tie
 
--- a view that is no request gets silence
-no-request : (t : Clock) (k : Core) (v : View) → OneOf (0 ∷ 1 ∷ 3 ∷ []) (tagOf told.the-type v) → hears t k v ≡ quiet k
-no-request t k (views.Refused n) one = refl
-no-request t k views.Ack one = refl
-no-request t k (views.Data a) one = refl
-no-request t k (views.Asks q) one = absurd (miss (0 ∷ 1 ∷ 3 ∷ []) 2 tt one)
+-- an outline that is no request gets silence
+no-request : (t : Clock) (k : Core) (v : Outline) → OneOf (0 ∷ 1 ∷ 3 ∷ []) (tagOf told.the-type v) → hears t k v ≡ quiet k
+no-request t k (outlines.Refused n) one = refl
+no-request t k outlines.Ack one = refl
+no-request t k (outlines.Data a) one = refl
+no-request t k (outlines.Asks q) one = absurd (miss (0 ∷ 1 ∷ 3 ∷ []) 2 tt one)
 
 returns : tie.Need-returns
 returns c =
     let t = c .before .before .before .before .before .args .t in
-    let q = c .before .before .view .given .0 .0 in
-    rw (c .before .before .view .given .1) (c .asked .ensures ∙ ap (λ (k : Core). takenAt t (asked t k q))
+    let q = c .before .before .outline .given .0 .0 in
+    rw (c .before .before .outline .given .1) (c .asked .ensures ∙ ap (λ (k : Core). takenAt t (asked t k q))
     (c .before .before .before .before .returned .ensures))
 
 returns-2 : tie.Need-returns-2
 returns-2 c =
     let a = c .before .before .before .args in
-    rw (no-request (a .t) (returned (a .t) (a .self)) (a .view) (c .before .match .keys2), ← c .before .before .returned .ensures) (c .replies .ensures)
+    rw (no-request (a .t) (returned (a .t) (a .self)) (a .outline) (c .before .match .keys2), ← c .before .before .returned .ensures) (c .replies .ensures)
 
 pub hears-spec : {M : Type 1} → statement M
 hears-spec =

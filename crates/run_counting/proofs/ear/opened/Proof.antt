@@ -1,10 +1,10 @@
--- `replay_counting::ear::opened` meets its contract: each view by its case. Assumes nothing.
+-- `replay_counting::ear::opened` meets its contract: each outline by its case. Assumes nothing.
 use borrow.Author.Needs.{needs}
 use Rattle.run_counting.proofs.ear.opened.Statement.{statement}
 use Rattle.run_counting.proofs.ear.opened.Tie as tie
 
 returns-3 : tie.Need-returns-3
-returns-3 c = rw (c .before .before .before .before .view .given .1, c .before .request .given .1)
+returns-3 c = rw (c .before .before .before .before .outline .given .1, c .before .request .given .1)
 
 pub opened-spec : {M : Type 1} → statement M
 opened-spec =

@@ -5,7 +5,7 @@ use Rattle.run_listing.proofs.lines.word_for.Statement.{statement}
 use Rattle.run_listing.proofs.lines.word_for.Tie as tie
 
 returns : tie.Need-returns
-returns c = record { small = omega arith; whole = c .refused .ensures .whole; so = rw (c .before .before .view .given .1) (c .refused .ensures .so) }
+returns c = record { small = omega arith; whole = c .refused .ensures .whole; so = rw (c .before .before .outline .given .1) (c .refused .ensures .so) }
 
 returns-2 : tie.Need-returns-2
 returns-2 c = record { small = omega arith; whole = c .begin .ensures .whole; so = rw (c .before .before .enum-told .given .1) (c .begin .ensures .so) }
@@ -16,7 +16,7 @@ returns-3 c = record {
   whole = c .begin2 .ensures .whole;
   so =
       let back5 = c .before .before .before .before .before in
-      rw (back5 .view2 .given .1, c .before .before .enum-told2 .given .1) (c .begin2 .ensures .so);
+      rw (back5 .outline2 .given .1, c .before .before .enum-told2 .given .1) (c .begin2 .ensures .so);
 }
 
 returns-4 : tie.Need-returns-4
@@ -25,7 +25,7 @@ returns-4 c = record {
   whole = c .begin3 .ensures .whole;
   so =
       let back5 = c .before .before .before .before .before in
-      rw (back5 .view2 .given .1, c .before .before .enum-told3 .given .1) (c .begin3 .ensures .so);
+      rw (back5 .outline2 .given .1, c .before .before .enum-told3 .given .1) (c .begin3 .ensures .so);
 }
 
 returns-5 : tie.Need-returns-5
@@ -34,7 +34,7 @@ returns-5 c = record {
   whole = c .begin4 .ensures .whole;
   so =
       let back5 = c .before .before .before .before .before in
-      rw (back5 .view2 .given .1, c .before .before .enum-told4 .given .1) (c .begin4 .ensures .so);
+      rw (back5 .outline2 .given .1, c .before .before .enum-told4 .given .1) (c .begin4 .ensures .so);
 }
 
 returns-6 : tie.Need-returns-6

@@ -19,7 +19,7 @@ unfolding wordOf
 returns-2 c = record {
   small = omega arith;
   whole = c .word-for .ensures .whole;
-  so = rw (sym (c .before .before .before .before .column-of .ensures) ∙ c .before .before .view .given .1) (c .word-for .ensures .so);
+  so = rw (sym (c .before .before .before .before .column-of .ensures) ∙ c .before .before .outline .given .1) (c .word-for .ensures .so);
 }
 
 pub word-of-spec : {M : Type 1} → statement M

@@ -12,16 +12,16 @@ returns-2 : tie.Need-returns-2
 returns-2 c =
     let back5 = c .before .before .before .before .before in
     let a = back5 .before .before .args in
-    rw (back5 .bench .given .1)
-    (sent-again (back5 .bench .given .0 .0) (a .request) (a .end) (c .before .before .before .resent .ensures) (c .before .y .given .1))
+    rw (back5 .slot .given .1)
+    (sent-again (back5 .slot .given .0 .0) (a .request) (a .end) (c .before .before .before .resent .ensures) (c .before .y .given .1))
 
 returns-3 : tie.Need-returns-3
 returns-3 c =
     let back5 = c .before .before .before .before .before in
     let a = back5 .before .before .args in
-    rw (back5 .bench .given .1)
+    rw (back5 .slot .given .1)
     (c .first2 .ensures
-    ∙ sent-first (back5 .bench .given .0 .0) (a .request) (a .end) (c .before .before .before .resent .ensures) (c .before .enum-told2 .given .1))
+    ∙ sent-first (back5 .slot .given .0 .0) (a .request) (a .end) (c .before .before .before .resent .ensures) (c .before .enum-told2 .given .1))
 
 pub asked-spec : {M : Type 1} → statement M
 asked-spec =

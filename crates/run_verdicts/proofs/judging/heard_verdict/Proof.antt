@@ -7,13 +7,13 @@ use Rattle.run_verdicts.proofs.judging.heard_verdict.Tie as tie
 returns : tie.Need-returns
 returns c =
     let back4 = c .before .before .before .before in
-    rw (back4 .bench .given .1, sym (c .before .earlier .ensures) ∙ c .if1 .taken)
+    rw (back4 .slot .given .1, sym (c .before .earlier .ensures) ∙ c .if1 .taken)
 
 returns-3 : tie.Need-returns-3
 returns-3 c =
     let back5 = c .before .before .before .before .before in
     rw (
-      back5 .before .before .before .bench .given .1,
+      back5 .before .before .before .slot .given .1,
       sym (back5 .earlier .ensures) ∙ c .before .before .before .before .if1 .left,
       c .before .before .enum-told2 .given .1,
       sym (c .before .late .ensures),
@@ -24,7 +24,7 @@ returns-4 : tie.Need-returns-4
 returns-4 c =
     let back3 = c .before .before .before in
     rw (
-      back3 .before .before .before .bench .given .1,
+      back3 .before .before .before .slot .given .1,
       sym (back3 .earlier .ensures) ∙ c .before .before .if1 .left,
       c .enum-told3 .given .1,
     )
@@ -33,7 +33,7 @@ returns-5 : tie.Need-returns-5
 returns-5 c =
     let back3 = c .before .before .before in
     rw (
-      back3 .before .before .before .bench .given .1,
+      back3 .before .before .before .slot .given .1,
       sym (back3 .earlier .ensures) ∙ c .before .before .if1 .left,
       c .enum-told4 .given .1,
     )
@@ -42,7 +42,7 @@ returns-6 : tie.Need-returns-6
 returns-6 c =
     let back3 = c .before .before .before in
     rw (
-      back3 .before .before .before .bench .given .1,
+      back3 .before .before .before .slot .given .1,
       sym (back3 .earlier .ensures) ∙ c .before .before .if1 .left,
       c .enum-told5 .given .1,
     )

@@ -1,17 +1,17 @@
 -- `verdict_rows::judging::judge` meets its contract: a wake-up, a row sent, or a row heard. Assumes nothing.
 use mathlib.Core.Path.{sym, _∙_}
 use Rattle.base_characters.proofs.Laws.PairLaws.{length-characters}
-use Rattle.run_verdicts.specs.Verdicts.{verdictAfter, benchAfter}
+use Rattle.run_verdicts.specs.Verdicts.{verdictAfter, slotAfter}
 use borrow.Author.Needs.{needs}
 use Rattle.run_verdicts.proofs.judging.judge.Statement.{statement}
 use Rattle.run_verdicts.proofs.judging.judge.Tie as tie
 
 returns : tie.Need-returns
-unfolding verdictAfter benchAfter
+unfolding verdictAfter slotAfter
 returns c = rw (sym (c .before .is-wake .ensures) ∙ c .if1 .taken)
 
 returns-2 : tie.Need-returns-2
-unfolding verdictAfter benchAfter
+unfolding verdictAfter slotAfter
 returns-2 c =
     let back5 = c .before .before .before .before .before in
     let back8 = back5 .before .before .before in
@@ -26,7 +26,7 @@ returns-2 c =
     )
 
 returns-3 : tie.Need-returns-3
-unfolding verdictAfter benchAfter
+unfolding verdictAfter slotAfter
 returns-3 c =
     let back4 = c .before .before .before .before in
     let back7 = back4 .before .before .before in

@@ -1,10 +1,10 @@
--- `verdict_rows::judging::unfitting` meets its contract: each view by its case. Assumes nothing.
+-- `verdict_rows::judging::unfitting` meets its contract: each outline by its case. Assumes nothing.
 use borrow.Author.Needs.{needs}
 use Rattle.run_verdicts.proofs.judging.unfitting.Statement.{statement}
 use Rattle.run_verdicts.proofs.judging.unfitting.Tie as tie
 
 returns : tie.Need-returns
-returns c = rw (c .before .view .given .1)
+returns c = rw (c .before .outline .given .1)
 
 pub unfitting-spec : {M : Type 1} → statement M
 unfitting-spec =

@@ -12,7 +12,7 @@ use Rattle.run_verdicts.proofs.walking.judge_in.Tie as tie
 returns : tie.Need-returns
 returns c =
     let a = c .before .before .before .before .before .args in
-    c .judge .ensures ∙ ap (λ (l : List ℕ). judgedOf (a .bench) (rowWith (a .row) l)) (body-whole (a .bundle .now) (a .row))
+    c .judge .ensures ∙ ap (λ (l : List ℕ). judgedOf (a .slot) (rowWith (a .row) l)) (body-whole (a .bundle .now) (a .row))
 
 pub judge-in-spec : {M : Type 1} → statement M
 judge-in-spec =

@@ -8,16 +8,16 @@ use Rattle.run_verdicts.proofs.walking.walk.Statement.{statement}
 use Rattle.run_verdicts.proofs.walking.walk.Tie as tie
 
 abbrev Inv-loop : tie.InvT-loop
-Inv-loop kept contents bundle count benches₀ rulings₀ i₀ benches rulings i = Walked (recordFrom kept contents bundle) count i benches rulings
+Inv-loop kept contents bundle count slots₀ rulings₀ i₀ slots rulings i = Walked (recordFrom kept contents bundle) count i slots rulings
 
 abbrev μ-loop : tie.MeasureT-loop
-μ-loop kept contents bundle count benches₀ rulings₀ i₀ benches rulings i = count - i
+μ-loop kept contents bundle count slots₀ rulings₀ i₀ slots rulings i = count - i
 
 loop-holds : tie.Need-loop-holds Inv-loop μ-loop
 loop-holds c = walked-none (c .before .before .pre .few)
 
-array-copy-out-bench : tie.Need-array-copy-out-bench Inv-loop μ-loop
-array-copy-out-bench c =
+array-copy-out-slot : tie.Need-array-copy-out-slot Inv-loop μ-loop
+array-copy-out-slot c =
     let back2 = c .before .before in
     rw (c .before .row-from .ensures) (omega (arith, back2 .before .before .before .before .pre .position (back2 .before .loop .i) (back2 .loop-test .taken)))
 
@@ -29,8 +29,8 @@ judge-in-requires c κs =
 array-set-from-rulings : tie.Need-array-set-from-rulings Inv-loop μ-loop
 array-set-from-rulings c = omega (arith, c .before .before .before .before .before .loop .inv .few)
 
-array-set-from-benches : tie.Need-array-set-from-benches Inv-loop μ-loop
-array-set-from-benches c =
+array-set-from-slots : tie.Need-array-set-from-slots Inv-loop μ-loop
+array-set-from-slots c =
     let back4 = c .before .before .before .before in
     rw (c .before .before .before .row-from .ensures)
     (omega (arith, back4 .before .before .before .before .pre .position (back4 .before .loop .i) (back4 .loop-test .taken)))
@@ -58,12 +58,12 @@ walk-spec =
     (λ c κs. search needs)
     (λ c. search needs)
     (λ c. search needs)
-    array-copy-out-bench
+    array-copy-out-slot
     judge-in-requires
     (λ c. search needs)
     array-set-from-rulings
     (λ c. search needs)
-    array-set-from-benches
+    array-set-from-slots
     (λ c. search needs)
     (λ c. search needs)
     loop-again

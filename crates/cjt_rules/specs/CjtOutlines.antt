@@ -4,8 +4,8 @@ use Rattle.cjt_rules.specs.declared.CjtTelegram.{CjtTelegram}
 use Rattle.cjt_rules.specs.declared.CjtTelegram.the-variants as telegrams
 use Rattle.cjt_rules.specs.declared.CjtReading.{CjtReading}
 use Rattle.cjt_rules.specs.declared.CjtReading.the-variants as readings
-use Rattle.cjt_rules.specs.declared.CjtView.{CjtView}
-use Rattle.cjt_rules.specs.declared.CjtView.the-variants as views
+use Rattle.cjt_rules.specs.declared.CjtOutline.{CjtOutline}
+use Rattle.cjt_rules.specs.declared.CjtOutline.the-variants as outlines
 
 -- the number of a refusal, or the telegram
 abbrev pub cjtShown : Answer CjtTelegram → CjtReading
@@ -13,11 +13,11 @@ cjtShown (refusal n) = readings.Refused n
 cjtShown (reads t) = readings.Read t
 
 -- which of the two it is
-abbrev pub cjtViewOf : CjtTelegram → CjtView
-cjtViewOf (telegrams.Request q) = views.Request
-cjtViewOf (telegrams.Answer a) = views.Answer
+abbrev pub cjtOutlineOf : CjtTelegram → CjtOutline
+cjtOutlineOf (telegrams.Request q) = outlines.Request
+cjtOutlineOf (telegrams.Answer a) = outlines.Answer
 
 -- the number of a refusal, or which telegram it is
-abbrev pub cjtViewed : Answer CjtTelegram → CjtView
-cjtViewed (refusal n) = views.Refused n
-cjtViewed (reads t) = cjtViewOf t
+abbrev pub cjtOutlined : Answer CjtTelegram → CjtOutline
+cjtOutlined (refusal n) = outlines.Refused n
+cjtOutlined (reads t) = cjtOutlineOf t

@@ -1,9 +1,9 @@
--- `exchange_record::bench_from` meets its contract. Assumes nothing.
+-- `exchange_record::slot_from` meets its contract. Assumes nothing.
 use denote.Ref.{now}
 use Rattle.exchange_record.proofs.Laws.ExchangeLaws.{zeros-taken, exchange-taken, exchange-refused}
 use borrow.Author.Needs.{needs}
-use Rattle.exchange_record.proofs.bench_from.Statement.{statement}
-use Rattle.exchange_record.proofs.bench_from.Tie as tie
+use Rattle.exchange_record.proofs.slot_from.Statement.{statement}
+use Rattle.exchange_record.proofs.slot_from.Tie as tie
 
 returns : tie.Need-returns
 returns c = zeros-taken (now (c .before .before .before .before .args .b)) (c .before .is-same .ensures) (c .if1 .taken)
@@ -20,8 +20,8 @@ returns-3 c =
     (c .before .before .before .before .before .is-same .ensures) (c .before .before .before .exchange-from .ensures)
     (c .before .before .before .before .if1 .left) (c .before .stood2 .given .1)
 
-pub bench-from-spec : {M : Type 1} → statement M
-bench-from-spec =
+pub slot-from-spec : {M : Type 1} → statement M
+slot-from-spec =
     tie.close
     (tie.spec
     (λ c. search needs)

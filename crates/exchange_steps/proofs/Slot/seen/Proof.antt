@@ -1,7 +1,7 @@
--- `Bench::seen` meets its contract: of none, and of an exchange.
+-- `Slot::seen` meets its contract: of none, and of an exchange.
 use borrow.Author.Needs.{needs}
-use Rattle.exchange_steps.proofs.Bench.seen.Statement.{statement}
-use Rattle.exchange_steps.proofs.Bench.seen.Tie as tie
+use Rattle.exchange_steps.proofs.Slot.seen.Statement.{statement}
+use Rattle.exchange_steps.proofs.Slot.seen.Tie as tie
 
 returns-2 : tie.Need-returns-2
 returns-2 c = rw (c .before .before .self .given .1) (c .seen .ensures)

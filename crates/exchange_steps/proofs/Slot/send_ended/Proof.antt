@@ -1,19 +1,19 @@
--- `Bench::send_ended` meets its contract: where none is in progress, and where one is.
+-- `Slot::send_ended` meets its contract: where none is in progress, and where one is.
 use borrow.Author.Needs.{needs}
-use Rattle.exchange_steps.proofs.Bench.send_ended.Statement.{statement}
-use Rattle.exchange_steps.proofs.Bench.send_ended.Tie as tie
+use Rattle.exchange_steps.proofs.Slot.send_ended.Statement.{statement}
+use Rattle.exchange_steps.proofs.Slot.send_ended.Tie as tie
 
 returns : tie.Need-returns
 returns c =
-    rw (← c .before .before .before .in-progress .ensures, c .before .enum-told .given .1, ← c .before .before .before .before .view-of .ensures)
+    rw (← c .before .before .before .in-progress .ensures, c .before .enum-told .given .1, ← c .before .before .before .before .outlined .ensures)
     (c .start-with .ensures)
 
 returns-2 : tie.Need-returns-2
 returns-2 c =
     rw (
       ← c .before .before .before .before .in-progress .ensures,
-      c .before .before .bench .given .1,
-      ← c .before .before .before .before .before .view-of .ensures,
+      c .before .before .slot .given .1,
+      ← c .before .before .before .before .before .outlined .ensures,
     )
     (c .resent .ensures)
 

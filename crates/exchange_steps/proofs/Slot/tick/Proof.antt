@@ -1,7 +1,7 @@
--- `Bench::tick` meets its contract: of none, and of an exchange.
+-- `Slot::tick` meets its contract: of none, and of an exchange.
 use borrow.Author.Needs.{needs}
-use Rattle.exchange_steps.proofs.Bench.tick.Statement.{statement}
-use Rattle.exchange_steps.proofs.Bench.tick.Tie as tie
+use Rattle.exchange_steps.proofs.Slot.tick.Statement.{statement}
+use Rattle.exchange_steps.proofs.Slot.tick.Tie as tie
 
 returns-2 : tie.Need-returns-2
 returns-2 c = rw (c .before .before .self .given .1) (c .tick .ensures)

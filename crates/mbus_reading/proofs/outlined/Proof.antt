@@ -1,7 +1,7 @@
--- `mbus_reading::view_of` meets its contract, kind by kind. Assumes nothing.
+-- `mbus_reading::outlined` meets its contract, kind by kind. Assumes nothing.
 use borrow.Author.Needs.{needs}
-use Rattle.mbus_reading.proofs.view_of.Statement.{statement}
-use Rattle.mbus_reading.proofs.view_of.Tie as tie
+use Rattle.mbus_reading.proofs.outlined.Statement.{statement}
+use Rattle.mbus_reading.proofs.outlined.Tie as tie
 
 returns : tie.Need-returns
 returns c = rw (c .before .outcome .given .1)
@@ -21,8 +21,8 @@ returns-5 c = rw (c .before .before .before .enum-told .given .1, c .enum-told5 
 returns-6 : tie.Need-returns-6
 returns-6 c = rw (c .before .before .before .enum-told .given .1, c .enum-told6 .given .1)
 
-pub view-of-spec : {M : Type 1} → statement M
-view-of-spec =
+pub outlined-spec : {M : Type 1} → statement M
+outlined-spec =
     tie.close
     (tie.spec
     (λ c. search needs)
