@@ -6,3 +6,5 @@ pub mod TwosComplement
 pub mod ByteNumbers
 pub mod Negation
 pub mod BinaryLaws
+pub mod Rounding
+pub mod Integers

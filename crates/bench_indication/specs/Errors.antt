@@ -4,7 +4,7 @@ use mathlib.Core.Bool.{Bool, _||_}
 use lib.Dec.{ltb, leb, eqb}
 use lib.IntN.{ℤ, pos, _-ℤ_, _*ℤ_}
 use Rattle.base_rules.specs.Answers.{Answer, reads, refusal, refuse}
-use Rattle.bench_indication.specs.Rounding.{rounded}
+use Rattle.base_numbers.specs.Rounding.{rounded}
 use Rattle.bench_indication.specs.declared.Indication.{Indication}
 use Rattle.bench_indication.specs.declared.Indication.the-variants.{Error, Refused}
 

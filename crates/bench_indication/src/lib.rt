@@ -2,7 +2,7 @@
 ghost use mathlib.Core.Path.{_≡_};
 ghost use Prim.Native.Nat.{_≤_, _<_, _^_};
 ghost use lib.IntN.{pos, negℤ};
-ghost use Rattle.bench_indication.specs.Rounding.{nearest};
+ghost use Rattle.base_numbers.specs.Rounding.{nearest};
 ghost use Rattle.bench_indication.specs.Errors.{tenths, indicationOf, riseMost, shownIndication};
 
 pub mod rises;

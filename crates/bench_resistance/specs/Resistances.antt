@@ -5,7 +5,7 @@ use mathlib.Core.Bool.{Bool, cond, _||_}
 use mathlib.Core.List.{List, [], _∷_}
 use lib.Dec.{ltb, leb}
 use Rattle.base_rules.specs.Answers.{Answer, reads, refusal, refuse}
-use Rattle.bench_indication.specs.Rounding.{nearest}
+use Rattle.base_numbers.specs.Rounding.{nearest}
 use Rattle.bench_resistance.specs.declared.Resistance.{Resistance}
 use Rattle.bench_resistance.specs.declared.Resistance.the-variants as resistances
 use Rattle.bench_resistance.specs.declared.Temperature.{Temperature}

@@ -11,7 +11,7 @@ use Rattle.mbus_rules.specs.declared.Value.the-variants.{Number}
 use Rattle.base_rules.specs.Answers.{reads, refusal}
 use Rattle.mbus_rules.specs.Quantities.{quantityOf, powerOf}
 use Rattle.mbus_rules.specs.Writing.{wrongEntry}
-use Rattle.bench_indication.specs.Rounding.{apart}
+use Rattle.base_numbers.specs.Rounding.{apart}
 use Rattle.cjt_rules.specs.declared.CjtAnswer.{CjtAnswer}
 use Rattle.cjt_rules.specs.declared.CjtQuantity.{CjtQuantity}
 use Rattle.cjt_rules.specs.declared.CjtTelegram.the-variants.{Answer}

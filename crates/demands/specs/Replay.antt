@@ -21,7 +21,7 @@ use Rattle.base_rules.proofs.Laws.Tests.{below}
 use Rattle.bench_clock.specs.Times.{replyTime}
 use Rattle.bench_clock.specs.Wakes.{isWake}
 use Rattle.bench_indication.specs.Errors.{tenths}
-use Rattle.bench_indication.specs.Rounding.{Nearest}
+use Rattle.base_numbers.specs.Rounding.{Nearest}
 use Rattle.exchange_replies.specs.Fits.{fits}
 use Rattle.exchange_steps.specs.Steps.{begun}
 use Rattle.bundle_rows.specs.Fields.{wrongPosition}

@@ -3,7 +3,7 @@ use Prim.Native.Nat.{ℕ, _+_, _*_, _^_, _≤_, _<_}
 use mathlib.Core.Path.{_≡_, refl, sym, subst}
 use lib.ListN.{length, getD}
 use Rattle.base_rules.specs.Answers.{reads, refusal}
-use Rattle.bench_indication.specs.Rounding.{apart, NearestUp}
+use Rattle.base_numbers.specs.Rounding.{apart, NearestUp}
 use Rattle.bench_resistance.specs.Resistances.{exact, partsOfOne, storedFor, storedFrom, card, resistance, resistanceOf, hundredthsMost, temperatureOf}
 use Rattle.bench_resistance.proofs.Laws.Card.{exact-whole, card-at, stored-nearest}
 use Rattle.bench_resistance.proofs.Laws.Lines.{resistance-near, resistance-rises}

@@ -11,12 +11,10 @@ use Rattle.base_numbers.specs.Numbers.{number, bytesOf, Numbered}
 use Rattle.base_numbers.proofs.Laws.Numbers.{length-bytes, number-at}
 use Rattle.base_rules.proofs.Laws.ByteLaws.{bytes-each}
 use Rattle.base_numbers.proofs.Laws.ByteNumbers.{bytes-number}
+use Rattle.base_rules.proofs.Laws.ByteLaws.{EachByte, byte-at}
+use Rattle.base_numbers.proofs.Laws.ByteNumbers.{bytes-bytes}
 
--- bytes are below 256
-abbrev pub Bytes : List ℕ → Type 0
-Bytes s = (i : ℕ) → getD s i 0 < 256
-
-pub number-below : (k : ℕ) (s : List ℕ) → Bytes s → number (take k s) < 256 ^ k
+pub number-below : (k : ℕ) (s : List ℕ) → EachByte s → number (take k s) < 256 ^ k
 unfolding number
 number-below zero s h = rw pow-zero (omega arith)
 number-below (suc k) [] h = omega (arith, one-le-pow (suc k) 256 (omega arith))
@@ -106,12 +104,6 @@ module _ (w n : ℕ) {m : ℕ} {b : List ℕ} (e : m ≡ min w 8) (d : b ≡ byt
   pub first-bytes : take m b ≡ bytesOf (min w 8) n
   first-bytes = ap₂ take e d ∙ bytes-first (min w 8) 8 n (omega arith)
 
-pub bytes-below : (k n : ℕ) → Bytes (bytesOf k n)
-unfolding bytesOf
-bytes-below zero n i = omega arith
-bytes-below (suc k) n zero = omega arith
-bytes-below (suc k) n (suc i) = bytes-below k (n / 256) i
-
 -- the rest by 256 times as much, one byte of it first
 rest-by-byte : (n p : ℕ) → 0 < p → n % 256 + 256 * (n / 256 % p) ≡ n % (256 * p)
 rest-by-byte n p h =
@@ -130,5 +122,8 @@ number-written zero n = rw pow-zero (sym (mod-one n))
 number-written (suc k) n = rw (number-written k (n / 256), pow-succ') (rest-by-byte n (256 ^ k) (one-le-pow k 256 (omega arith)))
 
 -- bytes are those that are written for their number
-pub bytes-read : (s : List ℕ) → Bytes s → bytesOf (length s) (number s) ≡ s
+pub bytes-read : (s : List ℕ) → EachByte s → bytesOf (length s) (number s) ≡ s
 bytes-read s h = bytes-number s (bytes-each s h)
+
+pub bytes-below : (k n : ℕ) → EachByte (bytesOf k n)
+bytes-below k n = byte-at (bytesOf k n) (bytes-bytes k n)

@@ -44,3 +44,13 @@ spell (suc n) i s h = rw (drop-cons s i 0 (omega arith)) (ap (λ (l : List ℕ).
 
 pub spell-whole : (n : ℕ) (s : List ℕ) → length s ≡ n → s ≡ spelled n 0 s
 spell-whole n s e = sym (take-all n s (omega arith)) ∙ spell n 0 s (omega arith)
+
+-- the same, told by the places, as lent memory tells it
+abbrev pub EachByte : List ℕ → Type 0
+EachByte s = (i : ℕ) → at s i < 256
+
+pub each-drop : (n : ℕ) (s : List ℕ) → EachByte s → EachByte (drop n s)
+each-drop n s h = byte-at (drop n s) (bytes-drop n s (bytes-each s h))
+
+pub each-take : (n : ℕ) (s : List ℕ) → EachByte s → EachByte (take n s)
+each-take n s h = byte-at (take n s) (bytes-take n s (bytes-each s h))

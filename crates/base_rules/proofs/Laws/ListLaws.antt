@@ -9,6 +9,15 @@ use lib.Seq.{drop-cons, take-nil}
 use native.Mathlib.Nat.{sub-zero, suc-sub-suc, zero-sub}
 use native.Mathlib.Omega.{arith}
 use Rattle.base_rules.specs.Lists.{at, any}
+use Prim.Native.Nat.{ℕ, _-_}
+use mathlib.Core.List.{List}
+use mathlib.Core.Path.{_≡_}
+use lib.ListN.{length, take, drop, length-drop}
+use lib.Seq.{take-all}
+use Prim.Native.Nat.{ℕ, zero, suc, _-_, _<_}
+use mathlib.Core.List.{List, [], _∷_}
+use mathlib.Core.Path.{_≡_, refl}
+use lib.ListN.{length, getD}
 
 -- A loop that gathers: what was found so far, or is still to be found, is what there is.
 pub record Gathered {A : Type 0} (test : A → Bool) (s : List A) (i : ℕ) (found : Bool) : Type 0 where
@@ -64,3 +73,13 @@ pub any-append : {A : Type 0} (test : A → Bool) (l m : List A) → any test (l
 unfolding any
 any-append test [] m = refl
 any-append test (x ∷ l) m = rw (any-append test l m) (sym (or-assoc (test x) (any test l) (any test m)))
+
+-- the bytes from a place on, as the code cuts them out
+pub rest-is : (s : List ℕ) (n : ℕ) → take (length s - n) (drop n s) ≡ drop n s
+rest-is s n = take-all (length s - n) (drop n s) (omega (arith, length-drop n s))
+
+-- what would stand past the end is nothing to a place before it
+pub getD-inside : {A : Type 0} (l : List A) (i : ℕ) (d e : A) → i < length l → getD l i d ≡ getD l i e
+getD-inside [] i d e h = absurd (omega arith)
+getD-inside (x ∷ l) zero d e h = refl
+getD-inside (x ∷ l) (suc i) d e h = getD-inside l i d e (omega arith)

@@ -28,7 +28,7 @@ abbrev pub both : Bool → List Bool → Bool
 both t [] = t
 both t (u ∷ ts) = both (t && u) ts
 
-and-true-parts : (t u : Bool) → (t && u) ≡ true → (t ≡ true) × (u ≡ true)
+pub and-true-parts : (t u : Bool) → (t && u) ≡ true → (t ≡ true) × (u ≡ true)
 and-true-parts true u e = (refl, e)
 and-true-parts false u e = absurd (false≢true e)
 

@@ -8,9 +8,9 @@ use lib.Dec.{ltb}
 use borrow.Author.Tests.{ltb-false}
 use lib.IntN.{ℤ, pos, negℤ, _-ℤ_, _*ℤ_}
 use Rattle.base_rules.specs.Answers.{Answer, reads, refusal}
-use Rattle.bench_indication.proofs.Laws.Integers.{difference, difference-neg, times-neg}
-use Rattle.bench_indication.specs.Rounding.{nearest, Nearest}
-use Rattle.bench_indication.proofs.Laws.Rounding.{rounded-neg, rounded-nearest}
+use Rattle.base_numbers.proofs.Laws.Integers.{difference, difference-neg, times-neg}
+use Rattle.base_numbers.specs.Rounding.{nearest, Nearest}
+use Rattle.base_numbers.proofs.Laws.Rounding.{rounded-neg, rounded-nearest}
 use Rattle.bench_indication.specs.Errors.{countMost, errorOf, countOver, indicationOf, shownIndication, tenths}
 
 -- 01, value 12: rises 10005, 9995, 10004 and 0 against 10000

@@ -6,7 +6,7 @@ use lib.IntN.{pos}
 use mir.Syntax.{w64}
 use mir.ValLaws.{toZ-ofZ}
 use borrow.Author.Needs.{needs}
-use Rattle.bench_indication.proofs.Laws.Rounding.{nearest-most}
+use Rattle.base_numbers.proofs.Laws.Rounding.{nearest-most}
 use Rattle.bench_indication.proofs.Laws.Errors.{tenths-more, tenths-less}
 use Rattle.bench_indication.proofs.tenths.Statement.{statement}
 use Rattle.bench_indication.proofs.tenths.Tie as tie

@@ -9,8 +9,8 @@ use borrow.Author.Tests.{ltb-true}
 use lib.Dec.{ltb}
 use lib.ListN.{getD}
 use Rattle.base_rules.proofs.Laws.Tests.{below}
-use Rattle.bench_indication.specs.Rounding.{NearestUp}
-use Rattle.bench_indication.proofs.Laws.Rounding.{nearest-up}
+use Rattle.base_numbers.specs.Rounding.{NearestUp}
+use Rattle.base_numbers.proofs.Laws.Rounding.{nearest-up}
 use Rattle.bench_resistance.specs.Resistances.{hundredthsMost, exact, partsOfOne, storedFor, storedFrom, card}
 
 -- the rule's difference does not go below 0

@@ -10,7 +10,7 @@ use native.Mathlib.Omega.{arith}
 use borrow.Author.Tests.{ltb-true}
 use lib.Dec.{ltb}
 use Rattle.base_rules.proofs.Laws.Tests.{below}
-use Rattle.bench_indication.specs.Rounding.{apart}
+use Rattle.base_numbers.specs.Rounding.{apart}
 use Rattle.bench_resistance.specs.Resistances.{exact, partsOfOne, storedFor, line, resistance, hundredthsMost}
 
 -- what is rounded on a line is no more than a hundred times two million, twice

@@ -14,9 +14,9 @@ use Rattle.base_characters.specs.Characters.{over, chars}
 use Rattle.base_rules.specs.Lists.{any}
 use Rattle.base_rules.proofs.Laws.TestLaws.{not-refused, all-passed}
 use Rattle.base_numbers.specs.Numbers.{number}
-use Rattle.base_numbers.proofs.Laws.NumberLaws.{Bytes}
+use Rattle.base_rules.proofs.Laws.ByteLaws.{EachByte, each-take}
 use Rattle.bundle_rows.specs.Lists.{All}
-use Rattle.bundle_rows.proofs.Laws.Lists.{all-append, bytes-take}
+use Rattle.bundle_rows.proofs.Laws.Lists.{all-append}
 use Rattle.bundle_rows.specs.Rows.{mostRows, rowsOf, firstOffset}
 use Rattle.bundle_rows.specs.declared.Row.{Row}
 use Rattle.bundle_check.proofs.Laws.Accepted.{SoundBundle, accepted-sound, sound-accepted}
@@ -155,8 +155,8 @@ module _ (buffer : List ℕ) (filled : ℕ) (k : Recorded) (n : ℕ) (e : addOf 
       ∙ ap (λ (q : Recorded). q .body) (getD-at (recordsOf old) k [] blankRecord (countOf old) (length-held old sound))
 
 -- in lent bytes every time fits
-pub bytes-timely : (buffer : List ℕ) (filled m : ℕ) → Bytes buffer → checkOf (take filled buffer) ≡ reads m → All Timely (recordsOf (take filled buffer))
-bytes-timely buffer filled m p e = timely-held (take filled buffer) (accepted-sound (take filled buffer) m e .0) (bytes-take filled buffer p)
+pub bytes-timely : (buffer : List ℕ) (filled m : ℕ) → EachByte buffer → checkOf (take filled buffer) ≡ reads m → All Timely (recordsOf (take filled buffer))
+bytes-timely buffer filled m p e = timely-held (take filled buffer) (accepted-sound (take filled buffer) m e .0) (each-take filled buffer p)
 
 -- ---- a bundle that is built by adding alone
 

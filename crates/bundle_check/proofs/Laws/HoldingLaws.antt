@@ -8,9 +8,8 @@ use native.Mathlib.Omega.{arith}
 use lib.ListN.{length, take, drop, take-append-drop, length-drop}
 use lib.Seq.{drop-drop, length-take-le}
 use Rattle.base_rules.specs.Lists.{at}
-use Rattle.base_numbers.proofs.Laws.NumberLaws.{Bytes}
+use Rattle.base_rules.proofs.Laws.ByteLaws.{EachByte, each-drop}
 use Rattle.bundle_rows.specs.Lists.{All}
-use Rattle.bundle_rows.proofs.Laws.Lists.{bytes-drop}
 use Rattle.bundle_rows.proofs.Laws.RowLaws.{length-rows, bytes-taken, rows-whole, times-of}
 use Rattle.bundle_rows.specs.Rows.{bodyIn, firstOffset}
 use Rattle.bundle_rows.specs.declared.Row.{Row}
@@ -147,17 +146,17 @@ module _ (b : List ℕ) (s : SoundBundle b) where
     range = rw bodies-held (s .range);
   }
 
-  pub timely-held : Bytes b → All Timely (recordsOf b)
-  timely-held p = timely-in (contentsOf b) (bodiesOf b) (times-of (countOf b) (drop 2 b) (bytes-drop 2 b p))
+  pub timely-held : EachByte b → All Timely (recordsOf b)
+  timely-held p = timely-in (contentsOf b) (bodiesOf b) (times-of (countOf b) (drop 2 b) (each-drop 2 b p))
 
-pub bundle-whole : (b : List ℕ) → SoundBundle b → Bytes b → bundleOf (recordsOf b) ≡ b
+pub bundle-whole : (b : List ℕ) → SoundBundle b → EachByte b → bundleOf (recordsOf b) ≡ b
 bundle-whole b s p =
     rw (
       length-held b s,
       rows-held b s (firstOffset (countOf b)),
       placed-same (length b) (firstOffset (countOf b)) (contentsOf b) (s .places),
       bodies-held b s,
-      rows-whole (countOf b) (drop 2 b) (omega (arith, s .whole, length-drop 2 b)) (bytes-drop 2 b p),
+      rows-whole (countOf b) (drop 2 b) (omega (arith, s .whole, length-drop 2 b)) (each-drop 2 b p),
       bytes-taken 2 b (s .counted) p,
     )
     (ap (λ (l : List ℕ). take 2 b ++ l)

@@ -14,7 +14,7 @@ use Rattle.base_rules.proofs.Laws.AnswerLaws.{reads-same}
 use Rattle.base_rules.proofs.Laws.ListLaws.{map-drop}
 use Rattle.base_rules.proofs.Laws.TestLaws.{not-refused}
 use Rattle.base_rules.proofs.Laws.Tests.{by-test, passed}
-use Rattle.base_numbers.proofs.Laws.NumberLaws.{Bytes}
+use Rattle.base_rules.proofs.Laws.ByteLaws.{EachByte}
 use Rattle.bundle_rows.specs.Rows.{mostRows, blankRow}
 use Rattle.bundle_rows.specs.declared.Row.{Row}
 use Rattle.bundle_check.specs.Bundles.{contentsOf, countOf, checkOf}
@@ -38,7 +38,7 @@ first-map test f s from =
     (front-map test f (drop from s)) in
     ap₂ (λ (n i : ℕ). refuse 39 (leb n (from + i)) (reads (from + i))) (length-map s f) front
 
-module _ (b : List ℕ) (n : ℕ) (bytes : Bytes b) (e : checkOf b ≡ reads n) where
+module _ (b : List ℕ) (n : ℕ) (bytes : EachByte b) (e : checkOf b ≡ reads n) where
   abbrev rows : List Row
   rows = contentsOf b
 

@@ -13,11 +13,12 @@ use Rattle.base_rules.specs.Answers.{reads}
 use Rattle.base_lent.proofs.Laws.PieceLaws.{pieces-length}
 use Rattle.base_numbers.specs.Numbers.{number, bytesOf}
 use Rattle.base_numbers.proofs.Laws.Numbers.{length-bytes, number-bytes}
-use Rattle.base_numbers.proofs.Laws.NumberLaws.{Bytes, number-below}
+use Rattle.base_rules.proofs.Laws.ByteLaws.{EachByte, each-drop}
+use Rattle.base_numbers.proofs.Laws.NumberLaws.{number-below}
 use Rattle.bundle_rows.specs.Lists.{All}
 use Rattle.bundle_rows.specs.Rows.{mostRows, rowOf, rowsOf, firstOffset, blankRow, bytesOfRows}
 use Rattle.bundle_rows.specs.declared.Row.{Row}
-use Rattle.bundle_rows.proofs.Laws.Lists.{all-append, bytes-drop}
+use Rattle.bundle_rows.proofs.Laws.Lists.{all-append}
 use Rattle.bundle_rows.proofs.Laws.RowLaws.{Fitting, length-rows, rows-back, rows-whole, bytes-taken}
 use Rattle.bundle_check.specs.Bundles.{contentsOf, countOf, checkOf}
 use Rattle.bundle_check.proofs.Laws.Accepted.{accepted-sound}
@@ -102,13 +103,13 @@ read-again c o =
     ap₂ rowsOf (sym (length-kept c 0 (c .count))) (behind ∙ sym (append-nil (bytesOfRows rows))) ∙ rows-back rows [] (kept-fits c o 0 (c .count)) in
     ap columnsOf whole ∙ lists-again c o
 
-pub written-again : (b : List ℕ) (n : ℕ) → Bytes b → checkOf b ≡ reads n → contentsBytes (columnsOf (contentsOf b)) ≡ take (firstOffset n) b
+pub written-again : (b : List ℕ) (n : ℕ) → EachByte b → checkOf b ≡ reads n → contentsBytes (columnsOf (contentsOf b)) ≡ take (firstOffset n) b
 written-again b n bytes e =
     let s = accepted-sound b n e in
     let size : length (contentsOf b) ≡ countOf b = length-rows (countOf b) (drop 2 b) in
     ap₂ (λ (k : ℕ) (rows : List Row). bytesOf 2 k ++ bytesOfRows rows) size (kept-whole (contentsOf b))
     ∙ ap₂ (λ (x y : List ℕ). x ++ y) (bytes-taken 2 b (s .0 .counted) bytes)
-    (rows-whole (countOf b) (drop 2 b) (omega (arith, s .0 .whole, length-drop 2 b)) (bytes-drop 2 b bytes))
+    (rows-whole (countOf b) (drop 2 b) (omega (arith, s .0 .whole, length-drop 2 b)) (each-drop 2 b bytes))
     ∙ sym (take-add 2 (12 * countOf b) b) ∙ ap (λ (k : ℕ). take (firstOffset k) b) (sym (s .1))
 
 -- ---- the lists of bytes are in order
@@ -121,12 +122,12 @@ all-zero : (w k : ℕ) → All (λ (x : ℕ). x < 256 ^ w) (replicate k 0)
 all-zero w zero = tt
 all-zero w (suc k) = (omega (arith, one-le-pow w 256 (omega arith)), all-zero w k)
 
-all-rows : (P : Row → Type 0) → ((s : List ℕ) → Bytes s → P (rowOf s)) → (n : ℕ) (s : List ℕ) → Bytes s → All P (rowsOf n s)
+all-rows : (P : Row → Type 0) → ((s : List ℕ) → EachByte s → P (rowOf s)) → (n : ℕ) (s : List ℕ) → EachByte s → All P (rowsOf n s)
 unfolding rowsOf
 all-rows P f zero s p = tt
-all-rows P f (suc n) s p = (f s p, all-rows P f n (drop 12 s) (bytes-drop 12 s p))
+all-rows P f (suc n) s p = (f s p, all-rows P f n (drop 12 s) (each-drop 12 s p))
 
-module _ (b : List ℕ) (n : ℕ) (bytes : Bytes b) (few : n ≤ mostRows) where
+module _ (b : List ℕ) (n : ℕ) (bytes : EachByte b) (few : n ≤ mostRows) where
   listed : (f : Row → ℕ) (p w : ℕ) → ((s : List ℕ) → number (take w (drop p s)) ≡ f (rowOf s))
       → Listed w (length (rowsOf n (drop 2 b))) (listOf f (rowsOf n (drop 2 b)))
   listed f p w e =
@@ -138,7 +139,7 @@ module _ (b : List ℕ) (n : ℕ) (bytes : Bytes b) (few : n ≤ mostRows) where
         fits =
             all-append (λ (x : ℕ). x < 256 ^ w) (map f rows) (replicate (mostRows - length rows) 0)
             (all-map (λ (x : ℕ). x < 256 ^ w) f rows
-            (all-rows (λ (r : Row). f r < 256 ^ w) (λ s q. rw (← e s) (number-below w (drop p s) (bytes-drop p s q))) n (drop 2 b) (bytes-drop 2 b bytes)))
+            (all-rows (λ (r : Row). f r < 256 ^ w) (λ s q. rw (← e s) (number-below w (drop p s) (each-drop p s q))) n (drop 2 b) (each-drop 2 b bytes)))
             (all-zero w (mostRows - length rows));
         rest = drop-at (map f rows) (replicate (mostRows - length rows) 0) (length rows) same;
       }

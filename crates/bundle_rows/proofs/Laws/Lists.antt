@@ -1,37 +1,19 @@
 -- Laws of `specs/Lists`.
-use Prim.Native.Nat.{ℕ, zero, suc, _+_, _-_, _≤_}
+use Prim.Native.Nat.{ℕ, _+_, _-_, _≤_}
 use mathlib.Core.List.{List, [], _∷_, _++_, append-assoc}
-use mathlib.Core.Path.{_≡_, refl, sym, ap, ap₂, _∙_}
-use native.Mathlib.Nat.{sub-zero, suc-sub-suc, zero-sub}
+use mathlib.Core.Path.{_≡_, ap, ap₂, _∙_}
 use native.Mathlib.Omega.{arith}
 use lib.ListN.{length, take, drop, length-append}
-use lib.Seq.{take-take, take-nil, getD-drop}
+use lib.Seq.{take-take}
 use Rattle.base_lent.specs.Copying.{laid}
 use Rattle.base_lent.proofs.Laws.Copying.{laid-on}
-use Rattle.base_numbers.proofs.Laws.NumberLaws.{Bytes}
 use Rattle.bundle_rows.specs.Lists.{All}
+use Rattle.base_rules.proofs.Laws.ListLaws.{drop-take}
 
 module _ {A : Type 0} where
   pub all-append : (P : A → Type 0) (l m : List A) → All P l → All P m → All P (l ++ m)
   all-append P [] m p q = q
   all-append P (x ∷ l) m p q = (p .0, all-append P l m (p .1) q)
-
--- bytes further on, and the first of them
-pub bytes-drop : (n : ℕ) (s : List ℕ) → Bytes s → Bytes (drop n s)
-bytes-drop n s p i = rw (getD-drop n s i 0) (p (n + i))
-
-pub bytes-take : (n : ℕ) (s : List ℕ) → Bytes s → Bytes (take n s)
-bytes-take zero s p i = omega arith
-bytes-take (suc n) [] p i = p i
-bytes-take (suc n) (x ∷ s) p zero = p 0
-bytes-take (suc n) (x ∷ s) p (suc i) = bytes-take n s (λ j. p (suc j)) i
-
--- ---- the rows that stand in front
-pub drop-take : (a m : ℕ) (s : List ℕ) → drop a (take m s) ≡ take (m - a) (drop a s)
-drop-take zero m s = rw sub-zero
-drop-take (suc a) zero s = rw zero-sub
-drop-take (suc a) (suc m) [] = sym (take-nil (suc m - suc a))
-drop-take (suc a) (suc m) (x ∷ s) = rw suc-sub-suc (drop-take a m s)
 
 pub window : (a c m : ℕ) (s : List ℕ) → a + c ≤ m → take c (drop a (take m s)) ≡ take c (drop a s)
 window a c m s h = rw (drop-take a m s) (take-take c (m - a) (drop a s) (omega arith))

@@ -14,10 +14,12 @@ use Rattle.base_rules.proofs.Laws.TestLaws.{none}
 use Rattle.base_lent.specs.Pieces.{pieces}
 use Rattle.base_numbers.specs.Numbers.{number, bytesOf}
 use Rattle.base_numbers.proofs.Laws.Numbers.{number-bytes}
-use Rattle.base_numbers.proofs.Laws.NumberLaws.{Bytes, number-below, bytes-read}
+use Rattle.base_rules.proofs.Laws.ByteLaws.{EachByte, each-drop, each-take}
+use Rattle.base_numbers.proofs.Laws.NumberLaws.{number-below, bytes-read}
 use Rattle.bundle_rows.specs.Fields.{wrongField}
 use Rattle.bundle_rows.specs.Lists.{All}
-use Rattle.bundle_rows.proofs.Laws.Lists.{bytes-drop, bytes-take, drop-take, window}
+use Rattle.base_rules.proofs.Laws.ListLaws.{drop-take}
+use Rattle.bundle_rows.proofs.Laws.Lists.{window}
 use Rattle.bundle_rows.specs.Rows.{rowOf, mostRows, rowsOf, firstOffset, blankRow, uncheckedRow, bytesOfRow, bytesOfRows}
 use Rattle.bundle_rows.specs.declared.Row.{Row}
 
@@ -104,15 +106,15 @@ one-row r = append-nil (bytesOfRow r)
 -- ---- bytes written back from their rows
 
 -- so many bytes of a list that has them
-pub bytes-taken : (k : ℕ) (s : List ℕ) → k ≤ length s → Bytes s → bytesOf k (number (take k s)) ≡ take k s
-bytes-taken k s h p = ap (λ (n : ℕ). bytesOf n (number (take k s))) (sym (length-take-le k s h)) ∙ bytes-read (take k s) (bytes-take k s p)
+pub bytes-taken : (k : ℕ) (s : List ℕ) → k ≤ length s → EachByte s → bytesOf k (number (take k s)) ≡ take k s
+bytes-taken k s h p = ap (λ (n : ℕ). bytesOf n (number (take k s))) (sym (length-take-le k s h)) ∙ bytes-read (take k s) (each-take k s p)
 
-row-whole : (s : List ℕ) → 12 ≤ length s → Bytes s → bytesOfRow (rowOf s) ≡ take 12 s
+row-whole : (s : List ℕ) → 12 ≤ length s → EachByte s → bytesOfRow (rowOf s) ≡ take 12 s
 row-whole s h p =
     rw (
-      bytes-taken 4 (drop 2 s) (omega (arith, length-drop 2 s)) (bytes-drop 2 s p),
-      bytes-taken 4 (drop 6 s) (omega (arith, length-drop 6 s)) (bytes-drop 6 s p),
-      bytes-taken 2 (drop 10 s) (omega (arith, length-drop 10 s)) (bytes-drop 10 s p),
+      bytes-taken 4 (drop 2 s) (omega (arith, length-drop 2 s)) (each-drop 2 s p),
+      bytes-taken 4 (drop 6 s) (omega (arith, length-drop 6 s)) (each-drop 6 s p),
+      bytes-taken 2 (drop 10 s) (omega (arith, length-drop 10 s)) (each-drop 10 s p),
     )
     parts
   where
@@ -127,12 +129,12 @@ row-whole s h p =
         ∙ ap (λ (l : List ℕ). take 4 (drop 2 s) ++ l)
         (take-add 4 2 (drop 6 s) ∙ ap (λ (l : List ℕ). take 4 (drop 6 s) ++ take 2 l) (drop-drop 4 6 s))))
 
-pub rows-whole : (n : ℕ) (s : List ℕ) → 12 * n ≤ length s → Bytes s → bytesOfRows (rowsOf n s) ≡ take (12 * n) s
+pub rows-whole : (n : ℕ) (s : List ℕ) → 12 * n ≤ length s → EachByte s → bytesOfRows (rowsOf n s) ≡ take (12 * n) s
 unfolding rowsOf bytesOfRows
 rows-whole zero s h p = refl
 rows-whole (suc n) s h p =
     let next : 12 + 12 * n ≡ 12 * suc n = omega arith in
-    ap₂ (λ (x y : List ℕ). x ++ y) (row-whole s (omega arith) p) (rows-whole n (drop 12 s) (omega (arith, length-drop 12 s)) (bytes-drop 12 s p))
+    ap₂ (λ (x y : List ℕ). x ++ y) (row-whole s (omega arith) p) (rows-whole n (drop 12 s) (omega (arith, length-drop 12 s)) (each-drop 12 s p))
     ∙ sym (take-add 12 (12 * n) s) ∙ ap (λ (m : ℕ). take m s) next
 
 -- ---- rows that stand in front of something
@@ -162,10 +164,10 @@ rows-same n x y e = sym (rows-cut n x) ∙ ap (λ (l : List ℕ). rowsOf n (drop
 
 -- ---- the times of lent bytes
 
-pub times-of : (n : ℕ) (s : List ℕ) → Bytes s → All (λ (r : Row). r .time < 256 ^ 4) (rowsOf n s)
+pub times-of : (n : ℕ) (s : List ℕ) → EachByte s → All (λ (r : Row). r .time < 256 ^ 4) (rowsOf n s)
 unfolding rowsOf
 times-of zero s p = tt
-times-of (suc n) s p = (number-below 4 (drop 2 s) (bytes-drop 2 s p), times-of n (drop 12 s) (bytes-drop 12 s p))
+times-of (suc n) s p = (number-below 4 (drop 2 s) (each-drop 2 s p), times-of n (drop 12 s) (each-drop 12 s p))
 
 -- ---- fields that are in their ranges
 pub record InRange (position direction size : ℕ) : Type 0 where

@@ -11,11 +11,10 @@ use lib.Seq.{take-all}
 use Rattle.base_rules.specs.Answers.{reads}
 use Rattle.base_characters.specs.Characters.{over, chars}
 use Rattle.base_rules.specs.Lists.{any}
-use Rattle.base_numbers.proofs.Laws.NumberLaws.{Bytes}
+use Rattle.base_rules.proofs.Laws.ByteLaws.{EachByte, each-drop}
 use Rattle.bundle_rows.specs.Lists.{All}
 use Rattle.bundle_rows.specs.Rows.{mostRows, rowsOf, firstOffset}
 use Rattle.bundle_rows.specs.declared.Row.{Row}
-use Rattle.bundle_rows.proofs.Laws.Lists.{bytes-drop}
 use Rattle.bundle_rows.proofs.Laws.RowLaws.{length-rows, times-of}
 use Rattle.bundle_check.specs.Bundles.{mostBytes, countOf, contentsOf, bodiesOf, checkOf, opened, checkRows}
 use Rattle.bundle_check.specs.Records.{Recorded, recordsIn, recordsOf, bodiesFor, bundleOf}
@@ -62,7 +61,7 @@ module _ (b : List ℕ) (n : ℕ) (e : opened b (reads (countOf b)) ≡ reads n)
       length-new b (l .kept) n (kept-in-place b n e refl) (count-is b n e)
       ∙ ap (λ (k : ℕ). newLength (l .kept) n k) (sym (end-is b n e refl))
 
-  pub kept-holdable : Bytes b → Holdable kept
+  pub kept-holdable : EachByte b → Holdable kept
   kept-holdable bytes =
       let w = contents-whole b n e in
       let few = kept-few b n e refl in
@@ -83,14 +82,14 @@ module _ (b : List ℕ) (n : ℕ) (e : opened b (reads (countOf b)) ≡ reads n)
           length-drop (firstOffset n) b,
         );
         fields = fields-in 0 (firstOffset n) rows bodies room ∙ keep-fields b 0 (firstOffset n) rows rows-keep;
-        timely = timely-in rows bodies (times-of (l .kept) (drop 2 b) (bytes-drop 2 b bytes));
+        timely = timely-in rows bodies (times-of (l .kept) (drop 2 b) (each-drop 2 b bytes));
         range = keep-range b 0 (firstOffset n) rows rows-keep;
       })
 
-  pub new-accepted : Bytes b → checkOf (bundleOf kept) ≡ reads (l .kept)
+  pub new-accepted : EachByte b → checkOf (bundleOf kept) ≡ reads (l .kept)
   new-accepted bytes = holdable-accepted kept (kept-holdable bytes) ∙ ap reads size
 
-  pub new-holds : Bytes b → recordsOf (bundleOf kept) ≡ kept
+  pub new-holds : EachByte b → recordsOf (bundleOf kept) ≡ kept
   new-holds bytes = held-back kept (kept-holdable bytes)
 
 -- ---- a bundle that the check accepts

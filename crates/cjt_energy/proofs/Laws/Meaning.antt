@@ -16,7 +16,7 @@ use Rattle.mbus_rules.specs.Writing.{wrongEntry}
 use Rattle.base_rules.proofs.Laws.AnswerLaws.{reads-same}
 use Rattle.base_rules.proofs.Laws.Tests.{by-test, passed, below}
 use Rattle.base_rules.proofs.Laws.TestLaws.{none}
-use Rattle.bench_indication.specs.Rounding.{apart}
+use Rattle.base_numbers.specs.Rounding.{apart}
 use Rattle.cjt_rules.specs.declared.CjtAnswer.{CjtAnswer}
 use Rattle.cjt_rules.specs.declared.CjtQuantity.{CjtQuantity}
 use Rattle.cjt_rules.specs.declared.CjtTelegram.the-variants as telegrams

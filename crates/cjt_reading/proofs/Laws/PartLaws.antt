@@ -1,6 +1,6 @@
 -- Digits of an answer, gathered in a word.
 use Prim.Native.Nat.{ℕ, _+_, _-_, _*_, _^_, _≤_, _<_, min}
-use mathlib.Core.Bool.{true, false, true≢false}
+use mathlib.Core.Bool.{true≢false}
 use mathlib.Core.List.{List}
 use mathlib.Core.Path.{_≡_, sym, ap, _∙_}
 use native.Mathlib.Nat.{le-trans, pow-le-pow-right, mul-le-mul-left}
@@ -8,7 +8,7 @@ use native.Mathlib.Omega.{arith}
 use borrow.Author.Tests.{eq-eqb, ne-eqb}
 use lib.Dec.{eqb, lit<}
 use lib.ListN.{length, take, drop, length-take, length-drop, replicate}
-use lib.Seq.{getD-drop, getD-take, length-take-le, take-all}
+use lib.Seq.{getD-drop, getD-take, length-take-le}
 use Rattle.base_rules.specs.Lists.{at, any}
 use Rattle.base_digits.specs.Digits.{digitsOf, packedOf}
 use Rattle.base_rules.proofs.Laws.ByteLaws.{bytes-each, byte-at, bytes-take}
@@ -65,7 +65,3 @@ module _ (s : List ℕ) (byte : (i : ℕ) → at s i < 256) where
 -- the bytes of the clock
 pub clock-at : (s : List ℕ) (i : ℕ) → i < 7 → at (part 34 7 s) i ≡ at s (34 + i)
 clock-at s i h = getD-take 7 (drop 34 s) i 0 h ∙ getD-drop 34 s i 0
-
--- the bytes from a place on, as the code cuts them out
-pub rest-is : (s : List ℕ) (n : ℕ) → take (length s - n) (drop n s) ≡ drop n s
-rest-is s n = take-all (length s - n) (drop n s) (omega (arith, length-drop n s))

@@ -1,9 +1,9 @@
 -- Laws of `specs/Told`.
-use Prim.Native.Nat.{ℕ, zero, suc, _+_, _*_, _-_, _≤_, _<_, zero-le}
+use Prim.Native.Nat.{ℕ, _+_, _*_, _-_, _≤_, _<_, zero-le}
 use mathlib.Core.Bool.{true, false, not, _||_}
 use mathlib.Core.List.{List, [], _∷_, map}
 use mathlib.Core.Path.{_≡_, refl, sym, ap, subst, _∙_}
-use native.Mathlib.Nat.{not-suc-le-zero, zero-add}
+use native.Mathlib.Nat.{zero-add}
 use native.Mathlib.Omega.{arith}
 use borrow.Author.Tests.{ltb-false, leb-false}
 use lib.Dec.{ltb, leb, eqb}
@@ -45,6 +45,7 @@ use Rattle.host_verdicts.specs.declared.VerdictFound.the-variants as fou
 use Rattle.host_verdicts.specs.Records.{verdictRecord}
 use Rattle.host_verdicts.specs.Told.{recordsTold, verdictsInto, verdictIn, verdictInto, GivesVerdicts, GivesVerdict}
 use Rattle.host_verdicts.specs.Told.{verdictsAmong, answerShown, InFull, verdictFound, PutsVerdicts}
+use Rattle.base_rules.proofs.Laws.ListLaws.{getD-inside}
 
 pub length-record : (v : Verdict) → length (verdictRecord v) ≡ 4
 unfolding bytesOf
@@ -125,18 +126,13 @@ module _ {all : Verdicts} where
 
 -- ---- the records, one behind the other
 
-getD-same : {A : Type 0} (l : List A) (i : ℕ) (a d : A) → i < length l → getD l i a ≡ getD l i d
-getD-same [] i a d h = absurd (not-suc-le-zero h)
-getD-same (x ∷ l) zero a d h = refl
-getD-same (x ∷ l) (suc i) a d h = getD-same l i a d (omega arith)
-
 module _ (rulings : List Ruling) {n : ℕ} (whole : length rulings ≡ mostRows) (few : n ≤ mostRows) where
   pub length-among : length (verdictsAmong rulings n) ≡ n
   length-among = length-map (take n rulings) (λ r. r .verdict) ∙ length-take-le n rulings (omega arith)
 
   among-at : (i : ℕ) (d : Ruling) → i < n → getD rulings i d .verdict ≡ getD (verdictsAmong rulings n) i Unasked
   among-at i d h =
-      ap (λ (r : Ruling). r .verdict) (getD-same rulings i d (ruling Unasked) (omega arith) ∙ sym (getD-take n rulings i (ruling Unasked) h))
+      ap (λ (r : Ruling). r .verdict) (getD-inside rulings i d (ruling Unasked) (omega arith) ∙ sym (getD-take n rulings i (ruling Unasked) h))
       ∙ sym (List·getD-map (λ r. r .verdict) (take n rulings) i (ruling Unasked))
 
   module _ {d : List ℕ} where

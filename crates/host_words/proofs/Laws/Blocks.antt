@@ -1,8 +1,8 @@
 -- The words as they stand in the code, a row for each number; that each row has the words for its number is one computed test.
 use Prim.Native.Nat.{ℕ, zero, suc, _+_, _-_, _≤_, _<_}
-use mathlib.Core.Bool.{Bool, true, false, not, _&&_, true≢false, and-eq-true-iff}
+use mathlib.Core.Bool.{Bool, true, false, not, true≢false}
 use mathlib.Core.List.{List, [], _∷_, _++_}
-use mathlib.Core.Path.{_≡_, refl, sym, ap, ap₂, _∙_}
+use mathlib.Core.Path.{_≡_, refl, sym, ap, _∙_}
 use native.Mathlib.Omega.{arith}
 use native.Mathlib.Nat.{sub-zero}
 use borrow.Author.Tests.{eqb-true, ltb-true, ltb-false, ne-eqb, not-false}
@@ -14,6 +14,8 @@ use Rattle.base_rules.proofs.Laws.Tests.{everyBelow, below, by-test, neither}
 use Rattle.host_words.specs.Refusals.{Row, refusalTexts, textOf, wordsIn}
 use Rattle.text_filling.specs.Texts.{text}
 use Rattle.host_words.specs.Rows.{rowOfWords, rowsFrom, firstRow}
+use Rattle.base_lent.specs.Same.{same}
+use Rattle.base_lent.proofs.Laws.Same.{same-equal}
 
 -- the words of an answer, none of a refusal
 abbrev wordsOr : Answer (List ℕ) → List ℕ
@@ -25,29 +27,15 @@ unfoldable pub block : ℕ → ℕ → List ℕ
 block first zero = []
 block first (suc count) = wordsOr (textOf first) ++ (10 ∷ block (suc first) count)
 
--- two answers are the same
-unfoldable same : List ℕ → List ℕ → Bool
-same [] [] = true
-same [] (y ∷ t) = false
-same (x ∷ s) [] = false
-same (x ∷ s) (y ∷ t) = eqb x y && same s t
-
 unfoldable alike : Answer (List ℕ) → Answer (List ℕ) → Bool
 alike (reads s) (reads t) = same s t
 alike (reads s) (refusal n) = false
 alike (refusal m) (reads t) = false
 alike (refusal m) (refusal n) = eqb m n
 
-same-eq : (s t : List ℕ) → same s t ≡ true → s ≡ t
-unfolding same
-same-eq [] [] e = refl
-same-eq [] (y ∷ t) e = absurd (true≢false (sym e))
-same-eq (x ∷ s) [] e = absurd (true≢false (sym e))
-same-eq (x ∷ s) (y ∷ t) e = let b = and-eq-true-iff (eqb x y) (same s t) .0 e in ap₂ (λ (a : ℕ) (l : List ℕ). a ∷ l) (eqb-true x y (b .0)) (same-eq s t (b .1))
-
 alike-eq : (a b : Answer (List ℕ)) → alike a b ≡ true → a ≡ b
 unfolding alike
-alike-eq (reads s) (reads t) e = ap reads (same-eq s t e)
+alike-eq (reads s) (reads t) e = ap reads (same-equal s t e)
 alike-eq (reads s) (refusal n) e = absurd (true≢false (sym e))
 alike-eq (refusal m) (reads t) e = absurd (true≢false (sym e))
 alike-eq (refusal m) (refusal n) e = ap refusal (eqb-true m n e)

@@ -9,7 +9,7 @@ use native.Mathlib.Omega.{arith}
 use borrow.Author.Tests.{ltb-false, eq-eqb, ne-eqb}
 use lib.Dec.{ltb, eqb}
 use lib.ListN.{length, getD, take, drop, set, replicate, getD-replicate, length-drop, length-set, drop-of-length-le, take-append-drop}
-use lib.Seq.{take-all, length-take-le, drop-cons, getD-set-same, getD-set-other, take-suc-set, drop-set-lt, drop-drop}
+use lib.Seq.{length-take-le, drop-cons, getD-set-same, getD-set-other, take-suc-set, drop-set-lt, drop-drop}
 use Rattle.mbus_rules.specs.declared.Entry.{Entry}
 use Rattle.base_rules.specs.declared.Outcome.{Outcome}
 use Rattle.base_rules.specs.declared.Outcome.the-variants.{Accepted, Refused}
@@ -30,6 +30,7 @@ use Rattle.mbus_entries.specs.declared.entry.Tried.{Tried}
 use Rattle.mbus_entries.specs.Trying.{Taken, takenOf, tried, triedShown, unseen, nextOf}
 use Rattle.mbus_entries.proofs.Laws.TryLaws.{shown-refused, shown-passed, follow-reads, tried-reads}
 use Rattle.mbus_entries.specs.Walking.{entriesShown, unmarked, outcomeAfter, isRefusal}
+use Rattle.base_rules.proofs.Laws.ListLaws.{rest-is}
 
 -- ---- one entry
 
@@ -163,10 +164,6 @@ module _ {rest : List ℕ} {at count : ℕ} {marks : List Bool} {entries : List 
           ∙ sym (walked-step ∙ ap (λ (a : Answer Taken). follow a others) e));
     }
 
--- the rest from a place on, as the code cuts it out
-rest-cut : (rest : List ℕ) (at : ℕ) → take (length rest - at) (drop at rest) ≡ drop at rest
-rest-cut rest at = take-all (length rest - at) (drop at rest) (omega (arith, length-drop at rest))
-
 -- one turn of the walk, on what the code was told of the entry: it is passed over, or it is what the rest is refused by
 pub record Turn (rest : List ℕ) (at count : ℕ) (marks : List Bool) (entries : List Entry) (q v : ℕ) (x : Entry) : Type 0 where
   pub below : count < 7
@@ -178,7 +175,7 @@ pub record Turn (rest : List ℕ) (at count : ℕ) (marks : List Bool) (entries 
 module _ {rest : List ℕ} {at count : ℕ} {marks : List Bool} {entries : List Entry} {y : Tried} (w : Walked rest at count marks entries) (h : at < length rest)
     (e : y ≡ triedShown (nextOf (take (length rest - at) (drop at rest)) marks)) where
   told : triedShown (nextOf (drop at rest) marks) ≡ y
-  told = sym (e ∙ ap (λ (s : List ℕ). triedShown (nextOf s marks)) (rest-cut rest at))
+  told = sym (e ∙ ap (λ (s : List ℕ). triedShown (nextOf s marks)) (rest-is rest at))
 
   pub turned : {q v : ℕ} {x : Entry} → y ≡ Tried.Passed q v x → Turn rest at count marks entries q v x
   turned {q} {v} {x} p =

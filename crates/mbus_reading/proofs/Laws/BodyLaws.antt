@@ -4,8 +4,8 @@ use mathlib.Core.Bool.{Bool, true, false}
 use mathlib.Core.List.{List, []}
 use mathlib.Core.Path.{_≡_, refl, sym, ap, _∙_}
 use native.Mathlib.Omega.{arith}
-use lib.ListN.{length, take, drop, length-drop}
-use lib.Seq.{take-length, take-take, getD-take}
+use lib.ListN.{take, drop}
+use lib.Seq.{take-take, getD-take}
 use Rattle.base_rules.specs.declared.Outcome.the-variants
 use Rattle.mbus_rules.specs.declared.Kind.the-variants as kinds
 use Rattle.mbus_rules.specs.declared.Outline.the-variants as outlines
@@ -22,10 +22,6 @@ use Rattle.mbus_rules.specs.Outlines.{outlined}
 use Rattle.mbus_entries.specs.Walking.{entriesShown}
 use Rattle.mbus_entries.specs.declared.Entries.{Entries}
 use Rattle.mbus_reading.specs.Bodies.{bodyOf}
-
--- what follows the header, as the code cuts it out
-pub rest-is : (d : List ℕ) (n : ℕ) → take (length d - n) (drop n d) ≡ drop n d
-rest-is d n = ap (λ (k : ℕ). take k (drop n d)) (sym (length-drop n d)) ∙ take-length (drop n d)
 
 -- the header is the first twelve bytes
 head-at : (d : List ℕ) (i : ℕ) → i < 12 → at (take 12 d) i ≡ at d i

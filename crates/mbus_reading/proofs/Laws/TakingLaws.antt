@@ -4,10 +4,9 @@ use mathlib.Core.Bool.{Bool, true, false, cond, not, _||_, or-true}
 use mathlib.Core.List.{List, [], _∷_, map}
 use mathlib.Core.Path.{_≡_, refl, sym, ap, subst, _∙_}
 use native.Mathlib.Omega.{arith}
-use borrow.Author.Tests.{eq-eqb, ne-eqb}
+use borrow.Author.Tests.{ne-eqb}
 use lib.Dec.{ltb, eqb}
 use lib.ListN.{length, take, length-map, length-take}
-use lib.Seq.{take-all}
 use Rattle.base_rules.specs.declared.Outcome.{Outcome}
 use Rattle.base_rules.specs.declared.Outcome.the-variants.{Accepted, Refused}
 use Rattle.mbus_rules.specs.declared.Telegram.{Telegram}

@@ -3,14 +3,14 @@ use Prim.Native.Nat.{ℕ, zero, suc, _+_, _*_, _-_, _/_, _%_, _^_, _≤_, _<_, z
 use mathlib.Core.Bool.{true, false, cond, not, _&&_, false≢true}
 use mathlib.Core.List.{List, [], _∷_, _++_, append-assoc, append-nil}
 use mathlib.Core.Path.{_≡_, refl, sym, ap, ap₂, subst, _∙_}
-use native.Mathlib.Nat.{zero-add, not-suc-le-zero, pow-succ', pow-le-pow-right}
+use native.Mathlib.Nat.{not-suc-le-zero, pow-succ', pow-le-pow-right}
 use native.Mathlib.Numerals.{add-one}
 use native.Mathlib.Omega.{arith}
 use borrow.Author.Tests.{ltb-true, leb-true, le-leb, not-false}
-use lib.Dec.{ltb, leb, lit<}
+use lib.Dec.{ltb, leb}
 use lib.IntN.{ℤ, pos, negsuc, natAbs}
-use lib.ListN.{length, getD, take, drop, set, length-append, length-set, take-append-drop, drop-of-length-le}
-use lib.Seq.{drop-cons, take-add, take-suc, take-take, getD-take, take-at, drop-at, take-append-seam, length-take-le}
+use lib.ListN.{length, getD, take, drop, set, length-append, length-set, take-append-drop}
+use lib.Seq.{take-add, take-suc, take-take, getD-take, take-at, drop-at, take-append-seam, length-take-le}
 use Rattle.base_lent.specs.Copying.{laid, copied}
 use Rattle.base_lent.proofs.Laws.Copying.{laid-none, laid-front, laid-on, laid-length}
 use Rattle.base_lent.proofs.Laws.Copying.{copied-fits}
@@ -45,33 +45,6 @@ use Rattle.mbus_writing.specs.Laying.{markedAt, signedSix, eightBytes, e
 use Rattle.mbus_writing.specs.Laying.{FrameClosed, BytesLaid, DataFits}
 
 -- ---- a loop that copies with parity, and one that sums
-
-pub record Added (s : List ℕ) (i sum : ℕ) : Type 0 where
-  pub inside : i ≤ length s
-  pub small : sum < 256
-  pub so : (sum + total (drop i s)) % 256 ≡ total s % 256
-
-pub added-none : {s : List ℕ} → Added s 0 0
-added-none {s} = record { inside = zero-le; small = lit< tt; so = rw zero-add }
-
-added : (x sum rest : ℕ) → ((sum + x) % 256 + rest) % 256 ≡ (sum + (x + rest)) % 256
-added x sum rest = omega arith
-
-pub added-next : {s : List ℕ} {i sum new : ℕ} → Added s i sum → i < length s → new ≡ (sum + getD s i 0) % 256 → Added s (i + 1) new
-unfolding total
-added-next {s} {i} {sum} {new} g h e = record {
-  inside = omega arith;
-  small = omega arith;
-  so = rw (e, add-one) (added (getD s i 0) sum (total (drop (suc i) s))) ∙ ap (λ (l : List ℕ). (sum + total l) % 256) (sym (drop-cons s i 0 h)) ∙ g .so;
-}
-
-pub added-all : {s : List ℕ} {i sum : ℕ} → Added s i sum → length s ≤ i → sum ≡ total s % 256
-unfolding total
-added-all {s} {i} {sum} g h =
-    let small : sum < 256 = g .small in
-    let end : (sum + total (drop i s)) % 256 ≡ total s % 256 = g .so in
-    let none : total (drop i s) ≡ 0 = ap total (drop-of-length-le s h) in
-    omega arith
 
 -- ---- entries one after the other
 

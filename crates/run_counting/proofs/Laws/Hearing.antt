@@ -78,7 +78,7 @@ counts-by Ack end since k = refl
 counts-by (Data address) end since k = refl
 
 -- a sent row does not count
-sent-counts-not : (stretch : List Recorded) (k : Recorded) → isSent k ≡ true → counts stretch k ≡ false
+pub sent-counts-not : (stretch : List Recorded) (k : Recorded) → isSent k ≡ true → counts stretch k ≡ false
 sent-counts-not [] k e = refl
 sent-counts-not (send ∷ since) k e = go (isSent send)
   where

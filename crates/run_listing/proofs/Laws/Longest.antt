@@ -25,7 +25,8 @@ use Rattle.mbus_rules.specs.Lines.{isCommand, isData, commandOf, readLong, read
 use Rattle.mbus_rules.specs.Outlines.{outlineOf, outlined}
 use Rattle.bundle_rows.specs.declared.Row.{Row}
 use Rattle.base_numbers.specs.Numbers.{number}
-use Rattle.base_numbers.proofs.Laws.NumberLaws.{Bytes, number-below}
+use Rattle.base_rules.proofs.Laws.ByteLaws.{EachByte}
+use Rattle.base_numbers.proofs.Laws.NumberLaws.{number-below}
 use Rattle.bundle_rows.specs.Rows.{mostRows, firstOffset, blankRow, bodyIn}
 use Rattle.bundle_rows.proofs.Laws.RowLaws.{row-at, length-rows}
 use Rattle.bundle_check.specs.RowRules.{wrongRows, wrongPlaces, bodiesEnd}
@@ -151,7 +152,7 @@ lines-short b (r ∷ rows) h =
     omega (arith, length-append (lineFor b r) (linesFor b rows))
 
 -- No listing of bytes is longer than this.
-pub longest : (b : List ℕ) → Bytes b → length (listingOf b) ≤ 15901
+pub longest : (b : List ℕ) → EachByte b → length (listingOf b) ≤ 15901
 unfolding listingOf
 longest b bytes = go refl (check-small b)
   where

@@ -1,6 +1,6 @@
 -- Laws of `specs/Pictures`, as the loops that draw use them.
 use Prim.Native.Nat.{ℕ, zero, suc, _+_, _-_, _≤_, _<_}
-use mathlib.Core.Bool.{Bool, true, false}
+use mathlib.Core.Bool.{true, false}
 use mathlib.Core.List.{List, [], _∷_, _++_}
 use mathlib.Core.Path.{_≡_, refl, sym, ap, _∙_}
 use native.Mathlib.Omega.{arith}
@@ -16,6 +16,7 @@ use Rattle.run_picture.specs.declared.page.Page.{Page}
 use Rattle.run_picture.specs.Timing.{paced, unpaced, cutAt}
 use Rattle.run_picture.specs.Elements.{markText, pauseText, rowDrawn}
 use Rattle.run_picture.specs.Pictures.{pausesDrawn, marksDrawn, ruled, rowsDrawn, laneDrawn, lanesDrawn}
+use Rattle.base_rules.proofs.Laws.ListLaws.{getD-inside}
 
 -- ---- a row more
 module _ (s : Pace) {next : Pace} {k : Recorded} {ks rest : List Recorded} (r : rest ≡ k ∷ ks) (e : next ≡ paced s k) where
@@ -66,12 +67,6 @@ module _ (p : Page) (vs : List Verdict) (ks : List Recorded) (y : ℕ) {position
   lanes-none e = rw e
 
 -- ---- verdicts in their places
-
--- what would stand past the end is nothing to a place before it
-getD-inside : {A : Type 0} (l : List A) (i : ℕ) (d e : A) → i < length l → getD l i d ≡ getD l i e
-getD-inside [] i d e h = absurd (omega arith)
-getD-inside (x ∷ l) zero d e h = refl
-getD-inside (x ∷ l) (suc i) d e h = getD-inside l i d e (omega arith)
 
 pub ruled-at : (rulings : List Ruling) (i : ℕ) → i < length rulings → getD rulings i (ruling Wake) .verdict ≡ getD (ruled rulings) i Unasked
 ruled-at rulings i h =

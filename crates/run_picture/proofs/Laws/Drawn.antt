@@ -1,21 +1,20 @@
 -- What is drawn from the verdicts in their places is the picture of the bundle; and what is answered, where it fits and where it does not.
 use Prim.Native.Nat.{ℕ, zero, suc, _+_, _-_, _≤_, _<_}
-use mathlib.Core.Bool.{true, false, cond}
+use mathlib.Core.Bool.{true, false}
 use mathlib.Core.List.{List, [], _∷_, _++_, map}
-use mathlib.Core.Path.{_≡_, refl, sym, ap, ap₂, _∙_}
+use mathlib.Core.Path.{_≡_, refl, sym, ap, _∙_}
 use native.Mathlib.Nat.{zero-add}
 use native.Mathlib.Omega.{arith}
 use borrow.Author.Tests.{ltb-true, ltb-false, lt-ltb, le-ltb}
-use lib.Dec.{eqb, ltb}
-use lib.ListN.{length, getD, drop, replicate}
-use lib.Seq.{sets, sets-eq}
+use lib.Dec.{ltb}
+use lib.ListN.{length, getD, replicate}
+use lib.Seq.{sets-eq}
 use Rattle.base_rules.specs.Answers.{Answer, reads, refusal, within}
 use Rattle.base_rules.specs.declared.Outcome.{Outcome}
 use Rattle.base_rules.specs.declared.Outcome.the-variants.{Accepted}
 use Rattle.base_rules.specs.declared.Outcome.the-variants as outcomes
 use Rattle.run_counting.proofs.Laws.Walking.{length-records}
 use Rattle.run_verdicts.proofs.Laws.Telling.{length-verdicts}
-use Rattle.base_lent.specs.Copying.{laid}
 use Rattle.bundle_rows.specs.Rows.{mostRows}
 use Rattle.bundle_check.specs.Bundles.{checkOf}
 use Rattle.bundle_check.specs.Records.{Recorded, recordsOf}
@@ -32,9 +31,8 @@ use Rattle.run_picture.specs.declared.page.Page.{Page}
 use Rattle.run_picture.specs.declared.Drawn.the-variants.{Written, Refused}
 use Rattle.run_picture.specs.Timing.{paced, unpaced}
 use Rattle.run_picture.specs.Pages.{usedPositions, pageOf}
-use Rattle.run_picture.specs.Elements.{rowDrawn}
 use Rattle.run_picture.specs.Pictures.{ruled, rowsDrawn, laneDrawn, lanesDrawn, pictureWith, pictureOf}
-use Rattle.run_picture.specs.Shown.{drawnIn, Draws}
+use Rattle.run_picture.specs.Shown.{Draws}
 
 -- ---- verdicts that are the same at each place give the same picture
 module _ (vs ws : List Verdict) (same : (i : ℕ) → getD vs i Unasked ≡ getD ws i Unasked) where

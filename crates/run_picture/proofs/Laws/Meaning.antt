@@ -1,8 +1,8 @@
 -- What a picture has: it stands in the first places, and every row of the bundle is drawn in it.
-use Prim.Native.Nat.{ℕ, zero, suc, _+_, _≤_, _<_, zero-le}
-use mathlib.Core.Bool.{Bool, true, false, cond, _||_, or-true}
-use mathlib.Core.List.{List, [], _∷_, _++_, append-assoc, append-nil}
-use mathlib.Core.Path.{_≡_, refl, sym, ap, ap₂, _∙_}
+use Prim.Native.Nat.{ℕ, zero, suc, _+_, _≤_, _<_}
+use mathlib.Core.Bool.{Bool, true, false, cond, or-true}
+use mathlib.Core.List.{List, [], _∷_, _++_, append-assoc}
+use mathlib.Core.Path.{_≡_, refl, sym, ap, _∙_}
 use native.Mathlib.Nat.{zero-add, add-zero}
 use native.Mathlib.Omega.{arith}
 use borrow.Author.Tests.{ltb-false, eq-eqb, eqb-true, eqb-false}
@@ -13,8 +13,7 @@ use Rattle.base_rules.specs.Answers.{Answer, reads, refusal}
 use Rattle.base_rules.proofs.Laws.Tests.{by-test}
 use Rattle.base_lent.specs.Lent.{stored}
 use Rattle.base_lent.proofs.Laws.Copying.{laid-front, laid-behind}
-use Rattle.bundle_rows.specs.Rows.{blankRow}
-use Rattle.bundle_check.specs.Bundles.{checkOf, contentsOf}
+use Rattle.bundle_check.specs.Bundles.{checkOf}
 use Rattle.bundle_check.specs.Records.{Recorded, recordsOf}
 use Rattle.bundle_check.specs.Walks.{endOf}
 use Rattle.bundle_check.proofs.Laws.BodyLaws.{unchecked-right}
@@ -26,13 +25,13 @@ use Rattle.run_verdicts.specs.declared.Verdict.the-variants.{Unasked}
 use Rattle.run_verdicts.specs.Verdicts.{verdictsOf}
 use Rattle.run_picture.specs.declared.pace.Pace.{Pace}
 use Rattle.run_picture.specs.declared.page.Page.{Page}
-use Rattle.run_picture.specs.declared.Drawn.the-variants.{Written, Refused}
+use Rattle.run_picture.specs.declared.Drawn.the-variants.{Written}
 use Rattle.run_picture.specs.Timing.{paced, unpaced}
-use Rattle.run_picture.specs.Pages.{hasRows, usedFrom, usedPositions, pageOf}
+use Rattle.run_picture.specs.Pages.{hasRows, usedFrom, pageOf}
 use Rattle.text_filling.specs.Texts.{text}
 use Rattle.run_picture.specs.Elements.{pausesOpenText, laneText, rowDrawn}
 use Rattle.run_picture.specs.Pictures.{Inside, headText, pausesDrawn, marksDrawn, rowsDrawn, laneDrawn, lanesDrawn, pictureWith, pictureOf}
-use Rattle.run_picture.specs.Shown.{drawnIn, shownDrawn, pictureStored, Draws}
+use Rattle.run_picture.specs.Shown.{drawnIn, Draws}
 use Rattle.run_picture.proofs.Laws.Shown.{shownDrawn-same}
 
 -- ---- where it stands

@@ -12,7 +12,7 @@ use Rattle.base_rules.specs.Answers.{Answer, reads, refusal}
 use Rattle.base_rules.proofs.Laws.Tests.{neither, passed}
 use Rattle.base_rules.proofs.Laws.AnswerLaws.{reads-same}
 use Rattle.base_rules.proofs.Laws.TestLaws.{none}
-use Rattle.bench_indication.specs.Rounding.{Nearest}
+use Rattle.base_numbers.specs.Rounding.{Nearest}
 use Rattle.bench_indication.proofs.Laws.Errors.{tenths-nearest}
 use Rattle.bench_indication.specs.Errors.{tenths, riseMost, riseErrorOf}
 use Rattle.run_replay.specs.Errors.{volumeMost, volumeOver, intervalMost, wrongInterval, errorByC1, errorOfFigures}

@@ -8,7 +8,7 @@ use borrow.Author.Tests.{le-ltb}
 use lib.ListN.{length, getD}
 use Rattle.base_rules.specs.Answers.{reads}
 use Rattle.base_rules.specs.Lists.{any}
-use Rattle.base_numbers.proofs.Laws.NumberLaws.{Bytes}
+use Rattle.base_rules.proofs.Laws.ByteLaws.{EachByte}
 use Rattle.bundle_rows.specs.declared.Row.{Row}
 use Rattle.bundle_rows.specs.Rows.{blankRow, bodyIn}
 use Rattle.bundle_check.specs.Bundles.{checkOf, contentsOf, countOf}
@@ -30,7 +30,7 @@ unfolding any
 none-any end [] h = refl
 none-any end (r ∷ rows) h = rw (h 0 (omega arith), none-any end rows (λ i l. h (suc i) (omega arith)))
 
-pub kept-as-before : (b : List ℕ) (n : ℕ) → Bytes b → checkOf b ≡ reads n → verdictsKept (columnsBytes (columnsOf (contentsOf b))) b ≡ verdictsIn b
+pub kept-as-before : (b : List ℕ) (n : ℕ) → EachByte b → checkOf b ≡ reads n → verdictsKept (columnsBytes (columnsOf (contentsOf b))) b ≡ verdictsIn b
 unfolding verdictsKept verdictsIn
 kept-as-before b n bytes e =
     let rows : List Row = contentsOf b in

@@ -41,6 +41,8 @@ use Rattle.run_verdicts.specs.Verdicts.{unfitting, decidedBy, heardVerdi
 use Rattle.run_verdicts.specs.Verdicts.{verdictAfter, slotAfter, toldTo, slotOf, verdictsFrom, verdictsOf}
 use Rattle.run_verdicts.specs.Words.{verdictBehind, stretchOf, heardSince, heardBehind, isCounts, readSent, asksRead}
 use Rattle.run_verdicts.proofs.Laws.Telling.{end-append}
+use Rattle.base_rules.proofs.Laws.TestLaws.{and-true-parts}
+use Rattle.run_counting.proofs.Laws.Hearing.{sent-counts-not}
 
 -- ---- the exchange behind a send of a request, and whether a row heard since began at or after its end
 
@@ -169,16 +171,10 @@ stands-sent stretch k b h = rw (h, h) (go (rowOutline k))
     go outlines.Ack = refl
     go (outlines.Data answers) = refl
 
--- a row that is looked at, and one that is not
-both : (a b : Bool) → (a && b) ≡ true → (a ≡ true) × (b ≡ true)
-both true true e = (refl, refl)
-both true false e = let z : _≡_ {A = ℕ} 0 1 = cc in absurd (omega arith)
-both false b e = let z : _≡_ {A = ℕ} 0 1 = cc in absurd (omega arith)
-
 looked-row : (position : ℕ) (k : Recorded) → looked position k ≡ true → (k .position ≡ position) × (isWake (chars (k .body)) ≡ false)
 unfolding looked
 looked-row position k e =
-    let p = both (eqb (k .position) position) (not (isWake (chars (k .body)))) e in
+    let p = and-true-parts (eqb (k .position) position) (not (isWake (chars (k .body)))) e in
     (eqb-true (k .position) position (p .0), not-true (isWake (chars (k .body))) (p .1))
 
 pub told-not : (position : ℕ) (k : Recorded) (b : Slot) → looked position k ≡ false → toldTo position b k ≡ b
@@ -316,21 +312,13 @@ sent-never b (outlines.Asks request) end = go (resentOn b (outlines.Asks request
     go (reads x) = refl
 sent-never b (outlines.Data answers) end = refl
 
-counted-sent : (stretch : List Recorded) (k : Recorded) → isSent k ≡ true → counts stretch k ≡ false
-counted-sent [] k h = refl
-counted-sent (send ∷ since) k h = rw h (go (isSent send))
-  where
-    go : (sent : Bool) → (sent && false && countsAfter (rowOutline send) (sendEnd send) since k) ≡ false
-    go true = refl
-    go false = refl
-
 pub counts-as-judged : (position : ℕ) (before : List Recorded) (k : Recorded) → looked position k ≡ true
     → counts (stretchOf position before) k ≡ (asksRead (stretchOf position before) && isCounts (verdictBehind before k))
 unfolding verdictAfter
 counts-as-judged position before k e =
     let p = looked-row position k e in
     by-test (isSent k)
-    (λ h. counted-sent (stretchOf position before) k h
+    (λ h. sent-counts-not (stretchOf position before) k h
     ∙ rw (p .1, h, sent-never (waited (slotOf (k .position) before) (rowClock (k .time))) (rowOutline k) (rowClock (sendEnd k)))
     (sym (none (asksRead (stretchOf position before)))))
     (λ h. counted-heard (stretchOf position before) k h

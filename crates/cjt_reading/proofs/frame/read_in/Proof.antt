@@ -7,7 +7,7 @@ use mathlib.Core.List.{List}
 use Rattle.base_rules.specs.Lists.{total}
 use Rattle.cjt_rules.specs.CjtOutlines.{cjtShown}
 use Rattle.cjt_rules.specs.CjtLines.{readCjtFrame}
-use Rattle.cjt_reading.proofs.Laws.PartLaws.{rest-is}
+use Rattle.base_rules.proofs.Laws.ListLaws.{rest-is}
 use Rattle.cjt_reading.proofs.Laws.SkipLaws.{own-sum}
 use Rattle.cjt_reading.proofs.frame.read_in.Statement.{statement}
 use Rattle.cjt_reading.proofs.frame.read_in.Tie as tie

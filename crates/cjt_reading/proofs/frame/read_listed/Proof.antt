@@ -12,7 +12,8 @@ use Rattle.cjt_rules.specs.declared.CjtTelegram.the-variants as telegrams
 use Rattle.cjt_rules.specs.declared.CjtReading.the-variants as readings
 use Rattle.cjt_rules.specs.CjtLines.{wrongListed, tellsWith}
 use Rattle.cjt_rules.specs.CjtUnits.{wrongUnits}
-use Rattle.cjt_reading.proofs.Laws.PartLaws.{read-part, rest-is}
+use Rattle.cjt_reading.proofs.Laws.PartLaws.{read-part}
+use Rattle.base_rules.proofs.Laws.ListLaws.{rest-is}
 use Rattle.cjt_reading.proofs.frame.read_listed.Statement.{statement}
 use Rattle.cjt_reading.proofs.frame.read_listed.Tie as tie
 

@@ -3,7 +3,8 @@ use borrow.Author.Needs.{needs}
 use denote.Ref.{now}
 use mathlib.Core.Path.{sym, ap, _∙_}
 use lib.Seq.{length-take-le}
-use Rattle.mbus_reading.proofs.Laws.BodyLaws.{rest-is, head-wrong}
+use Rattle.base_rules.proofs.Laws.ListLaws.{rest-is}
+use Rattle.mbus_reading.proofs.Laws.BodyLaws.{head-wrong}
 use Rattle.mbus_reading.proofs.body.body_of.Statement.{statement}
 use Rattle.mbus_reading.proofs.body.body_of.Tie as tie
 

@@ -10,7 +10,7 @@ use mathlib.Core.List.{List}
 use Rattle.base_rules.specs.Lists.{any}
 use Rattle.base_characters.specs.Characters.{over, chars}
 use Rattle.base_lent.proofs.Laws.Copying.{copied-length}
-use Rattle.mbus_reading.proofs.Laws.BodyLaws.{rest-is}
+use Rattle.base_rules.proofs.Laws.ListLaws.{rest-is}
 use Rattle.mbus_reading.proofs.Laws.FewLaws.{Walked, walked-none, walked-over, walked-odd, walked-next, walked-all}
 use Rattle.mbus_reading.proofs.pairs.take_few.Statement.{statement}
 use Rattle.mbus_reading.proofs.pairs.take_few.Tie as tie

@@ -5,9 +5,9 @@ use native.Mathlib.Nat.{zero-mul, suc-mul, mul-left-comm, mul-le-mul-left, mul-l
 use native.Mathlib.Nat.{lt-div-mul-add}
 use native.Mathlib.Decide.{decLt}
 use native.Mathlib.Omega.{arith}
-use lib.IntN.{ℤ, pos, negsuc, negℤ, natAbs, _+ℤ_, _-ℤ_, _*ℤ_, negℤ-negℤ, negℤ-+ℤ}
-use Rattle.bench_indication.proofs.Laws.Integers.{natAbs-neg, natAbs-difference, neg-times}
-use Rattle.bench_indication.specs.Rounding.{apart, NearestUp, nearest, rounded, off, Nearest}
+use lib.IntN.{ℤ, pos, negsuc, negℤ, natAbs, _+ℤ_, _*ℤ_, negℤ-negℤ, negℤ-+ℤ}
+use Rattle.base_numbers.proofs.Laws.Integers.{natAbs-neg, natAbs-difference, neg-times}
+use Rattle.base_numbers.specs.Rounding.{apart, NearestUp, nearest, rounded, off, Nearest}
 
 -- Laws of the core: it has its property, nothing else has it, and it is at most a.
 multiple-below : (k q d : ℕ) → k < q → k * d + d ≤ q * d

@@ -7,7 +7,7 @@ use native.Mathlib.Omega.{arith}
 use lib.Dec.{ltb}
 use lib.IntN.{ℤ, pos, negsuc, negℤ, natAbs, _+ℤ_, _-ℤ_, _*ℤ_, negℤ-negℤ, negℤ-+ℤ, +ℤ-comm, *ℤ-comm}
 use borrow.Author.Tests.{ltb-true, ltb-false, le-ltb}
-use Rattle.bench_indication.specs.Rounding.{apart}
+use Rattle.base_numbers.specs.Rounding.{apart}
 
 pub natAbs-neg : (k : ℤ) → natAbs (negℤ k) ≡ natAbs k
 natAbs-neg (pos zero) = refl
