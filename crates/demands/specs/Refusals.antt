@@ -69,10 +69,10 @@ use Rattle.run_picture.specs.Shown.{drawnIn}
 use Rattle.run_counting.specs.Counting.{answersOf, countingOf}
 use Rattle.run_calendar.specs.Days.{interval}
 use Rattle.run_replay.specs.Errors.{volumeOver, wrongInterval, errorByC1, errorOfFigures, rowTells, lastOf, errorFrom, replayOf}
-use Rattle.host_words.specs.Refusals as words
-use Rattle.host_words.specs.Refusals.{wordsIn, textOf}
+use Rattle.text_words.specs.Refusals as words
+use Rattle.text_words.specs.Refusals.{wordsIn, textOf}
 use Rattle.text_filling.specs.Texts.{text}
-use Rattle.host_words.specs.Saying.{zeroEnded, fitted}
+use Rattle.text_words.specs.Saying.{zeroEnded, fitted}
 use Rattle.host_meaning.specs.Meanings.{meaningOf, meaningFor}
 use Rattle.base_lent.specs.Recorded.{noRecord, recorded}
 use Rattle.mbus_records.specs.Telegrams.{telegramSize, telegramBytes, telegramIn, telegramFrom}

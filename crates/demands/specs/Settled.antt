@@ -32,7 +32,7 @@ use Rattle.text_filling.specs.Putting.{PutAt}
 use Rattle.run_picture.specs.declared.Drawn.{Drawn}
 use Rattle.run_picture.specs.Shown.{Draws}
 use Rattle.host_picture.specs.Pictured.{DrawsIn}
-use Rattle.host_words.specs.Saying.{Says}
+use Rattle.text_words.specs.Saying.{Says}
 use Rattle.host_incoming.specs.Unmarking.{UnmarksFor}
 use Rattle.exchange_steps.specs.declared.Exchange.{Exchange}
 use Rattle.host_exchange.specs.Calls as exchanges

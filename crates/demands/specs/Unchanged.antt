@@ -35,8 +35,8 @@ use Rattle.bundle_adding.specs.Shown.{Adds}
 use Rattle.run_listing.specs.declared.Listed.{Listed}
 use Rattle.run_listing.specs.Listings.{listingOf}
 use Rattle.run_listing.specs.Shown.{listedIn, Lists}
-use Rattle.host_words.specs.Saying.{fitted, numberOf, Says}
-use Rattle.host_words.specs.Saying as saying
+use Rattle.text_words.specs.Saying.{fitted, numberOf, Says}
+use Rattle.text_words.specs.Saying as saying
 use Rattle.exchange_steps.specs.declared.Exchange.{Exchange}
 use Rattle.host_exchange.specs.Calls as exchanges
 use Rattle.meter_steps.specs.Meters.{Deed}

@@ -1,4 +1,4 @@
-// What a bench host would otherwise look up, for C: the meaning of a unit byte, and the library's version. include/skarrowith.h says how.
+// What a bench host would otherwise look up, for C: the words for a refusal number, the meaning of a unit byte, and the library's version. include/skarrowith.h says how.
 ghost use mathlib.Core.Path.{_≡_};
 ghost use mathlib.Core.List.{[], _∷_};
 ghost use lib.IntN.{subℕ};
@@ -12,6 +12,7 @@ use mbus_telegrams::table::UNKNOWN;
 use mbus_telegrams::table::row_of;
 
 pub mod version;
+pub mod words;
 
 // A number less another, as a byte in two's complement.
 fn less(n: u8, by: u8) -> u8

@@ -4,9 +4,9 @@ use mathlib.Core.Path.{_≡_, sym}
 use native.Mathlib.Omega.{arith}
 use lib.ListN.{length}
 use borrow.Author.Needs.{needs}
-use Rattle.host_words.proofs.Laws.Rows.{Located, size-in, size-small, row-missing, row-said}
-use Rattle.host_words.proofs.say_row.Statement.{statement}
-use Rattle.host_words.proofs.say_row.Tie as tie
+use Rattle.text_words.proofs.Laws.Rows.{Located, size-in, size-small, row-missing, row-said}
+use Rattle.text_words.proofs.say_row.Statement.{statement}
+use Rattle.text_words.proofs.say_row.Tie as tie
 
 -- the row that the two searches found
 located : (c : tie.After-row-size)

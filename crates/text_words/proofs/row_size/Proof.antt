@@ -3,9 +3,9 @@ use Prim.Native.Nat.{_-_}
 use native.Mathlib.Omega.{arith}
 use lib.ListN.{length}
 use borrow.Author.Needs.{needs}
-use Rattle.host_words.proofs.Laws.Rows.{Passed, passed-none, passed-end, passed-on, passed-all}
-use Rattle.host_words.proofs.row_size.Statement.{statement}
-use Rattle.host_words.proofs.row_size.Tie as tie
+use Rattle.text_words.proofs.Laws.Rows.{Passed, passed-none, passed-end, passed-on, passed-all}
+use Rattle.text_words.proofs.row_size.Statement.{statement}
+use Rattle.text_words.proofs.row_size.Tie as tie
 
 abbrev Inv-loop : tie.InvT-loop
 Inv-loop rest i₀ i = Passed rest i

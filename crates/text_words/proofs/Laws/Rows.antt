@@ -10,8 +10,8 @@ use lib.Dec.{eqb}
 use lib.ListN.{length, take, drop, getD, length-drop, drop-of-length-le}
 use lib.Seq.{drop-cons, take-suc, take-all, length-take-le}
 use Rattle.base_rules.specs.Answers.{reads}
-use Rattle.host_words.specs.Saying.{Says}
-use Rattle.host_words.specs.Rows.{rowsFrom, firstRow, rowOfWords}
+use Rattle.text_words.specs.Saying.{Says}
+use Rattle.text_words.specs.Rows.{rowsFrom, firstRow, rowOfWords}
 
 -- Laws: nothing is left behind the end; one byte on, over a line feed or within a row.
 rows-none : (n : ℕ) → rowsFrom n [] ≡ []

@@ -1,9 +1,9 @@
 -- `host_words::say_of_lines` meets its contract. Assumes nothing.
 use borrow.Author.Needs.{needs}
-use Rattle.host_words.proofs.Laws.Blocks.{block, row-of-lines}
-use Rattle.host_words.specs.Refusals.{textOf, wordsIn}
-use Rattle.host_words.proofs.say_of_lines.Statement.{statement}
-use Rattle.host_words.proofs.say_of_lines.Tie as tie
+use Rattle.text_words.proofs.Laws.Blocks.{block, row-of-lines}
+use Rattle.text_words.specs.Refusals.{textOf, wordsIn}
+use Rattle.text_words.proofs.say_of_lines.Statement.{statement}
+use Rattle.text_words.proofs.say_of_lines.Tie as tie
 
 returns : tie.Need-returns
 unfolding block textOf wordsIn

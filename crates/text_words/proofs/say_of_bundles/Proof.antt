@@ -1,9 +1,9 @@
 -- `host_words::say_of_bundles` meets its contract. Assumes nothing.
 use borrow.Author.Needs.{needs}
-use Rattle.host_words.proofs.Laws.Blocks.{block, row-of-bundles}
-use Rattle.host_words.specs.Refusals.{textOf, wordsIn}
-use Rattle.host_words.proofs.say_of_bundles.Statement.{statement}
-use Rattle.host_words.proofs.say_of_bundles.Tie as tie
+use Rattle.text_words.proofs.Laws.Blocks.{block, row-of-bundles}
+use Rattle.text_words.specs.Refusals.{textOf, wordsIn}
+use Rattle.text_words.proofs.say_of_bundles.Statement.{statement}
+use Rattle.text_words.proofs.say_of_bundles.Tie as tie
 
 returns : tie.Need-returns
 unfolding block textOf wordsIn

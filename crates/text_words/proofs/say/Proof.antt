@@ -4,9 +4,9 @@ use native.Mathlib.Omega.{arith}
 use lib.ListN.{length}
 use borrow.Author.Needs.{needs}
 use borrow.Author.Tests.{ltb-false}
-use Rattle.host_words.proofs.Laws.Saying.{Copied, says-not, copied-none, copied-next, copied-all}
-use Rattle.host_words.proofs.say.Statement.{statement}
-use Rattle.host_words.proofs.say.Tie as tie
+use Rattle.text_words.proofs.Laws.Saying.{Copied, says-not, copied-none, copied-next, copied-all}
+use Rattle.text_words.proofs.say.Statement.{statement}
+use Rattle.text_words.proofs.say.Tie as tie
 
 abbrev Inv-loop : tie.InvT-loop
 Inv-loop out₀ words short i₀ out i = Copied words out₀ i out

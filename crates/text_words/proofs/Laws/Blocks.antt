@@ -11,9 +11,9 @@ use lib.ListN.{length}
 use Rattle.base_rules.specs.Lists.{any}
 use Rattle.base_rules.specs.Answers.{Answer, reads, refusal}
 use Rattle.base_rules.proofs.Laws.Tests.{everyBelow, below, by-test, neither}
-use Rattle.host_words.specs.Refusals.{Row, refusalTexts, textOf, wordsIn}
+use Rattle.text_words.specs.Refusals.{Row, refusalTexts, textOf, wordsIn}
 use Rattle.text_filling.specs.Texts.{text}
-use Rattle.host_words.specs.Rows.{rowOfWords, rowsFrom, firstRow}
+use Rattle.text_words.specs.Rows.{rowOfWords, rowsFrom, firstRow}
 use Rattle.base_lent.specs.Same.{same}
 use Rattle.base_lent.proofs.Laws.Same.{same-equal}
 

@@ -1,11 +1,11 @@
-// The words for a refusal number, those of documents 01 and 02 and the library's own, for the bench host: include/skarrowith.h says how.
+// The words for a refusal number, those of documents 01 and 02 and the library's own.
 ghost use mathlib.Core.Path.{_≡_};
 ghost use Prim.Native.Nat.{_<_, _≤_};
 ghost use lib.ListN.{length, take, drop};
 ghost use Rattle.base_rules.specs.Answers.{reads};
-ghost use Rattle.host_words.specs.Refusals.{textOf, numberAsked};
-ghost use Rattle.host_words.specs.Saying.{Says};
-ghost use Rattle.host_words.specs.Rows.{rowsFrom, firstRow, rowOfWords};
+ghost use Rattle.text_words.specs.Refusals.{textOf};
+ghost use Rattle.text_words.specs.Saying.{Says};
+ghost use Rattle.text_words.specs.Rows.{rowsFrom, firstRow, rowOfWords};
 
 // Where row n of the words begins. Each row ends with a line feed; the first is row 0.
 fn row_start(words: &[u8], n: u32) -> usize
@@ -170,8 +170,8 @@ fn say_of_steps(out: &mut [u8], number: u32) -> u32
     )
 }
 
-// The words for a number.
-fn say_number(out: &mut [u8], number: u32) -> u32
+// The words for a number, or 256 plus 100 where it has none.
+pub fn say_number(out: &mut [u8], number: u32) -> u32
     ensures { λ r. ⌜ Says (textOf number) (now (out .entry)) r (now (out .exit)) ⌝ }
 {
     if number < 30 {
@@ -184,17 +184,4 @@ fn say_number(out: &mut [u8], number: u32) -> u32
         return say_of_steps(out, number);
     }
     256 + 100
-}
-
-// The words for a refusal number, or for 256 plus one, and a zero byte; the answer is how many bytes the words have, or 256 plus the
-// refusal number.
-#[no_mangle]
-pub extern "C" fn skarrowith_refusal_text(number: u32, out: &mut [u8]) -> u32
-    ensures { λ r. ⌜ Says (textOf (numberAsked number)) (now (out .entry)) r (now (out .exit)) ⌝ }
-{
-    let plain = number < 256;
-    if plain {
-        return say_number(out, number);
-    }
-    say_number(out, number - 256)
 }

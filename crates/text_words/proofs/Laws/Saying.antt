@@ -10,7 +10,7 @@ use lib.Dec.{ltb}
 use lib.ListN.{length, take, drop, set, getD, length-set, length-append, List·getD-append}
 use lib.Seq.{take-all, getD-append-seam}
 use Rattle.base_rules.specs.Answers.{reads}
-use Rattle.host_words.specs.Saying.{zeroEnded, Says}
+use Rattle.text_words.specs.Saying.{zeroEnded, Says}
 
 -- the zero byte takes one place more
 size-ended : (words : List ℕ) → length (zeroEnded words) ≡ length words + 1

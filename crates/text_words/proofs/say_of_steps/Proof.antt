@@ -1,9 +1,9 @@
 -- `host_words::say_of_steps` meets its contract. Assumes nothing.
 use borrow.Author.Needs.{needs}
-use Rattle.host_words.proofs.Laws.Blocks.{block, row-of-steps}
-use Rattle.host_words.specs.Refusals.{textOf, wordsIn}
-use Rattle.host_words.proofs.say_of_steps.Statement.{statement}
-use Rattle.host_words.proofs.say_of_steps.Tie as tie
+use Rattle.text_words.proofs.Laws.Blocks.{block, row-of-steps}
+use Rattle.text_words.specs.Refusals.{textOf, wordsIn}
+use Rattle.text_words.proofs.say_of_steps.Statement.{statement}
+use Rattle.text_words.proofs.say_of_steps.Tie as tie
 
 returns : tie.Need-returns
 unfolding block textOf wordsIn

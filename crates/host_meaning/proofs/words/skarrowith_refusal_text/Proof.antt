@@ -1,7 +1,7 @@
--- `host_words::skarrowith_refusal_text` meets its contract. Assumes nothing.
+-- `host_meaning::words::skarrowith_refusal_text` meets its contract. Assumes nothing.
 use borrow.Author.Needs.{needs}
-use Rattle.host_words.proofs.skarrowith_refusal_text.Statement.{statement}
-use Rattle.host_words.proofs.skarrowith_refusal_text.Tie as tie
+use Rattle.host_meaning.proofs.words.skarrowith_refusal_text.Statement.{statement}
+use Rattle.host_meaning.proofs.words.skarrowith_refusal_text.Tie as tie
 
 returns : tie.Need-returns
 returns c = rw (c .before .before .before .before .if1 .taken) (c .before .before .say-number .ensures)

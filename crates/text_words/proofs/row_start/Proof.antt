@@ -4,9 +4,9 @@ use mathlib.Core.Logic.{⊎-elim}
 use native.Mathlib.Omega.{arith}
 use lib.ListN.{length}
 use borrow.Author.Needs.{needs}
-use Rattle.host_words.proofs.Laws.Rows.{Skipped, skipped-none, skipped-here, skipped-feed, skipped-on, skipped-all}
-use Rattle.host_words.proofs.row_start.Statement.{statement}
-use Rattle.host_words.proofs.row_start.Tie as tie
+use Rattle.text_words.proofs.Laws.Rows.{Skipped, skipped-none, skipped-here, skipped-feed, skipped-on, skipped-all}
+use Rattle.text_words.proofs.row_start.Statement.{statement}
+use Rattle.text_words.proofs.row_start.Tie as tie
 
 abbrev Inv-loop : tie.InvT-loop
 Inv-loop words n left₀ i₀ left i = Skipped words n left i

@@ -3,10 +3,10 @@ use mathlib.Core.Path.{_≡_}
 use native.Mathlib.Omega.{arith}
 use borrow.Author.Needs.{needs}
 use Rattle.base_rules.specs.Answers.{refusal}
-use Rattle.host_words.proofs.Laws.Blocks.{no-words}
-use Rattle.host_words.specs.Refusals.{textOf}
-use Rattle.host_words.proofs.say_number.Statement.{statement}
-use Rattle.host_words.proofs.say_number.Tie as tie
+use Rattle.text_words.proofs.Laws.Blocks.{no-words}
+use Rattle.text_words.specs.Refusals.{textOf}
+use Rattle.text_words.proofs.say_number.Statement.{statement}
+use Rattle.text_words.proofs.say_number.Tie as tie
 
 returns-4 : tie.Need-returns-4
 returns-4 c =
