@@ -1,6 +1,6 @@
 -- 01, "Characters and the line clock": time is counted in bit times of 1/2400 s, and these limits belong to the line clock.
 -- A difference of two times is 0 where the later one comes first, so a time before another is neither late nor due.
-use Prim.Native.Nat.{ℕ, _-_}
+use Prim.Native.Nat.{ℕ, _*_, _-_}
 use mathlib.Core.Bool.{Bool}
 use lib.Dec.{ltb, leb}
 
@@ -19,6 +19,10 @@ replyTime = 450
 -- 30 min without an instruction
 abbrev pub returnTime : ℕ
 returnTime = 4320000
+
+-- 02, 2026-04: 11 bit times per character
+abbrev pub lineTimes : ℕ → ℕ
+lineTimes characters = 11 * characters
 
 -- 01, "The exchange": t is more than 450 after the send
 abbrev pub late : ℕ → ℕ → Bool

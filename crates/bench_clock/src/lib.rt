@@ -32,6 +32,8 @@ impl Clock {
     pub const REPLY: u64 = 450;
     // A meter leaves verification 30 min after the last instruction.
     pub const RETURN: u64 = 4_320_000;
+    // A character takes 11 bit times (02, 2026-04).
+    pub const CHARACTER: u64 = 11;
 
     // How long after this time t is. Before it is 0, so that no two times overflow.
     fn since(self, t: Clock) -> u64

@@ -1,5 +1,5 @@
 -- 02, 2026-04: which answers of a position count.
-use Prim.Native.Nat.{ℕ, suc, _+_, _*_}
+use Prim.Native.Nat.{ℕ, suc, _+_}
 use mathlib.Core.Bool.{Bool, true, false, cond, not, _&&_}
 use mathlib.Core.List.{List, [], _∷_, _++_}
 use lib.Dec.{leb, eqb}
@@ -12,7 +12,7 @@ use Rattle.base_rules.specs.Answers.{Answer, reads, refuse, follow}
 use Rattle.mbus_rules.specs.declared.Request.the-variants.{Read, Enter, Leave}
 use Rattle.mbus_rules.specs.declared.Outline.{Outline}
 use Rattle.mbus_rules.specs.declared.Outline.the-variants.{Refused, Ack, Asks, Data}
-use Rattle.bench_clock.specs.Times.{late}
+use Rattle.bench_clock.specs.Times.{late, lineTimes}
 use Rattle.bench_clock.specs.Wakes.{isWake}
 use Rattle.exchange_replies.specs.Fits.{fits}
 use Rattle.bundle_rows.specs.Fields.{wrongPosition}
@@ -35,7 +35,7 @@ looked position k = eqb (k .position) position && not (isWake (chars (k .body)))
 
 -- Each send ends at its row's time plus 11 bit times per character.
 abbrev pub sendEnd : Recorded → ℕ
-sendEnd k = k .time + 11 * length (chars (k .body))
+sendEnd k = k .time + lineTimes (length (chars (k .body)))
 
 -- It begins at or after that end.
 abbrev pub beginsFrom : ℕ → Recorded → Bool

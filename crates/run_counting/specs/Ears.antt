@@ -1,5 +1,5 @@
 -- What a walk along the rows of a position holds on to: which answer it is open for.
-use Prim.Native.Nat.{ℕ, _+_, _*_}
+use Prim.Native.Nat.{ℕ, _+_}
 use mathlib.Core.List.{List}
 use lib.ListN.{length}
 use mathlib.Core.Bool.{Bool, false, cond, not, _&&_}
@@ -10,7 +10,7 @@ use Rattle.mbus_rules.specs.declared.Outline.the-variants.{Refused, Ack, Asks, 
 use Rattle.base_characters.specs.Characters.{chars}
 use Rattle.mbus_rules.specs.Lines.{readLine}
 use Rattle.mbus_rules.specs.Outlines.{outlined}
-use Rattle.bench_clock.specs.Times.{late}
+use Rattle.bench_clock.specs.Times.{late, lineTimes}
 use Rattle.exchange_replies.specs.Fits.{fits}
 use Rattle.bundle_rows.specs.declared.Row.{Row}
 use Rattle.bundle_rows.specs.Rows.{uncheckedRow, bodyIn}
@@ -31,7 +31,7 @@ earOpened (Data address) end = Deaf
 
 -- the same, from the start of the send's first character and its bytes
 abbrev pub openedAfter : ℕ → List ℕ → Ear
-openedAfter time body = earOpened (outlined (readLine (chars body))) (time + 11 * length (chars body))
+openedAfter time body = earOpened (outlined (readLine (chars body))) (time + lineTimes (length (chars body)))
 
 -- a row that does not count
 abbrev pub uncounted : Ear → Turn

@@ -7,7 +7,6 @@ ghost use Rattle.mbus_rules.specs.Lines.{readLine};
 ghost use Rattle.mbus_rules.specs.Outlines.{outlined};
 ghost use Rattle.bundle_rows.specs.Rows.{uncheckedRow};
 ghost use Rattle.run_counting.specs.Ears.{earOpened, openedAfter, fitsInTime, heardBy, rowWith, rowIn, passedBy};
-use crate::CHARACTER;
 use bench_clock::Clock;
 use bench_clock::is_wake;
 use bundle_rows::Row;
@@ -50,7 +49,7 @@ fn opened_after(time: u32, body: &[u8]) -> Ear
     requires { ⌜ length (now body) ≤ 65535 ⌝ }
     ensures { λ r. ⌜ r ≡ openedAfter time (now (body .entry)) ⌝ }
 {
-    let end = time as u64 + CHARACTER * (body.len() / 2) as u64;
+    let end = time as u64 + Clock::CHARACTER * (body.len() / 2) as u64;
     opened(outline_of(body), end)
 }
 

@@ -16,9 +16,6 @@ use ear::turn_at;
 
 mod ear;
 
-// A character takes 11 bit times.
-pub const CHARACTER: u64 = 11;
-
 // The numbers of the rows that count, in the first places, and how many there are; or refused by 30 to 37.
 pub struct Counted {
     pub outcome: Outcome,

@@ -6,7 +6,7 @@ use mathlib.Core.Path.{_≡_}
 use lib.Dec.{ltb}
 use lib.ListN.{length, getD, take, drop}
 use Rattle.base_characters.specs.Characters.{chars}
-use Rattle.bench_clock.specs.Times.{replyTime}
+use Rattle.bench_clock.specs.Times.{replyTime, lineTimes}
 use Rattle.bundle_rows.specs.Rows.{mostRows}
 use Rattle.bundle_check.specs.Records.{Recorded}
 use Rattle.bundle_check.specs.Walks.{endOf}
@@ -15,7 +15,7 @@ use Rattle.run_picture.specs.declared.pace.Stand.{Stand}
 
 -- The bit times of a row's line, 11 for each character.
 abbrev pub lineTime : Recorded → ℕ
-lineTime k = 11 * length (chars (k .body))
+lineTime k = lineTimes (length (chars (k .body)))
 
 -- What is left out of a pause: whole tenths of a second (240 bit times), so that 120 to 359 bit times of it stay.
 abbrev pub leftOut : ℕ → ℕ

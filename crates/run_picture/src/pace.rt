@@ -12,7 +12,6 @@ ghost use Rattle.run_picture.specs.Timing.{lineTime, pacedBy, paced, unp
 use bench_clock::Clock;
 use bundle_rows::MOST_ROWS;
 use bundle_rows::unchecked_row;
-use run_counting::CHARACTER;
 
 // What is left out so far; until when something was sent, heard or waited for; and where the last row is drawn. All in bit times.
 pub(crate) struct Pace {
@@ -52,7 +51,7 @@ pub(crate) fn line_time(bundle: &[u8], i: usize) -> u64
     ensures { λ r. ⌜ (r ≡ lineTime (rowIn (now (bundle .entry)) i)) × (r ≤ 360437) ⌝ }
 {
     let row = unchecked_row(bundle, i);
-    CHARACTER * (row.length as u64 / 2)
+    Clock::CHARACTER * (row.length as u64 / 2)
 }
 
 // After a row that begins at a time and takes so many bit times.

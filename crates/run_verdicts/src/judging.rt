@@ -18,7 +18,6 @@ use exchange_steps::Stepped;
 use mbus_reading::pairs::outline_of;
 use mbus_rules::Outline;
 use mbus_rules::Request;
-use run_counting::CHARACTER;
 
 // The verdict of a row, and the exchange of its position behind it.
 pub(crate) struct Judged {
@@ -170,7 +169,7 @@ pub(crate) fn judge(slot: Slot, row: Row, body: &[u8]) -> Judged
     let outline = outline_of(body);
     let direction_sent = row.direction == 0;
     if direction_sent {
-        let end = Clock(row.time as u64 + CHARACTER * (body.len() / 2) as u64);
+        let end = Clock(row.time as u64 + Clock::CHARACTER * (body.len() / 2) as u64);
         return sent(waited(slot, t), outline, end);
     }
     Judged {
