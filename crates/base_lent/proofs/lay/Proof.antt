@@ -20,8 +20,10 @@ returns : tie.Need-returns Inv-loop μ-loop
 returns c = rw (← (c .before .is-past .ensures), c .if1 .taken)
 
 loop-holds : tie.Need-loop-holds Inv-loop μ-loop
-loop-holds c = copied-none (ltb-false (length (now (c .before .before .before .before .args .to)))
-    (c .before .before .before .before .args .at + length (now (c .before .before .before .before .args .from)))
+loop-holds c =
+    let start = c .before .before .before .before in
+    copied-none (ltb-false (length (now (start .args .to)))
+    (start .args .at + length (now (start .args .from)))
     (sym (c .before .is-past .ensures) ∙ c .if1 .left))
 
 add-to : tie.Need-add-to Inv-loop μ-loop

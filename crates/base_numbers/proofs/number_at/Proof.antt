@@ -14,7 +14,9 @@ returns c =
     (c .if1 .taken)
 
 returns-2 : tie.Need-returns-2
-returns-2 c = numbered-cut (min (c .before .before .before .before .before .args .width) 8) refl (omega arith) (c .number-of .ensures)
+returns-2 c =
+    let start = c .before .before .before .before .before in
+    numbered-cut (min (start .args .width) 8) refl (omega arith) (c .number-of .ensures)
 
 returns-3 : tie.Need-returns-3
 returns-3 c = rw (← (c .before .before .before .up-to-eight .ensures)) (c .number-of2 .ensures)

@@ -16,10 +16,11 @@ slice-aggregate-lay c =
 
 returns : tie.Need-returns
 returns c =
+    let at-up-to-eight = c .before .before .before .before .before in
     let b = c .before .before .before .before .before .before in
     let a = b .before .before .args in
     c .before .before .lay .ensures ∙ ap (copied (now (a .out)) (a .at))
-    (first-bytes (a .width) (a .n) (c .before .before .before .before .before .up-to-eight .ensures) (b .bytes-of .ensures))
+    (first-bytes (a .width) (a .n) (at-up-to-eight .up-to-eight .ensures) (b .bytes-of .ensures))
 
 pub put-number-spec : {M : Type 1} → statement M
 put-number-spec =

@@ -13,20 +13,27 @@ returns c =
 
 put-words-requires : tie.Need-put-words-requires
 put-words-requires c κs =
+    let at-if1 = c .before .before .before .before .before in
+    let at-is-short = at-if1 .before in
     let a = c .before .before .before .before .before .before .before .before .before .before .before .args in
     record-room (now (a .out)) (now (a .head)) (now (a .words)) (now (a .tail))
-    (sym (c .before .before .before .before .before .before .is-short .ensures) ∙ c .before .before .before .before .before .if1 .left)
+    (sym (at-is-short .is-short .ensures) ∙ at-if1 .if1 .left)
     (c .before .before .before .lay .ensures)
 
 returns-2 : tie.Need-returns-2
 returns-2 c =
-    let a = c .before .before .before .before .before .before .before .before .before .before .before .before .before .before .before .before .before
+    let at-put-words = c .before .before .before .before .before .before in
+    let at-lay = at-put-words .before .before .before .before in
+    let at-if1 = at-lay .before .before in
+    let at-is-short = at-if1 .before in
+    let earlier = at-is-short .before .before .before .before in
+    let a = earlier
     .before .args in
     record-laid (now (a .out)) (now (a .head)) (now (a .words)) (now (a .tail))
-    (sym (c .before .before .before .before .before .before .before .before .before .before .before .before .before .is-short .ensures)
-    ∙ c .before .before .before .before .before .before .before .before .before .before .before .before .if1 .left)
-    (c .before .before .before .before .before .before .before .before .before .before .lay .ensures)
-    (c .before .before .before .before .before .before .put-words .ensures) (c .before .before .lay2 .ensures)
+    (sym (at-is-short .is-short .ensures)
+    ∙ at-if1 .if1 .left)
+    (at-lay .lay .ensures)
+    (at-put-words .put-words .ensures) (c .before .before .lay2 .ensures)
 
 pub put-record-spec : {M : Type 1} → statement M
 put-record-spec =

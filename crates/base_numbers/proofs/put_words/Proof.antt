@@ -22,28 +22,33 @@ loop-holds c = pieced-none (length-bytes 8) (c .before .before .pre)
 
 mul-put-number : tie.Need-mul-put-number Inv-loop μ-loop
 mul-put-number c =
-    let r : c .before .before .before .before .before .args .at + 8 * length (now (c .before .before .before .before .before .args .words)) ≤ length
-    (now (c .before .before .before .before .before .args .out)) = c .before .before .before .before .before .pre in
+    let start = c .before .before .before .before .before in
+    let r : start .args .at + 8 * length (now (start .args .words)) ≤ length
+    (now (start .args .out)) = start .pre in
     let n = pieced-length (c .before .before .loop .inv) in
     omega arith
 
 add-put-number : tie.Need-add-put-number Inv-loop μ-loop
 add-put-number c =
-    let r : c .before .before .before .before .before .args .at + 8 * length (now (c .before .before .before .before .before .args .words)) ≤ length
-    (now (c .before .before .before .before .before .args .out)) = c .before .before .before .before .before .pre in
+    let start = c .before .before .before .before .before in
+    let r : start .args .at + 8 * length (now (start .args .words)) ≤ length
+    (now (start .args .out)) = start .pre in
     let n = pieced-length (c .before .before .loop .inv) in
     omega arith
 
 mul-put-number-2 : tie.Need-mul-put-number-2 Inv-loop μ-loop
 mul-put-number-2 c =
-    let r : c .before .before .before .before .before .args .at + 8 * length (now (c .before .before .before .before .before .args .words)) ≤ length
-    (now (c .before .before .before .before .before .args .out)) = c .before .before .before .before .before .pre in
+    let start = c .before .before .before .before .before in
+    let r : start .args .at + 8 * length (now (start .args .words)) ≤ length
+    (now (start .args .out)) = start .pre in
     let n = pieced-length (c .before .before .loop .inv) in
     omega arith
 
 loop-again : tie.Need-loop-again Inv-loop μ-loop
 loop-again c =
-    pieced-next (c .before .before .before .before .before .before .loop .inv) (c .before .before .before .before .before .loop-test .taken) 0 refl
+    let at-loop-test = c .before .before .before .before .before in
+    let at-loop = at-loop-test .before in
+    pieced-next (at-loop .loop .inv) (at-loop-test .loop-test .taken) 0 refl
     (c .before .before .put-number .ensures)
 
 same-length : tie.Need-same-length Inv-loop μ-loop

@@ -30,13 +30,16 @@ loop-less : tie.Need-loop-less Inv-loop μ-loop
 loop-less c = omega arith
 
 loop-again : tie.Need-loop-again Inv-loop μ-loop
-loop-again c = characters-next (now (c .before .before .before .before .before .args .body)) (c .before .before .loop .inv) (c .before .loop-test .taken)
+loop-again c =
+    let start = c .before .before .before .before .before in
+    characters-next (now (start .args .body)) (c .before .before .loop .inv) (c .before .loop-test .taken)
     (c .character-at .ensures)
 
 returns-2 : tie.Need-returns-2 Inv-loop μ-loop
 unfolding isWake
 returns-2 c =
-    let b = now (c .before .before .before .before .args .body) in
+    let start = c .before .before .before .before in
+    let b = now (start .args .body) in
     rw (length-characters b, c .before .before .if1 .left, characters-all b (c .before .loop .inv) (c .loop-test .left))
 
 pub is-wake-spec : {M : Type 1} → statement M

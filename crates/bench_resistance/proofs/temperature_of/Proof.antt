@@ -29,13 +29,15 @@ returns-2 c =
 
 rest-of-requires : tie.Need-rest-of-requires
 rest-of-requires c κs =
+    let at-card = c .before .before .before .before in
     let m = c .before .before .before .before .before .args .milliohm in
     let found = c .before .degree-of .ensures in
     let low : c .before .degree-of .result < 200 = omega arith in
-    degree-found (c .before .before .before .before .card .ensures) m (c .before .degree-of .result) low (found .1) (found .2 low)
+    degree-found (at-card .card .ensures) m (c .before .degree-of .result) low (found .1) (found .2 low)
 
 returns-3 : tie.Need-returns-3
 returns-3 c =
+    let earlier = c .before .before .before .before in
     let m = c .before .before .before .before .before .before .args .milliohm in
     let degree = c .before .before .degree-of in
     let rest = c .rest-of in
@@ -43,7 +45,7 @@ returns-3 c =
     let low : degree .result < 200 = omega arith in
     ap shownTemperature
     (sym
-    (temperature-read m (inside (c .before .before .before .before)) read (degree .result) (rest .result) low (rest .ensures .0)
+    (temperature-read m (inside (earlier)) read (degree .result) (rest .result) low (rest .ensures .0)
     (rest .ensures .1) (rest .ensures .2)))
 
 pub temperature-of-spec : {M : Type 1} → statement M

@@ -16,13 +16,15 @@ use Rattle.bundle_check.proofs.check.Tie as tie
 counted : (c : tie.After-known-told) → opened (now (c .before .before .before .before .before .args .bundle))
     (reads (countOf (now (c .before .before .before .before .before .args .bundle)))) ≡ reads (c .before .count .given .0 .0)
 counted c =
-    let b = now (c .before .before .before .before .before .args .bundle) in
+    let start = c .before .before .before .before .before in
+    let b = now (start .args .bundle) in
     shownChecked-same (opened b (reads (countOf b))) (reads (c .before .count .given .0 .0)) (sym (c .before .before .before .opened .ensures)
     ∙ c .before .count .given .1)
 
 check-rows-requires : tie.Need-check-rows-requires
 check-rows-requires c κs =
-    let b = now (c .before .before .before .before .before .args .bundle) in
+    let start = c .before .before .before .before .before in
+    let b = now (start .args .bundle) in
     let o = opened-whole b (c .before .count .given .0 .0) (counted c) in
     (omega (arith, o .count, o .few), omega (arith, o .count, o .there))
 
@@ -38,7 +40,8 @@ returns c =
 returns-2 : tie.Need-returns-2
 unfolding checkOf
 returns-2 c =
-    let b = now (c .before .before .before .before .before .args .bundle) in
+    let start = c .before .before .before .before .before in
+    let b = now (start .args .bundle) in
     let k = c .before .number .given .0 .0 in
     ap shownChecked (sym (opened-refused b (checkRows (countOf b) b) k
     (shownChecked-same (opened b (reads (countOf b))) (refusal k) (sym (c .before .before .before .opened .ensures) ∙ c .before .number .given .1))))

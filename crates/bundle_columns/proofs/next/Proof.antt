@@ -12,7 +12,9 @@ use Rattle.bundle_columns.proofs.next.Tie as tie
 
 -- the count as it was read
 counted : (c : tie.After-known-told) → Taken (now (c .before .before .before .before .before .args .columns)) (c .before .count .given .0 .0)
-counted c = taken (now (c .before .before .before .before .before .args .columns)) (c .before .before .before .count-in .ensures) (c .before .count .given .1)
+counted c =
+    let start = c .before .before .before .before .before in
+    taken (now (start .args .columns)) (c .before .before .before .count-in .ensures) (c .before .count .given .1)
 
 inside : (c : tie.After-known-told) → 8 + c .before .count .given .0 .0 ≤ length (now (c .before .before .before .before .before .args .columns))
 inside c = let t = counted c in omega (arith, t .size, t .few)

@@ -10,7 +10,9 @@ use Rattle.bundle_columns.proofs.row.Tie as tie
 
 -- the count as it was read
 counted : (c : tie.After-known-told) → Taken (now (c .before .before .before .before .before .args .columns)) (c .before .count .given .0 .0)
-counted c = taken (now (c .before .before .before .before .before .args .columns)) (c .before .before .before .count-in .ensures) (c .before .count .given .1)
+counted c =
+    let start = c .before .before .before .before .before in
+    taken (now (start .args .columns)) (c .before .before .before .count-in .ensures) (c .before .count .given .1)
 
 kept-row-requires : tie.Need-kept-row-requires
 kept-row-requires c κs = let t = counted (c .before) in (t .size, omega (arith, t .few))

@@ -6,7 +6,9 @@ use Rattle.bundle_rows.proofs.row_bytes.Tie as tie
 
 returns : tie.Need-returns
 unfolding bytesOf
-returns c = rw (c .before .before .before .before .bytes-of .ensures, c .before .before .bytes-of2 .ensures, c .bytes-of3 .ensures)
+returns c =
+    let at-bytes-of = c .before .before .before .before in
+    rw (at-bytes-of .bytes-of .ensures, c .before .before .bytes-of2 .ensures, c .bytes-of3 .ensures)
 
 pub row-bytes-spec : {M : Type 1} → statement M
 row-bytes-spec =

@@ -6,7 +6,9 @@ use Rattle.bundle_rows.proofs.unchecked_characters.Tie as tie
 
 returns : tie.Need-returns
 unfolding uncheckedCharacters
-returns c = rw (← (c .before .before .before .before .unchecked-body .ensures)) (c .before .before .put-characters .ensures)
+returns c =
+    let at-unchecked-body = c .before .before .before .before in
+    rw (← (at-unchecked-body .unchecked-body .ensures)) (c .before .before .put-characters .ensures)
 
 pub unchecked-characters-spec : {M : Type 1} → statement M
 unchecked-characters-spec =

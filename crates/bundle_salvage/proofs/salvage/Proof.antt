@@ -11,9 +11,11 @@ use Rattle.bundle_salvage.proofs.salvage.Tie as tie
 
 salvage-rows-requires : tie.Need-salvage-rows-requires
 salvage-rows-requires c κs =
-    let b = now (c .before .before .before .before .before .before .before .args .damaged) in
+    let at-opened = c .before .before .before .before in
+    let start = at-opened .before .before .before in
+    let b = now (start .args .damaged) in
     shownChecked-same (opened b (reads (countOf b))) (reads (c .before .before .count .given .0 .0))
-    (sym (c .before .before .before .before .opened .ensures) ∙ c .before .before .count .given .1)
+    (sym (at-opened .opened .ensures) ∙ c .before .before .count .given .1)
 
 returns-2 : tie.Need-returns-2
 returns-2 c =

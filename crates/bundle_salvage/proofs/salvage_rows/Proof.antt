@@ -80,7 +80,8 @@ returns c =
 
 sub-dropped : tie.Need-sub-dropped
 sub-dropped c =
-    let back = c .before .before .before .before .before in kept-few (now (back .args .damaged)) (back .args .count) (back .pre)
+    let earlier = c .before .before .before .before .before in
+    let back = earlier in kept-few (now (back .args .damaged)) (back .args .count) (back .pre)
     (c .before .before .leading-rows .ensures)
 
 write-requires : tie.Need-write-requires
@@ -96,11 +97,13 @@ write-requires c κs =
 
 returns-2 : tie.Need-returns-2
 returns-2 c =
+    let at-rule-told = c .before .before .before .before in
+    let at-if1 = at-rule-told .before in
     let back6 = c .before .before .before .before .before .before in
     let back = back6 .before .before .before in
     salvage-done (now (back .args .damaged)) (back .args .count) (back .pre) (back6 .leading-rows .ensures) (now (back .args .out))
-    (c .before .before .before .before .before .if1 .left)
-    (c .before .before .before .before .rule-told .ensures) (c .before .before .write .ensures)
+    (at-if1 .if1 .left)
+    (at-rule-told .rule-told .ensures) (c .before .before .write .ensures)
 
 pub salvage-rows-spec : {M : Type 1} → statement M
 salvage-rows-spec =

@@ -46,6 +46,7 @@ sweep-rows-requires c κs =
 
 returns-3 : tie.Need-returns-3
 returns-3 c =
+    let at-if2 = c .before .before .before .before in
     let back6 = c .before .before .before .before .before .before in
     let back8 = back6 .before .before in
     let a = back8 .before .before .before .before .args in
@@ -53,7 +54,7 @@ returns-3 c =
     let s = c .before .before .sweep-rows .ensures in
     sweep-done (now (a .buffer)) (a .filled) (a .position) (inside (back8 .before .before)) n
     (shownChecked-same (checkOf (take (a .filled) (now (a .buffer)))) (reads n) (sym (back8 .check .ensures) ∙ back6 .count .given .1))
-    (c .before .before .before .before .if2 .left) (s .0) (s .1)
+    (at-if2 .if2 .left) (s .0) (s .1)
 
 returns-4 : tie.Need-returns-4
 returns-4 c =

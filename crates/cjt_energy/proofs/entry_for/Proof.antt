@@ -46,9 +46,10 @@ cast-number c =
 returns-4 : tie.Need-returns-4
 unfolding entryFor
 returns-4 c =
+    let at-if1 = c .before .before .before .before .before in
     let a = c .before .before .before .before .before .before .args in
     rw (
-      c .before .before .before .before .before .if1 .left,
+      at-if1 .if1 .left,
       known (c .before .before .before),
       sym (rest-found (a .count) (a .code) (known (c .before .before .before))) ∙ c .before .before .if3 .left,
       toZ-ofZ w64 (pos (c .count-for .result)) (cast-number c),

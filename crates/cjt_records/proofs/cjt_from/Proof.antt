@@ -13,12 +13,18 @@ returns : tie.Need-returns
 returns c = sym (ap cjtShown (cjt-size (now (c .before .before .args .b)) (c .if1 .taken)))
 
 returns-2 : tie.Need-returns-2
-returns-2 c = sym (ap cjtShown (record-same cjtBytes cjtIn (now (c .before .before .before .before .before .before .before .args .b))
-    (c .before .before .before .before .cjt-in .ensures) (c .before .before .before .cjt-bytes .ensures) (c .before .is-same .ensures) (c .if2 .taken)))
+returns-2 c =
+    let at-cjt-in = c .before .before .before .before in
+    let start = at-cjt-in .before .before .before in
+    sym (ap cjtShown (record-same cjtBytes cjtIn (now (start .args .b))
+    (at-cjt-in .cjt-in .ensures) (c .before .before .before .cjt-bytes .ensures) (c .before .is-same .ensures) (c .if2 .taken)))
 
 returns-3 : tie.Need-returns-3
-returns-3 c = sym (ap cjtShown (record-differs cjtBytes cjtIn (now (c .before .before .before .before .before .before .before .args .b))
-    (c .before .before .before .before .cjt-in .ensures) (c .before .before .before .cjt-bytes .ensures) (c .before .is-same .ensures) (c .if2 .left)))
+returns-3 c =
+    let at-cjt-in = c .before .before .before .before in
+    let start = at-cjt-in .before .before .before in
+    sym (ap cjtShown (record-differs cjtBytes cjtIn (now (start .args .b))
+    (at-cjt-in .cjt-in .ensures) (c .before .before .before .cjt-bytes .ensures) (c .before .is-same .ensures) (c .if2 .left)))
 
 pub cjt-from-spec : {M : Type 1} → statement M
 cjt-from-spec =

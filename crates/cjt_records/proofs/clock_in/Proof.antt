@@ -4,7 +4,9 @@ use Rattle.cjt_records.proofs.clock_in.Statement.{statement}
 use Rattle.cjt_records.proofs.clock_in.Tie as tie
 
 returns : tie.Need-returns
-returns c = rw (c .before .before .before .before .before .number-at .ensures .so)
+returns c =
+    let at-number-at = c .before .before .before .before .before in
+    rw (at-number-at .number-at .ensures .so)
 
 pub clock-in-spec : {M : Type 1} → statement M
 clock-in-spec =

@@ -6,9 +6,14 @@ use Rattle.cjt_records.proofs.request_bytes.Statement.{statement}
 use Rattle.cjt_records.proofs.request_bytes.Tie as tie
 
 returns : tie.Need-returns
-returns c = let q = c .before .before .before .before .before .before .before .args .q in request-laid q
-    (c .before .before .before .before .head-bytes .ensures ∙ rw
-    (c .before .before .before .before .before .address-number .ensures, c .before .before .before .before .before .before .broadcast-byte .ensures))
+returns c =
+    let at-head-bytes = c .before .before .before .before in
+    let at-address-number = at-head-bytes .before in
+    let at-broadcast-byte = at-address-number .before in
+    let start = at-broadcast-byte .before in
+    let q = start .args .q in request-laid q
+    (at-head-bytes .head-bytes .ensures ∙ rw
+    (at-address-number .address-number .ensures, at-broadcast-byte .broadcast-byte .ensures))
     (c .before .lay .ensures)
 
 pub request-bytes-spec : {M : Type 1} → statement M

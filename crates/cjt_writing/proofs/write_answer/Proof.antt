@@ -12,10 +12,15 @@ returns c = not-written (Answer (c .before .before .before .args .answer)) (now 
     (c .before .unwritten-answer .ensures) ∙ c .if1 .taken)
 
 returns-2 : tie.Need-returns-2
-returns-2 c = line-written (Answer (c .before .before .before .before .before .before .before .before .before .args .answer)) (now
-    (c .before .before .before .before .before .before .before .before .before .args .out)) (sym
-    (c .before .before .before .before .before .before .before .unwritten-answer .ensures)
-    ∙ c .before .before .before .before .before .before .if1 .left) (c .before .before .before .before .before .answer-bytes .ensures)
+returns-2 c =
+    let at-answer-bytes = c .before .before .before .before .before in
+    let at-if1 = at-answer-bytes .before in
+    let at-unwritten-answer = at-if1 .before in
+    let start = at-unwritten-answer .before .before in
+    line-written (Answer (start .args .answer)) (now
+    (start .args .out)) (sym
+    (at-unwritten-answer .unwritten-answer .ensures)
+    ∙ at-if1 .if1 .left) (at-answer-bytes .answer-bytes .ensures)
     (c .before .before .write-bytes .ensures)
 
 pub write-answer-spec : {M : Type 1} → statement M

@@ -12,10 +12,15 @@ returns c = not-written (Request (c .before .before .before .args .request)) (no
     (c .before .unwritten-request .ensures) ∙ c .if1 .taken)
 
 returns-2 : tie.Need-returns-2
-returns-2 c = line-written (Request (c .before .before .before .before .before .before .before .before .before .args .request)) (now
-    (c .before .before .before .before .before .before .before .before .before .args .out)) (sym
-    (c .before .before .before .before .before .before .before .unwritten-request .ensures)
-    ∙ c .before .before .before .before .before .before .if1 .left) (c .before .before .before .before .before .request-bytes .ensures)
+returns-2 c =
+    let at-request-bytes = c .before .before .before .before .before in
+    let at-if1 = at-request-bytes .before in
+    let at-unwritten-request = at-if1 .before in
+    let start = at-unwritten-request .before .before in
+    line-written (Request (start .args .request)) (now
+    (start .args .out)) (sym
+    (at-unwritten-request .unwritten-request .ensures)
+    ∙ at-if1 .if1 .left) (at-request-bytes .request-bytes .ensures)
     (c .before .before .write-bytes .ensures)
 
 pub write-request-spec : {M : Type 1} → statement M

@@ -11,9 +11,10 @@ use Rattle.exchange_record.proofs.exchange_bytes.Tie as tie
 returns : tie.Need-returns
 unfolding exchangeBytes
 returns c =
+    let at-head-bytes = c .before .before .before .before .before .before in
     let x = c .before .before .before .before .before .before .before .args .x in
     record-made (replicate 24 0) (exchangeHead (x .request) (x .state) (x .sends)) (x .began .0 ∷ x .last .0 ∷ []) [] (search needs)
-    (c .before .before .before .before .before .before .head-bytes .ensures) refl refl (c .before .put-record .ensures)
+    (at-head-bytes .head-bytes .ensures) refl refl (c .before .put-record .ensures)
 
 pub exchange-bytes-spec : {M : Type 1} → statement M
 exchange-bytes-spec =

@@ -11,18 +11,30 @@ returns : tie.Need-returns
 returns c = sym (ap shownStep (other-size (now (c .before .before .args .b)) (c .if1 .taken)))
 
 returns-2 : tie.Need-returns-2
-returns-2 c = sym (ap shownStep (found (now (c .before .before .before .before .before .before .before .before .before .args .b))
-    (c .before .before .before .before .before .before .exchange-in .ensures) (c .before .before .before .before .before .exchange-bytes .ensures)
+returns-2 c =
+    let at-exchange-bytes = c .before .before .before .before .before in
+    let at-exchange-in = at-exchange-bytes .before in
+    let start = at-exchange-in .before .before .before in
+    sym (ap shownStep (found (now (start .args .b))
+    (at-exchange-in .exchange-in .ensures) (at-exchange-bytes .exchange-bytes .ensures)
     (c .before .before .before .is-same .ensures) (c .before .before .is-reached .ensures) (c .before .if2 .taken) (c .if3 .taken)))
 
 returns-3 : tie.Need-returns-3
-returns-3 c = sym (ap shownStep (unreached (now (c .before .before .before .before .before .before .before .before .before .args .b))
-    (c .before .before .before .before .before .before .exchange-in .ensures) (c .before .before .before .before .before .exchange-bytes .ensures)
+returns-3 c =
+    let at-exchange-bytes = c .before .before .before .before .before in
+    let at-exchange-in = at-exchange-bytes .before in
+    let start = at-exchange-in .before .before .before in
+    sym (ap shownStep (unreached (now (start .args .b))
+    (at-exchange-in .exchange-in .ensures) (at-exchange-bytes .exchange-bytes .ensures)
     (c .before .before .before .is-same .ensures) (c .before .before .is-reached .ensures) (c .before .if2 .taken) (c .if3 .left)))
 
 returns-4 : tie.Need-returns-4
-returns-4 c = sym (ap shownStep (unlike (now (c .before .before .before .before .before .before .before .before .args .b))
-    (c .before .before .before .before .before .exchange-in .ensures) (c .before .before .before .before .exchange-bytes .ensures)
+returns-4 c =
+    let at-exchange-bytes = c .before .before .before .before in
+    let at-exchange-in = at-exchange-bytes .before in
+    let start = at-exchange-in .before .before .before in
+    sym (ap shownStep (unlike (now (start .args .b))
+    (at-exchange-in .exchange-in .ensures) (at-exchange-bytes .exchange-bytes .ensures)
     (c .before .before .is-same .ensures) (c .before .is-reached .ensures) (c .if2 .left)))
 
 pub exchange-from-spec : {M : Type 1} → statement M

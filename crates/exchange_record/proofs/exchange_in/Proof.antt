@@ -7,11 +7,12 @@ use Rattle.exchange_record.proofs.exchange_in.Tie as tie
 returns : tie.Need-returns
 unfolding exchangeIn
 returns c =
+    let at-request-of = c .before .before .before .before .before .before in
     rw (
       c .number-at2 .ensures .so,
       c .before .number-at .ensures .so,
       c .before .before .before .state-of .ensures,
-      c .before .before .before .before .before .before .request-of .ensures,
+      at-request-of .request-of .ensures,
     )
 
 pub exchange-in-spec : {M : Type 1} → statement M

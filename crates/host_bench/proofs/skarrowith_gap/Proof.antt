@@ -6,7 +6,9 @@ use Rattle.host_bench.proofs.skarrowith_gap.Statement.{statement}
 use Rattle.host_bench.proofs.skarrowith_gap.Tie as tie
 
 returns : tie.Need-returns
-returns c = gap-refused (gapOf (c .before .before .before .before .args .ended) (c .before .before .before .before .args .begins))
+returns c =
+    let start = c .before .before .before .before in
+    gap-refused (gapOf (start .args .ended) (start .args .begins))
     (c .before .before .before .gap .ensures) (c .before .gap2 .given .1)
 
 returns-2 : tie.Need-returns-2

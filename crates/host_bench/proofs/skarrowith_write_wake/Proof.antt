@@ -7,15 +7,21 @@ use Rattle.host_bench.proofs.skarrowith_write_wake.Statement.{statement
 use Rattle.host_bench.proofs.skarrowith_write_wake.Tie as tie
 
 returns : tie.Need-returns
-returns c = wake-refused (now (c .before .before .before .before .before .before .before .before .args .out))
-    (wakeOf (c .before .before .before .before .before .before .before .before .args .count)
-    (now (c .before .before .before .before .before .before .before .before .args .out))) (c .before .before .before .before .before .write-wake .ensures
-    .0) (c .before .before .before .before .before .write-wake .ensures .1) (c .before .wake .given .1)
+returns c =
+    let at-write-wake = c .before .before .before .before .before in
+    let start = at-write-wake .before .before .before in
+    wake-refused (now (start .args .out))
+    (wakeOf (start .args .count)
+    (now (start .args .out))) (at-write-wake .write-wake .ensures
+    .0) (at-write-wake .write-wake .ensures .1) (c .before .wake .given .1)
 
 returns-2 : tie.Need-returns-2
-returns-2 c = wake-written (now (c .before .before .before .before .before .before .before .args .out))
-    (wakeOf (c .before .before .before .before .before .before .before .args .count) (now (c .before .before .before .before .before .before .before .args
-    .out))) (c .before .before .before .before .write-wake .ensures .0) (c .before .before .before .before .write-wake .ensures .1) (c .enum-told .given .1)
+returns-2 c =
+    let at-write-wake = c .before .before .before .before in
+    let start = at-write-wake .before .before .before in
+    wake-written (now (start .args .out))
+    (wakeOf (start .args .count) (now (start .args
+    .out))) (at-write-wake .write-wake .ensures .0) (at-write-wake .write-wake .ensures .1) (c .enum-told .given .1)
 
 pub skarrowith-write-wake-spec : {M : Type 1} → statement M
 skarrowith-write-wake-spec =

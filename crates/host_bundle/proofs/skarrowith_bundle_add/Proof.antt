@@ -5,10 +5,14 @@ use Rattle.host_bundle.proofs.skarrowith_bundle_add.Statement.{statemen
 use Rattle.host_bundle.proofs.skarrowith_bundle_add.Tie as tie
 
 returns : tie.Need-returns
-returns c = adds-value (c .before .before .before .before .before .add .ensures) (c .before .bytes .given .1)
+returns c =
+    let at-add = c .before .before .before .before .before in
+    adds-value (at-add .add .ensures) (c .before .bytes .given .1)
 
 returns-2 : tie.Need-returns-2
-returns-2 c = adds-number (c .before .before .before .before .before .add .ensures) (c .before .number .given .1)
+returns-2 c =
+    let at-add = c .before .before .before .before .before in
+    adds-number (at-add .add .ensures) (c .before .number .given .1)
 
 pub skarrowith-bundle-add-spec : {M : Type 1} → statement M
 skarrowith-bundle-add-spec =

@@ -11,13 +11,15 @@ use Rattle.host_bundle.proofs.skarrowith_bundle_check.Tie as tie
 
 returns : tie.Need-returns
 returns c =
-    let b = now (c .before .before .before .before .before .args .bundle) in
+    let start = c .before .before .before .before .before in
+    let b = now (start .args .bundle) in
     gives-value (shownChecked-same (checkOf b) (reads (c .before .count .given .0 .0)) (sym (c .before .before .before .check .ensures)
     ∙ c .before .count .given .1))
 
 returns-2 : tie.Need-returns-2
 returns-2 c =
-    let b = now (c .before .before .before .before .before .args .bundle) in
+    let start = c .before .before .before .before .before in
+    let b = now (start .args .bundle) in
     gives-number (shownChecked-same (checkOf b) (refusal (c .before .number .given .0 .0)) (sym (c .before .before .before .check .ensures)
     ∙ c .before .number .given .1))
 

@@ -5,10 +5,14 @@ use Rattle.host_bundle.proofs.skarrowith_bundle_list.Statement.{stateme
 use Rattle.host_bundle.proofs.skarrowith_bundle_list.Tie as tie
 
 returns : tie.Need-returns
-returns c = lists-value (c .before .before .before .before .before .list .ensures) (c .before .bytes .given .1)
+returns c =
+    let at-list = c .before .before .before .before .before in
+    lists-value (at-list .list .ensures) (c .before .bytes .given .1)
 
 returns-2 : tie.Need-returns-2
-returns-2 c = lists-number (c .before .before .before .before .before .list .ensures) (c .before .number .given .1)
+returns-2 c =
+    let at-list = c .before .before .before .before .before in
+    lists-number (at-list .list .ensures) (c .before .number .given .1)
 
 pub skarrowith-bundle-list-spec : {M : Type 1} → statement M
 skarrowith-bundle-list-spec =

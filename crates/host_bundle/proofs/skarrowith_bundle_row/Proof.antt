@@ -5,7 +5,9 @@ use Rattle.host_bundle.proofs.skarrowith_bundle_row.Statement.{statemen
 use Rattle.host_bundle.proofs.skarrowith_bundle_row.Tie as tie
 
 returns : tie.Need-returns
-returns c = rw (c .before .before .before .before .row .ensures, found-row) at (c .before .before .put-row .ensures)
+returns c =
+    let at-row = c .before .before .before .before in
+    rw (at-row .row .ensures, found-row) at (c .before .before .put-row .ensures)
 
 pub skarrowith-bundle-row-spec : {M : Type 1} → statement M
 skarrowith-bundle-row-spec = tie.close (tie.spec (λ c κs. search needs) (λ c κs. search needs) (λ c. search needs) returns)

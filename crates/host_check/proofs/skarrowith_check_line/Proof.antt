@@ -10,7 +10,9 @@ returns : tie.Need-returns
 returns c = odd-number (now (c .before .before .args .bytes)) (c .if1 .taken)
 
 returns-2 : tie.Need-returns-2
-returns-2 c = c .number-of .ensures ∙ even-number (now (c .before .before .before .before .args .bytes)) (c .before .before .if1 .left)
+returns-2 c =
+    let start = c .before .before .before .before in
+    c .number-of .ensures ∙ even-number (now (start .args .bytes)) (c .before .before .if1 .left)
     (c .before .outline-of .ensures)
 
 pub skarrowith-check-line-spec : {M : Type 1} → statement M

@@ -9,17 +9,26 @@ returns : tie.Need-returns
 returns c = entry-short (c .before .before .args .count) (c .before .before .args .code) (now (c .before .before .args .place)) (c .if1 .taken)
 
 returns-2 : tie.Need-returns-2
-returns-2 c = entry-refused (c .before .before .before .before .before .before .args .count)
-    (c .before .before .before .before .before .before .args .code) (now (c .before .before .before .before .before .before .args .place))
-    (c .before .before .before .before .if1 .left) (c .before .before .before .entry-for .ensures) (c .before .n .given .1)
+returns-2 c =
+    let at-if1 = c .before .before .before .before in
+    let start = at-if1 .before .before in
+    entry-refused (start .args .count)
+    (start .args .code) (now (start .args .place))
+    (at-if1 .if1 .left) (c .before .before .before .entry-for .ensures) (c .before .n .given .1)
 
 returns-3 : tie.Need-returns-3
-returns-3 c = entry-given (c .before .before .before .before .before .before .before .before .before .before .before .before .args .count)
-    (c .before .before .before .before .before .before .before .before .before .before .before .before .args .code) (now
-    (c .before .before .before .before .before .before .before .before .before .before .before .before .args .place))
-    (c .before .before .before .before .before .before .before .before .before .before .if1 .left)
-    (c .before .before .before .before .before .before .before .before .before .entry-for .ensures)
-    (c .before .before .before .before .before .before .before .entry .given .1) (c .before .before .before .before .before .entry-bytes .ensures)
+returns-3 c =
+    let at-entry-bytes = c .before .before .before .before .before in
+    let at-entry = at-entry-bytes .before .before in
+    let at-entry-for = at-entry .before .before in
+    let at-if1 = at-entry-for .before in
+    let start = at-if1 .before .before in
+    entry-given (start .args .count)
+    (start .args .code) (now
+    (start .args .place))
+    (at-if1 .if1 .left)
+    (at-entry-for .entry-for .ensures)
+    (at-entry .entry .given .1) (at-entry-bytes .entry-bytes .ensures)
     (c .before .before .lay .ensures)
 
 pub skarrowith-cjt-energy-entry-spec : {M : Type 1} → statement M

@@ -6,13 +6,19 @@ use Rattle.host_cjt.proofs.skarrowith_cjt_write_line.Statement.{stateme
 use Rattle.host_cjt.proofs.skarrowith_cjt_write_line.Tie as tie
 
 returns : tie.Need-returns
-returns c = no-record (now (c .before .before .before .before .before .before .args .telegram)) (now
-    (c .before .before .before .before .before .before .args .out)) (c .before .before .before .cjt-from .ensures) (c .before .n .given .1)
+returns c =
+    let start = c .before .before .before .before .before .before in
+    no-record (now (start .args .telegram)) (now
+    (start .args .out)) (c .before .before .before .cjt-from .ensures) (c .before .n .given .1)
 
 returns-2 : tie.Need-returns-2
-returns-2 c = record-line (now (c .before .before .before .before .before .before .before .before .before .before .args .telegram)) (now
-    (c .before .before .before .before .before .before .before .before .before .before .args .out))
-    (c .before .before .before .before .before .before .before .cjt-from .ensures) (c .before .before .before .before .before .read .given .1)
+returns-2 c =
+    let at-read = c .before .before .before .before .before in
+    let at-cjt-from = at-read .before .before in
+    let start = at-cjt-from .before .before .before in
+    record-line (now (start .args .telegram)) (now
+    (start .args .out))
+    (at-cjt-from .cjt-from .ensures) (at-read .read .given .1)
     (c .before .before .write .ensures)
 
 pub skarrowith-cjt-write-line-spec : {M : Type 1} → statement M

@@ -10,8 +10,11 @@ use Rattle.host_exchange.proofs.skarrowith_exchange_send_ended.Tie as t
 
 keep-requires : tie.Need-keep-requires
 keep-requires c κs =
-    room-read (now (c .before .before .before .before .before .before .before .before .before .before .args .kept))
-    (c .before .before .before .before .before .before .before .slot-from .ensures) (c .before .before .before .before .before .stood2 .given .1)
+    let at-stood2 = c .before .before .before .before .before in
+    let at-slot-from = at-stood2 .before .before in
+    let start = at-slot-from .before .before .before in
+    room-read (now (start .args .kept))
+    (at-slot-from .slot-from .ensures) (at-stood2 .stood2 .given .1)
 
 returns : tie.Need-returns
 returns c =
@@ -21,12 +24,17 @@ returns c =
 
 returns-2 : tie.Need-returns-2
 returns-2 c =
+    let at-send-ended = c .before .before .before .before in
+    let at-bare = at-send-ended .before in
+    let at-kind-in = at-bare .before in
+    let at-stood2 = at-kind-in .before .before in
+    let at-slot-from = at-stood2 .before .before in
     let a = c .before .before .before .before .before .before .before .before .before .before .before .before .before .args in
     send-was-read (now (a .kept)) (a .kind) (a .address) (a .method) (a .t)
-    (c .before .before .before .before .before .before .before .before .before .before .slot-from .ensures)
-    (c .before .before .before .before .before .before .before .before .stood2 .given .1)
-    (c .before .before .before .before .before .before .kind-in .ensures) (c .before .before .before .before .before .bare .ensures)
-    (c .before .before .before .before .send-ended .ensures) (c .before .before .keep .ensures)
+    (at-slot-from .slot-from .ensures)
+    (at-stood2 .stood2 .given .1)
+    (at-kind-in .kind-in .ensures) (at-bare .bare .ensures)
+    (at-send-ended .send-ended .ensures) (c .before .before .keep .ensures)
 
 pub skarrowith-exchange-send-ended-spec : {M : Type 1} → statement M
 skarrowith-exchange-send-ended-spec =

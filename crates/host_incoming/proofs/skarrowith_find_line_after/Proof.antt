@@ -13,20 +13,24 @@ returns c =
 
 returns-2 : tie.Need-returns-2
 returns-2 c =
+    let at-search2 = c .before .before .before .before .before .before in
+    let at-find-line-after = at-search2 .before .before in
     let args = c .before .before .before .before .before .before .before .before .before .before .before .before .args in
     let put = c .before .before .before .put-timed .ensures in
     after-short (args .t) (now (args .capture)) (now (args .times)) (now (args .found))
-    (c .before .before .before .before .before .before .before .before .find-line-after .ensures)
-    (c .before .before .before .before .before .before .search2 .given .1)
+    (at-find-line-after .find-line-after .ensures)
+    (at-search2 .search2 .given .1)
     (put .0) (put .1) (c .if1 .taken)
 
 returns-3 : tie.Need-returns-3
 returns-3 c =
+    let at-search2 = c .before .before .before .before .before .before in
+    let at-find-line-after = at-search2 .before .before in
     let args = c .before .before .before .before .before .before .before .before .before .before .before .before .args in
     let put = c .before .before .before .put-timed .ensures in
     after-whole (args .t) (now (args .capture)) (now (args .times)) (now (args .found))
-    (c .before .before .before .before .before .before .before .before .find-line-after .ensures)
-    (c .before .before .before .before .before .before .search2 .given .1)
+    (at-find-line-after .find-line-after .ensures)
+    (at-search2 .search2 .given .1)
     (put .0) (put .1) (c .if1 .left)
 
 pub skarrowith-find-line-after-spec : {M : Type 1} → statement M

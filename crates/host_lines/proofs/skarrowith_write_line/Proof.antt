@@ -6,14 +6,21 @@ use Rattle.host_lines.proofs.skarrowith_write_line.Statement.{statement
 use Rattle.host_lines.proofs.skarrowith_write_line.Tie as tie
 
 returns : tie.Need-returns
-returns c = no-record (now (c .before .before .before .before .before .before .before .args .telegram))
-    (now (c .before .before .before .before .before .before .before .args .out)) (c .before .before .before .before .telegram-from .ensures)
+returns c =
+    let at-telegram-from = c .before .before .before .before in
+    let start = at-telegram-from .before .before .before in
+    no-record (now (start .args .telegram))
+    (now (start .args .out)) (at-telegram-from .telegram-from .ensures)
     (c .before .outcome .given .1)
 
 returns-2 : tie.Need-returns-2
-returns-2 c = record-line (now (c .before .before .before .before .before .before .before .before .before .before .args .telegram))
-    (now (c .before .before .before .before .before .before .before .before .before .before .args .out))
-    (c .before .before .before .before .before .before .before .telegram-from .ensures) (c .before .before .before .before .enum-told .given .1)
+returns-2 c =
+    let at-enum-told = c .before .before .before .before in
+    let at-telegram-from = at-enum-told .before .before .before in
+    let start = at-telegram-from .before .before .before in
+    record-line (now (start .args .telegram))
+    (now (start .args .out))
+    (at-telegram-from .telegram-from .ensures) (at-enum-told .enum-told .given .1)
     (c .before .before .write .ensures)
 
 pub skarrowith-write-line-spec : {M : Type 1} → statement M

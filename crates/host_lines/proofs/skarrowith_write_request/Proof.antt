@@ -6,8 +6,12 @@ use Rattle.host_lines.proofs.skarrowith_write_request.Statement.{statem
 use Rattle.host_lines.proofs.skarrowith_write_request.Tie as tie
 
 returns : tie.Need-returns
-returns c = let args = c .before .before .before .before .before .before .before .before .args in request-line (args .kind) (args .address) (args .method)
-    (now (args .out)) (c .before .before .before .before .before .before .kind-in .ensures) (c .before .before .before .before .before .plain .ensures)
+returns c =
+    let at-plain = c .before .before .before .before .before in
+    let at-kind-in = at-plain .before in
+    let start = at-kind-in .before .before in
+    let args = start .args in request-line (args .kind) (args .address) (args .method)
+    (now (args .out)) (at-kind-in .kind-in .ensures) (at-plain .plain .ensures)
     (c .before .before .write .ensures)
 
 pub skarrowith-write-request-spec : {M : Type 1} → statement M

@@ -9,10 +9,12 @@ use Rattle.host_meter.proofs.hear.Tie as tie
 
 returns : tie.Need-returns
 returns c =
+    let at-say = c .before .before .before .before .before .before in
+    let at-heard = at-say .before .before in
     let a = c .before .before .before .before .before .before .before .before .before .before .before .before .args in
     let t : Clock = record { 0 = a .t } in
-    hears-step (a .m) t (heardAt (a .m) (now (a .line)) t) (c .before .before .before .before .before .before .before .before .heard .ensures)
-    (c .before .before .keep-step .ensures) (c .before .before .before .before .before .before .say .ensures)
+    hears-step (a .m) t (heardAt (a .m) (now (a .line)) t) (at-heard .heard .ensures)
+    (c .before .before .keep-step .ensures) (at-say .say .ensures)
 
 pub hear-spec : {M : Type 1} → statement M
 hear-spec =

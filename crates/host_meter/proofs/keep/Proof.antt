@@ -30,9 +30,11 @@ returns c = rw (c .enum-told .given .1)
 
 returns-2 : tie.Need-returns-2
 returns-2 c =
+    let at-meter-bytes = c .before .before .before .before .before in
+    let at-match = at-meter-bytes .before in
     let a = c .before .before .before .before .before .before .before .before .args in
-    kept-whole (now (a .kept)) (a .m) (a .reply) (c .before .before .before .before .before .before .match .keys2)
-    (c .before .before .before .before .before .meter-bytes .ensures) (search needs) (c .before .before .store .ensures .1)
+    kept-whole (now (a .kept)) (a .m) (a .reply) (at-match .match .keys2)
+    (at-meter-bytes .meter-bytes .ensures) (search needs) (c .before .before .store .ensures .1)
 
 pub keep-spec : {M : Type 1} → statement M
 keep-spec =

@@ -23,9 +23,11 @@ said-nothing out x Says one = absurd (miss (0 ∷ 2 ∷ []) 1 tt one)
 
 returns : tie.Need-returns
 returns c =
+    let at-telegram-bytes = c .before .before .before .before .before in
+    let at-enum-told = at-telegram-bytes .before in
     let a = c .before .before .before .before .before .before .before .before .before .args in
-    said-says (now (a .answer)) (a .telegram) (c .before .before .before .before .before .before .enum-told .given .1)
-    (c .before .before .before .before .before .telegram-bytes .ensures) (search needs) (c .before .before .store .ensures .1)
+    said-says (now (a .answer)) (a .telegram) (at-enum-told .enum-told .given .1)
+    (at-telegram-bytes .telegram-bytes .ensures) (search needs) (c .before .before .store .ensures .1)
 
 returns-2 : tie.Need-returns-2
 returns-2 c = let a = c .before .before .args in said-nothing (now (a .answer)) (a .telegram) (a .reply) (c .match .keys2)

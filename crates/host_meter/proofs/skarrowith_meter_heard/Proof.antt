@@ -21,17 +21,23 @@ returns-2 c =
 
 hear-requires : tie.Need-hear-requires
 hear-requires c κs =
-    let a = c .before .before .before .before .before .before .before .before .before .before .args in (
-      room (now (a .kept)) (c .before .before .before .before .before .meter-from .ensures) (c .before .before .before .enum-told .given .1),
+    let at-meter-from = c .before .before .before .before .before in
+    let start = at-meter-from .before .before .before .before .before in
+    let a = start .args in (
+      room (now (a .kept)) (at-meter-from .meter-from .ensures) (c .before .before .before .enum-told .given .1),
       ltb-false (length (now (a .answer))) 136 (c .before .before .if1 .left),
     )
 
 returns-3 : tie.Need-returns-3
 returns-3 c =
+    let at-hear = c .before .before .before .before in
+    let at-if1 = at-hear .before .before .before in
+    let at-enum-told = at-if1 .before in
+    let at-meter-from = at-enum-told .before .before in
     let a = c .before .before .before .before .before .before .before .before .before .before .before .before .before .before .before .args in
-    hears-line (now (a .kept)) (c .before .before .before .before .before .before .before .before .before .before .meter-from .ensures)
-    (now (a .line)) (record { 0 = a .t }) (now (a .answer)) (c .before .before .before .before .before .before .before .before .enum-told .given .1)
-    (c .before .before .before .before .before .before .before .if1 .left) (c .before .before .before .before .hear .ensures)
+    hears-line (now (a .kept)) (at-meter-from .meter-from .ensures)
+    (now (a .line)) (record { 0 = a .t }) (now (a .answer)) (at-enum-told .enum-told .given .1)
+    (at-if1 .if1 .left) (at-hear .hear .ensures)
 
 pub skarrowith-meter-heard-spec : {M : Type 1} → statement M
 skarrowith-meter-heard-spec =

@@ -13,15 +13,20 @@ returns c =
 
 keep-step-requires : tie.Need-keep-step-requires
 keep-step-requires c κs =
-    room (now (c .before .before .before .before .before .before .before .before .args .kept))
-    (c .before .before .before .before .before .meter-from .ensures) (c .before .before .before .enum-told .given .1)
+    let at-meter-from = c .before .before .before .before .before in
+    let start = at-meter-from .before .before .before in
+    room (now (start .args .kept))
+    (at-meter-from .meter-from .ensures) (c .before .before .before .enum-told .given .1)
 
 returns-2 : tie.Need-returns-2
 returns-2 c =
+    let at-measure = c .before .before .before .before in
+    let at-enum-told = at-measure .before .before in
+    let at-meter-from = at-enum-told .before .before in
     let a = c .before .before .before .before .before .before .before .before .before .before .before .args in
-    measures (now (a .kept)) (c .before .before .before .before .before .before .before .before .meter-from .ensures) (a .volume) (a .energy)
-    (record { 0 = a .t }) (c .before .before .before .before .before .before .enum-told .given .1)
-    (c .before .before .before .before .measure .ensures) (c .before .before .keep-step .ensures)
+    measures (now (a .kept)) (at-meter-from .meter-from .ensures) (a .volume) (a .energy)
+    (record { 0 = a .t }) (at-enum-told .enum-told .given .1)
+    (at-measure .measure .ensures) (c .before .before .keep-step .ensures)
 
 pub skarrowith-meter-measure-spec : {M : Type 1} → statement M
 skarrowith-meter-measure-spec =

@@ -18,10 +18,14 @@ returns-2 c =
 
 returns-3 : tie.Need-returns-3
 returns-3 c =
+    let at-set-up = c .before .before .before .before in
+    let at-if1 = at-set-up .before in
+    let at-enum-told = at-if1 .before in
+    let at-telegram-from = at-enum-told .before .before in
     let a = c .before .before .before .before .before .before .before .before .before .before .before .args in
-    sets-up (now (a .kept)) (a .address) (now (a .template)) (c .before .before .before .before .before .before .before .before .telegram-from .ensures)
-    (c .before .before .before .before .before .before .enum-told .given .1) (c .before .before .before .before .before .if1 .left)
-    (c .before .before .before .before .set-up .ensures) (c .before .before .begin .ensures)
+    sets-up (now (a .kept)) (a .address) (now (a .template)) (at-telegram-from .telegram-from .ensures)
+    (at-enum-told .enum-told .given .1) (at-if1 .if1 .left)
+    (at-set-up .set-up .ensures) (c .before .before .begin .ensures)
 
 pub skarrowith-meter-set-up-spec : {M : Type 1} → statement M
 skarrowith-meter-set-up-spec =

@@ -5,10 +5,14 @@ use Rattle.host_picture.proofs.skarrowith_picture.Statement.{statement}
 use Rattle.host_picture.proofs.skarrowith_picture.Tie as tie
 
 returns : tie.Need-returns
-returns c = draws-value (c .before .before .before .before .before .draw .ensures) (c .before .bytes .given .1)
+returns c =
+    let at-draw = c .before .before .before .before .before in
+    draws-value (at-draw .draw .ensures) (c .before .bytes .given .1)
 
 returns-2 : tie.Need-returns-2
-returns-2 c = draws-number (c .before .before .before .before .before .draw .ensures) (c .before .number .given .1)
+returns-2 c =
+    let at-draw = c .before .before .before .before .before in
+    draws-number (at-draw .draw .ensures) (c .before .number .given .1)
 
 pub skarrowith-picture-spec : {M : Type 1} → statement M
 skarrowith-picture-spec =

@@ -12,17 +12,21 @@ returns c =
 
 returns-2 : tie.Need-returns-2
 returns-2 c =
+    let at-search2 = c .before .before .before .before .before .before in
+    let at-find-line = at-search2 .before .before in
     let args = c .before .before .before .before .before .before .before .before .before .before .before .args in
     let put = c .before .before .before .put-spot .ensures in
-    found-short (now (args .capture)) (now (args .found)) (c .before .before .before .before .before .before .before .before .find-line .ensures)
-    (c .before .before .before .before .before .before .search2 .given .1) (put .0) (put .1) (c .if1 .taken)
+    found-short (now (args .capture)) (now (args .found)) (at-find-line .find-line .ensures)
+    (at-search2 .search2 .given .1) (put .0) (put .1) (c .if1 .taken)
 
 returns-3 : tie.Need-returns-3
 returns-3 c =
+    let at-search2 = c .before .before .before .before .before .before in
+    let at-find-line = at-search2 .before .before in
     let args = c .before .before .before .before .before .before .before .before .before .before .before .args in
     let put = c .before .before .before .put-spot .ensures in
-    found-whole (now (args .capture)) (now (args .found)) (c .before .before .before .before .before .before .before .before .find-line .ensures)
-    (c .before .before .before .before .before .before .search2 .given .1) (put .0) (put .1) (c .if1 .left)
+    found-whole (now (args .capture)) (now (args .found)) (at-find-line .find-line .ensures)
+    (at-search2 .search2 .given .1) (put .0) (put .1) (c .if1 .left)
 
 pub skarrowith-find-line-spec : {M : Type 1} → statement M
 skarrowith-find-line-spec =

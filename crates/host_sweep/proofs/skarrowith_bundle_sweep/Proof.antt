@@ -5,10 +5,14 @@ use Rattle.host_sweep.proofs.skarrowith_bundle_sweep.Statement.{stateme
 use Rattle.host_sweep.proofs.skarrowith_bundle_sweep.Tie as tie
 
 returns : tie.Need-returns
-returns c = sweeps-value (c .before .before .before .before .before .sweep .ensures) (c .before .bytes .given .1)
+returns c =
+    let at-sweep = c .before .before .before .before .before in
+    sweeps-value (at-sweep .sweep .ensures) (c .before .bytes .given .1)
 
 returns-2 : tie.Need-returns-2
-returns-2 c = sweeps-number (c .before .before .before .before .before .sweep .ensures) (c .before .number .given .1)
+returns-2 c =
+    let at-sweep = c .before .before .before .before .before in
+    sweeps-number (at-sweep .sweep .ensures) (c .before .number .given .1)
 
 pub skarrowith-bundle-sweep-spec : {M : Type 1} → statement M
 skarrowith-bundle-sweep-spec =

@@ -24,11 +24,12 @@ loop-holds c =
 
 loop-again : tie.Need-loop-again Inv-loop μ-loop
 loop-again c =
+    let at-record-of = c .before .before .before .before .before in
     let back7 = c .before .before .before .before .before .before .before in
     let a = back7 .before .before .before .args in
     let whole : length (a .t1) ≡ 512 = search needs in
     puts-next (a .t1) whole (back7 .before .before .before .pre .0) _ (back7 .before .loop .inv) (back7 .loop-test .taken)
-    (c .before .before .before .before .before .record-of .ensures) (c .before .before .lay .ensures)
+    (at-record-of .record-of .ensures) (c .before .before .lay .ensures)
 
 same-length : tie.Need-same-length Inv-loop μ-loop
 same-length c = pieced-length (c .before .loop .inv)

@@ -10,7 +10,9 @@ returns : tie.Need-returns
 returns c = let a = c .before .before .before .args in one-short (verdictsIn (now (a .bundle))) (a .i) (now (a .verdict)) (c .if1 .taken)
 
 found-requires : tie.Need-found-requires
-found-requires c κs = full-in (now (c .before .before .before .before .args .bundle)) (c .verdicts-in .ensures)
+found-requires c κs =
+    let start = c .before .before .before .before in
+    full-in (now (start .args .bundle)) (c .verdicts-in .ensures)
 
 returns-2 : tie.Need-returns-2
 returns-2 c =

@@ -21,7 +21,9 @@ here : (c : tie.After-known-told Inv-loop μ-loop)
     (now (c .before .before .before .before .before .before .before .before .before .args .capture))
     (now (c .before .before .before .before .before .before .before .before .before .args .times)) (c .before .before .before .before .before .loop .place)
     (c .before .search .given .0 .0) (c .before .search .given .0 .1 .0)
-here c = after-found (c .before .before .before .before .before .loop .inv) (c .before .before .before .find-from .ensures) (c .before .search .given .1)
+here c =
+    let at-loop = c .before .before .before .before .before in
+    after-found (at-loop .loop .inv) (c .before .before .before .find-from .ensures) (c .before .search .given .1)
 
 loop-holds : tie.Need-loop-holds Inv-loop μ-loop
 loop-holds c = after-early after-start (c .next-since .ensures)
@@ -49,7 +51,9 @@ returns-2 : tie.Need-returns-2 Inv-loop μ-loop
 returns-2 c = after-end (c .before .loop .inv) (c .loop-test .left)
 
 returns-3 : tie.Need-returns-3 Inv-loop μ-loop
-returns-3 c = after-none (c .before .before .before .before .loop .inv) (c .before .before .find-from .ensures) (c .enum-told .given .1)
+returns-3 c =
+    let at-loop = c .before .before .before .before in
+    after-none (at-loop .loop .inv) (c .before .before .find-from .ensures) (c .enum-told .given .1)
 
 pub find-line-after-spec : {M : Type 1} → statement M
 find-line-after-spec =

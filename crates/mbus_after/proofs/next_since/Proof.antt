@@ -20,12 +20,14 @@ loop-holds : tie.Need-loop-holds Inv-loop μ-loop
 loop-holds c = refl
 
 loop-again : tie.Need-loop-again Inv-loop μ-loop
-loop-again c = omega (
-  arith,
-  c .before .before .before .loop .inv,
-  early-next (c .before .before .before .before .args .t)
-      (now (c .before .before .before .before .args .times)) (c .before .before .before .loop .place) (c .before .before .loop-test .taken) (c .if1 .left),
-)
+loop-again c =
+    let start = c .before .before .before .before in
+    omega (
+      arith,
+      c .before .before .before .loop .inv,
+      early-next (start .args .t)
+          (now (start .args .times)) (c .before .before .before .loop .place) (c .before .before .loop-test .taken) (c .if1 .left),
+    )
 
 returns : tie.Need-returns Inv-loop μ-loop
 returns c = omega (
@@ -36,12 +38,14 @@ returns c = omega (
 )
 
 returns-2 : tie.Need-returns-2 Inv-loop μ-loop
-returns-2 c = omega (
-  arith,
-  c .before .before .before .loop .inv,
-  early-here (c .before .before .before .before .args .t)
-      (now (c .before .before .before .before .args .times)) (c .before .before .before .loop .place) (c .before .before .loop-test .taken) (c .if1 .taken),
-)
+returns-2 c =
+    let start = c .before .before .before .before in
+    omega (
+      arith,
+      c .before .before .before .loop .inv,
+      early-here (start .args .t)
+          (now (start .args .times)) (c .before .before .before .loop .place) (c .before .before .loop-test .taken) (c .if1 .taken),
+    )
 
 pub next-since-spec : {M : Type 1} → statement M
 next-since-spec =

@@ -13,15 +13,19 @@ returns c =
 
 returns-2 : tie.Need-returns-2
 returns-2 c =
+    let at-enum-told = c .before .before .before .before in
+    let at-find-line = at-enum-told .before .before in
     let args = c .before .before .before .before .before .before .before .before .before .args in
-    on-optical (findIn (now (args .mbus))) (findIn (now (args .optical))) (c .before .before .before .before .before .before .find-line .ensures)
-    (c .before .before .before .before .enum-told .given .1) (c .before .before .before .find-line2 .ensures) (c .before .second .given .1)
+    on-optical (findIn (now (args .mbus))) (findIn (now (args .optical))) (at-find-line .find-line .ensures)
+    (at-enum-told .enum-told .given .1) (c .before .before .before .find-line2 .ensures) (c .before .second .given .1)
 
 returns-3 : tie.Need-returns-3
 returns-3 c =
+    let at-enum-told = c .before .before .before .before in
+    let at-find-line = at-enum-told .before .before in
     let args = c .before .before .before .before .before .before .before .before .before .args in
-    on-neither (findIn (now (args .mbus))) (findIn (now (args .optical))) (c .before .before .before .before .before .before .find-line .ensures)
-    (c .before .before .before .before .enum-told .given .1) (c .before .before .before .find-line2 .ensures) (c .before .second2 .given .1)
+    on-neither (findIn (now (args .mbus))) (findIn (now (args .optical))) (at-find-line .find-line .ensures)
+    (at-enum-told .enum-told .given .1) (c .before .before .before .find-line2 .ensures) (c .before .second2 .given .1)
 
 pub either-at-spec : {M : Type 1} → statement M
 either-at-spec =

@@ -40,10 +40,14 @@ returns c =
     rw (none-live (findEither (now (start .args .mbus)) (now (start .args .optical))) (start .pre) (c .before .enum-told .given .1)) (c .part-of .ensures)
 
 returns-2 : tie.Need-returns-2
-returns-2 c = rw (live (c .before .before .before .before) (c .before .enum-told2 .given .1)) (c .part-of2 .ensures)
+returns-2 c =
+    let earlier = c .before .before .before .before in
+    rw (live (earlier) (c .before .enum-told2 .given .1)) (c .part-of2 .ensures)
 
 returns-3 : tie.Need-returns-3
-returns-3 c = rw (live (c .before .before .before .before) (c .before .enum-told3 .given .1)) (c .part-of3 .ensures)
+returns-3 c =
+    let earlier = c .before .before .before .before in
+    rw (live (earlier) (c .before .enum-told3 .given .1)) (c .part-of3 .ensures)
 
 pub stretch-at-spec : {M : Type 1} → statement M
 stretch-at-spec =

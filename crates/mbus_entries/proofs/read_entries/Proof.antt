@@ -24,7 +24,10 @@ turn : (c : tie.After-known-told2 Inv-loop μ-loop)
     (c .before .before .before .before .before .before .loop .at) (c .before .before .before .before .before .before .loop .count)
     (c .before .before .before .before .before .before .loop .marks) (c .before .before .before .before .before .before .loop .entries)
     (c .before .next2 .given .0 .0) (c .before .next2 .given .0 .1 .0) (c .before .next2 .given .0 .1 .1 .0)
-turn c = turned (c .before .before .before .before .before .before .loop .inv .0) (c .before .before .before .before .before .loop-test .taken)
+turn c =
+    let at-loop-test = c .before .before .before .before .before in
+    let at-loop = at-loop-test .before in
+    turned (at-loop .loop .inv .0) (at-loop-test .loop-test .taken)
     (c .before .before .before .next-entry .ensures) (c .before .next2 .given .1)
 
 -- the two ways out of the loop
@@ -44,7 +47,9 @@ array-set-from-entries : tie.Need-array-set-from-entries Inv-loop μ-loop
 array-set-from-entries c = turn c .below
 
 array-write-marks : tie.Need-array-write-marks Inv-loop μ-loop
-array-write-marks c = omega (arith, turn c .few, c .before .before .before .before .before .before .loop .inv .0 .marked)
+array-write-marks c =
+    let at-loop = c .before .before .before .before .before .before in
+    omega (arith, turn c .few, at-loop .loop .inv .0 .marked)
 
 add-count : tie.Need-add-count Inv-loop μ-loop
 add-count c = omega (arith, turn c .below)
@@ -59,15 +64,22 @@ loop-less : tie.Need-loop-less Inv-loop μ-loop
 loop-less c = omega (arith, turn c .inside)
 
 loop-again : tie.Need-loop-again Inv-loop μ-loop
-loop-again c = (turn c .next, c .before .before .before .before .before .before .loop .inv .1)
+loop-again c =
+    let at-loop = c .before .before .before .before .before .before in
+    (turn c .next, at-loop .loop .inv .1)
 
 returns : tie.Need-returns Inv-loop μ-loop
-returns c = rw (c .before .before .before .before .before .blank-entry .ensures)
-    (ended-refused (c .before .before .before .before .loop .inv .0) (ends (c .before .before .before)) (c .before .before .end-of .ensures)
+returns c =
+    let at-loop = c .before .before .before .before in
+    let at-blank-entry = at-loop .before in
+    rw (at-blank-entry .blank-entry .ensures)
+    (ended-refused (at-loop .loop .inv .0) (ends (c .before .before .before)) (c .before .before .end-of .ensures)
     (sym (c .before .is-refusal .ensures) ∙ c .if1 .taken))
 
 returns-2 : tie.Need-returns-2 Inv-loop μ-loop
-returns-2 c = ended-whole (c .before .before .before .before .loop .inv .0) (ends (c .before .before .before)) (c .before .before .end-of .ensures)
+returns-2 c =
+    let at-loop = c .before .before .before .before in
+    ended-whole (at-loop .loop .inv .0) (ends (c .before .before .before)) (c .before .before .end-of .ensures)
     (sym (c .before .is-refusal .ensures) ∙ c .if1 .left)
 
 pub read-entries-spec : {M : Type 1} → statement M

@@ -25,13 +25,17 @@ slice-aggregate-soundness-of : tie.Need-slice-aggregate-soundness-of
 slice-aggregate-soundness-of c = sym (length-take-le _ _ (inside (c .before)))
 
 returns : tie.Need-returns
-returns c = let start = c .before .before .before .before .before .before .args in
-    told-unsound (now (start .first)) (start .count) (c .before .before .before .before .if1 .there) (cut (c .before .before .before .before))
+returns c =
+    let at-if1 = c .before .before .before .before in
+    let start = c .before .before .before .before .before .before .args in
+    told-unsound (now (start .first)) (start .count) (at-if1 .if1 .there) (cut (at-if1))
     (c .before .before .soundness-of .ensures) (c .enum-told .given .1)
 
 returns-2 : tie.Need-returns-2
-returns-2 c = let start = c .before .before .before .before .before .before .args in
-    told-unsound (now (start .first)) (start .count) (c .before .before .before .before .if1 .there) (cut (c .before .before .before .before))
+returns-2 c =
+    let at-if1 = c .before .before .before .before in
+    let start = c .before .before .before .before .before .before .args in
+    told-unsound (now (start .first)) (start .count) (at-if1 .if1 .there) (cut (at-if1))
     (c .before .before .soundness-of .ensures) (c .enum-told2 .given .1)
 
 pub unsound-in-spec : {M : Type 1} → statement M

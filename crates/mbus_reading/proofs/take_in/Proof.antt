@@ -11,7 +11,8 @@ use Rattle.mbus_reading.proofs.take_in.Tie as tie
 
 returns : tie.Need-returns
 returns c =
-    let s = now (c .before .before .before .before .before .before .args .line) in
+    let start = c .before .before .before .before .before .before in
+    let s = now (start .args .line) in
     rw (c .far-of .ensures) (far-line s (c .before .before .before .if1 .taken) (c .before .before .soundness-of .ensures) (c .before .low-at .ensures))
 
 returns-2 : tie.Need-returns-2

@@ -37,8 +37,9 @@ none-yet : (c : tie.Joined1 Inv-loop μ-loop Inv-places μ-places)
     (drop (c .before .before .before .before .places .place) (now (c .before .before .before .before .before .before .args .capture)))) ≡ refusal 18)
     × (ListN.length (c .if1 .bytes) ≡ 261)
 none-yet c =
+    let start = c .before .before .before .before .before .before in
     let here = c .before .before .before .before .places in
-    let capture = now (c .before .before .before .before .before .before .args .capture) in
+    let capture = now (start .args .capture) in
     let rest = take (ListN.length capture - here .place) (drop (here .place) capture) in
     ⊎-elim (λ w. (w .5 ∙ w .3 .inv .nothing, w .3 .inv .none (omega (arith, w .4 .left)), ap ListN.length (w .6) ∙ w .3 .inv .gathers .places))
     (λ w. ⊎-elim
@@ -76,52 +77,75 @@ shared-slice-read-c : tie.Need-shared-slice-read-c Inv-loop μ-loop Inv-places �
 shared-slice-read-c c = omega (arith, c .before .before .loop .inv .room)
 
 array-write-bytes : tie.Need-array-write-bytes Inv-loop μ-loop Inv-places μ-places
-array-write-bytes c = walked-room (c .before .before .before .before .loop .inv) (walked-on (c .before .before .before .before .loop .inv) (c .before .before .before .loop-test .taken))
+array-write-bytes c =
+    let at-loop = c .before .before .before .before in
+    walked-room (at-loop .loop .inv) (walked-on (at-loop .loop .inv) (c .before .before .before .loop-test .taken))
 
 add-i : tie.Need-add-i Inv-loop μ-loop Inv-places μ-places
-add-i c = omega (arith, c .before .before .before .before .before .loop .inv .room)
+add-i c =
+    let at-loop = c .before .before .before .before .before in
+    omega (arith, at-loop .loop .inv .room)
 
 array-share-prefix-bytes : tie.Need-array-share-prefix-bytes Inv-loop μ-loop Inv-places μ-places
-array-share-prefix-bytes c = walked-places (c .before .before .before .before .before .before .loop .inv) _
+array-share-prefix-bytes c =
+    let at-loop = c .before .before .before .before .before .before in
+    walked-places (at-loop .loop .inv) _
 
 slice-aggregate-is-accepted :
     tie.Need-slice-aggregate-is-accepted Inv-loop μ-loop Inv-places μ-places
-slice-aggregate-is-accepted c = sym (length-take-le _ _ (walked-places (c .before .before .before .before .before .before .before .loop .inv) _))
+slice-aggregate-is-accepted c =
+    let at-loop = c .before .before .before .before .before .before .before in
+    sym (length-take-le _ _ (walked-places (at-loop .loop .inv) _))
 
 loop-again : tie.Need-loop-again Inv-loop μ-loop Inv-places μ-places
 loop-again c =
-    rw (c .before .before .before .before .wrapping-add-u8 .ensures)
-    (walked-refused (c .before .before .before .before .before .before .before .before .before .loop .inv)
-    (walked-on (c .before .before .before .before .before .before .before .before .before .loop .inv) (c .before .before .before .before .before .before .before .before .loop-test .taken)) refl
-    (c .before .before .before .before .before .before .counts-odd .ensures) (c .before .before .before .before .before .if3 .left)
+    let at-wrapping-add-u8 = c .before .before .before .before in
+    let at-if3 = at-wrapping-add-u8 .before in
+    let at-counts-odd = at-if3 .before in
+    let at-loop-test = at-counts-odd .before .before in
+    let at-loop = at-loop-test .before in
+    rw (at-wrapping-add-u8 .wrapping-add-u8 .ensures)
+    (walked-refused (at-loop .loop .inv)
+    (walked-on (at-loop .loop .inv) (at-loop-test .loop-test .taken)) refl
+    (at-counts-odd .counts-odd .ensures) (at-if3 .if3 .left)
     (c .before .before .before .if4 .taken)
-    (rw (c .before .before .before .before .wrapping-add-u8 .ensures) at (c .before .is-accepted .ensures)) (c .if5 .left))
+    (rw (at-wrapping-add-u8 .wrapping-add-u8 .ensures) at (c .before .is-accepted .ensures)) (c .if5 .left))
 
 loop-again-2 : tie.Need-loop-again-2 Inv-loop μ-loop Inv-places μ-places
 loop-again-2 c =
+    let at-loop-test = c .before .before .before .before .before in
+    let at-loop = at-loop-test .before in
     rw (c .before .wrapping-add-u8 .ensures)
-    (walked-next (c .before .before .before .before .before .before .loop .inv) (walked-on (c .before .before .before .before .before .before .loop .inv) (c .before .before .before .before .before .loop-test .taken)) refl
+    (walked-next (at-loop .loop .inv) (walked-on (at-loop .loop .inv) (at-loop-test .loop-test .taken)) refl
     (c .before .before .before .counts-odd .ensures) (c .before .before .if3 .left) (c .if4 .left))
 
 places-again : tie.Need-places-again Inv-loop μ-loop Inv-places μ-places
-places-again c = (
-  searched-next (c .before .before .before .before .places .inv .0) (none-yet c .0) (c .before .before .before .places-test .taken)
-      (none-yet c .1),
-  none-yet c .2,
-)
+places-again c =
+    let at-places = c .before .before .before .before in (
+      searched-next (at-places .places .inv .0) (none-yet c .0) (c .before .before .before .places-test .taken)
+          (none-yet c .1),
+      none-yet c .2,
+    )
 
 returns : tie.Need-returns Inv-loop μ-loop Inv-places μ-places
 returns c = searched-all (c .before .places .inv .0) (c .places-test .left)
 
 returns-2 : tie.Need-returns-2 Inv-loop μ-loop Inv-places μ-places
 returns-2 c =
-    searched-hit (c .before .before .before .before .before .before .before .before .before .before .before .before .before .before .before .before .places .inv .0)
-    (c .before .before .before .before .before .before .before .before .before .before .before .before .before .before .before .places-test .taken) _
-    (walked-hit (c .before .before .before .before .before .before .before .before .before .loop .inv)
-    (walked-on (c .before .before .before .before .before .before .before .before .before .loop .inv) (c .before .before .before .before .before .before .before .before .loop-test .taken)) refl
-    (c .before .before .before .before .before .before .counts-odd .ensures) (c .before .before .before .before .before .if3 .left)
+    let at-wrapping-add-u8 = c .before .before .before .before in
+    let at-if3 = at-wrapping-add-u8 .before in
+    let at-counts-odd = at-if3 .before in
+    let at-loop-test = at-counts-odd .before .before in
+    let at-loop = at-loop-test .before in
+    let at-places-test = at-loop .before .before .before .before .before .before in
+    let at-places = at-places-test .before in
+    searched-hit (at-places .places .inv .0)
+    (at-places-test .places-test .taken) _
+    (walked-hit (at-loop .loop .inv)
+    (walked-on (at-loop .loop .inv) (at-loop-test .loop-test .taken)) refl
+    (at-counts-odd .counts-odd .ensures) (at-if3 .if3 .left)
     (c .before .before .before .if4 .taken)
-    (rw (c .before .before .before .before .wrapping-add-u8 .ensures) at (c .before .is-accepted .ensures)) (c .if5 .taken))
+    (rw (at-wrapping-add-u8 .wrapping-add-u8 .ensures) at (c .before .is-accepted .ensures)) (c .if5 .taken))
 
 pub find-line-spec : {M : Type 1} → statement M
 find-line-spec =

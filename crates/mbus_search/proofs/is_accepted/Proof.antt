@@ -8,21 +8,29 @@ use Rattle.mbus_search.proofs.is_accepted.Statement.{statement}
 use Rattle.mbus_search.proofs.is_accepted.Tie as tie
 
 returns : tie.Need-returns
-returns c = outline-accepts (frameBy (c .before .before .before .before .args .sum) readBody (now (c .before .before .before .before .args .bytes)))
+returns c =
+    let start = c .before .before .before .before in
+    outline-accepts (frameBy (start .args .sum) readBody (now (start .args .bytes)))
     (c .before .before .outline-in .ensures) (c .enum-told .given .1)
 
 returns-2 : tie.Need-returns-2
-returns-2 c = outline-accepts (frameBy (c .before .before .before .before .args .sum) readBody (now (c .before .before .before .before .args .bytes)))
+returns-2 c =
+    let start = c .before .before .before .before in
+    outline-accepts (frameBy (start .args .sum) readBody (now (start .args .bytes)))
     (c .before .before .outline-in .ensures)
     (c .enum-told2 .given .1)
 
 returns-3 : tie.Need-returns-3
-returns-3 c = outline-accepts (frameBy (c .before .before .before .before .args .sum) readBody (now (c .before .before .before .before .args .bytes)))
+returns-3 c =
+    let start = c .before .before .before .before in
+    outline-accepts (frameBy (start .args .sum) readBody (now (start .args .bytes)))
     (c .before .before .outline-in .ensures)
     (c .enum-told3 .given .1)
 
 returns-4 : tie.Need-returns-4
-returns-4 c = outline-accepts (frameBy (c .before .before .before .before .args .sum) readBody (now (c .before .before .before .before .args .bytes)))
+returns-4 c =
+    let start = c .before .before .before .before in
+    outline-accepts (frameBy (start .args .sum) readBody (now (start .args .bytes)))
     (c .before .before .outline-in .ensures)
     (c .enum-told4 .given .1)
 

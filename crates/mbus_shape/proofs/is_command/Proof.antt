@@ -9,8 +9,9 @@ returns c = rw (ne-eqb _ _ (c .if1 .taken))
 
 returns-2 : tie.Need-returns-2
 returns-2 c =
+    let at-if1 = c .before .before .before .before in
     rw (
-      eq-eqb _ _ (c .before .before .before .before .if1 .left),
+      eq-eqb _ _ (at-if1 .if1 .left),
       c .is-method .ensures,
       c .before .before .before .byte-at .ensures,
       c .before .before .byte-at2 .ensures,

@@ -7,9 +7,10 @@ use Rattle.mbus_shape.proofs.long_form.Tie as tie
 
 returns : tie.Need-returns
 returns c =
+    let start = c .before .before .before .before .before in
     rw (
-      long-is (c .before .before .before .before .before .args .sum)
-          (c .before .before .before .before .before .pre),
+      long-is (start .args .sum)
+          (start .pre),
       ← c .before .before .before .byte-at .ensures,
       ← c .before .before .byte-at2 .ensures,
       ← c .before .byte-at3 .ensures,
@@ -17,60 +18,87 @@ returns c =
     (rw (c .if1 .taken))
 
 wrong-end-requires : tie.Need-wrong-end-requires
-wrong-end-requires c κs = omega (arith, c .before .before .before .before .before .pre .six)
+wrong-end-requires c κs =
+    let start = c .before .before .before .before .before in
+    omega (arith, start .pre .six)
 
 returns-2 : tie.Need-returns-2
 returns-2 c =
+    let at-byte-at2 = c .before .before .before .before in
+    let at-byte-at = at-byte-at2 .before in
+    let start = at-byte-at .before .before in
     rw (
-      long-is (c .before .before .before .before .before .before .before .args .sum)
-          (c .before .before .before .before .before .before .before .pre),
-      ← c .before .before .before .before .before .byte-at .ensures,
-      ← c .before .before .before .before .byte-at2 .ensures,
+      long-is (start .args .sum)
+          (start .pre),
+      ← at-byte-at .byte-at .ensures,
+      ← at-byte-at2 .byte-at2 .ensures,
       ← c .before .before .before .byte-at3 .ensures,
     )
     (rw (c .before .before .if1 .left, ← c .before .wrong-end .ensures, c .if2 .taken))
 
 wrong-whole-requires : tie.Need-wrong-whole-requires
-wrong-whole-requires c κs = c .before .before .before .before .before .before .before .pre .six
+wrong-whole-requires c κs =
+    let start = c .before .before .before .before .before .before .before in
+    start .pre .six
 
 returns-3 : tie.Need-returns-3
 returns-3 c =
+    let at-if1 = c .before .before .before .before in
+    let at-byte-at3 = at-if1 .before in
+    let at-byte-at2 = at-byte-at3 .before in
+    let at-byte-at = at-byte-at2 .before in
+    let start = at-byte-at .before .before in
     rw (
-      long-is (c .before .before .before .before .before .before .before .before .before .args .sum)
-          (c .before .before .before .before .before .before .before .before .before .pre),
+      long-is (start .args .sum)
+          (start .pre),
       ← c .before .wrong-whole .ensures,
-      ← c .before .before .before .before .before .before .before .byte-at .ensures,
-      ← c .before .before .before .before .before .before .byte-at2 .ensures,
-      ← c .before .before .before .before .before .byte-at3 .ensures,
+      ← at-byte-at .byte-at .ensures,
+      ← at-byte-at2 .byte-at2 .ensures,
+      ← at-byte-at3 .byte-at3 .ensures,
     )
-    (rw (c .before .before .before .before .if1 .left, ← c .before .before .before .wrong-end .ensures, c .before .before .if2 .left, c .if3 .taken))
+    (rw (at-if1 .if1 .left, ← c .before .before .before .wrong-end .ensures, c .before .before .if2 .left, c .if3 .taken))
 
 sub-last : tie.Need-sub-last
-sub-last c = omega (arith, c .before .before .before .before .before .before .before .before .before .pre .six)
+sub-last c =
+    let start = c .before .before .before .before .before .before .before .before .before in
+    omega (arith, start .pre .six)
 
 sub-long-shape : tie.Need-sub-long-shape
-sub-long-shape c = omega (arith, c .before .before .before .before .before .before .before .before .before .pre .six)
+sub-long-shape c =
+    let start = c .before .before .before .before .before .before .before .before .before in
+    omega (arith, start .pre .six)
 
 part-long-shape-start : tie.Need-part-long-shape-start
-part-long-shape-start c = omega (arith, c .before .before .before .before .before .before .before .before .before .pre .six)
+part-long-shape-start c =
+    let start = c .before .before .before .before .before .before .before .before .before in
+    omega (arith, start .pre .six)
 
 part-long-shape-end : tie.Need-part-long-shape-end
-part-long-shape-end c = omega (arith, c .before .before .before .before .before .before .before .before .before .pre .six)
+part-long-shape-end c =
+    let start = c .before .before .before .before .before .before .before .before .before in
+    omega (arith, start .pre .six)
 
 returns-4 : tie.Need-returns-4
 returns-4 c =
+    let at-if2 = c .before .before .before .before in
+    let at-wrong-end = at-if2 .before in
+    let at-if1 = at-wrong-end .before in
+    let at-byte-at3 = at-if1 .before in
+    let at-byte-at2 = at-byte-at3 .before in
+    let at-byte-at = at-byte-at2 .before in
+    let start = at-byte-at .before .before in
     rw (
-      long-is (c .before .before .before .before .before .before .before .before .before .before .before .args .sum)
-          (c .before .before .before .before .before .before .before .before .before .before .before .pre),
+      long-is (start .args .sum)
+          (start .pre),
       ← c .before .before .before .wrong-whole .ensures,
-      ← c .before .before .before .before .before .before .before .before .before .byte-at .ensures,
-      ← c .before .before .before .before .before .before .before .before .byte-at2 .ensures,
-      ← c .before .before .before .before .before .before .before .byte-at3 .ensures,
+      ← at-byte-at .byte-at .ensures,
+      ← at-byte-at2 .byte-at2 .ensures,
+      ← at-byte-at3 .byte-at3 .ensures,
     )
     (rw (
-      c .before .before .before .before .before .before .if1 .left,
-      ← c .before .before .before .before .before .wrong-end .ensures,
-      c .before .before .before .before .if2 .left,
+      at-if1 .if1 .left,
+      ← at-wrong-end .wrong-end .ensures,
+      at-if2 .if2 .left,
       c .before .before .if3 .left,
     ) (c .long-shape .ensures))
 

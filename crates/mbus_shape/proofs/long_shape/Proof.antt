@@ -5,31 +5,37 @@ use Rattle.mbus_shape.proofs.long_shape.Statement.{statement}
 use Rattle.mbus_shape.proofs.long_shape.Tie as tie
 
 returns : tie.Need-returns
-returns c = rw (
-  ← c .before .before .before .is-command .ensures,
-  c .before .before .if1 .taken,
-  ← c .before .byte-at2 .ensures,
-  eq-eqb _ _ (c .if2 .taken),
-  ← c .before .before .before .before .byte-at .ensures,
-)
+returns c =
+    let at-byte-at = c .before .before .before .before in
+    rw (
+      ← c .before .before .before .is-command .ensures,
+      c .before .before .if1 .taken,
+      ← c .before .byte-at2 .ensures,
+      eq-eqb _ _ (c .if2 .taken),
+      ← at-byte-at .byte-at .ensures,
+    )
 
 returns-2 : tie.Need-returns-2
-returns-2 c = rw (
-  ← c .before .before .before .is-command .ensures,
-  c .before .before .if1 .taken,
-  ← c .before .byte-at2 .ensures,
-  ne-eqb _ _ (c .if2 .left),
-  ← c .before .before .before .before .byte-at .ensures,
-)
+returns-2 c =
+    let at-byte-at = c .before .before .before .before in
+    rw (
+      ← c .before .before .before .is-command .ensures,
+      c .before .before .if1 .taken,
+      ← c .before .byte-at2 .ensures,
+      ne-eqb _ _ (c .if2 .left),
+      ← at-byte-at .byte-at .ensures,
+    )
 
 returns-3 : tie.Need-returns-3
-returns-3 c = rw (
-  ← c .before .before .before .is-command .ensures,
-  c .before .before .if1 .left,
-  ← c .before .is-data .ensures,
-  c .if3 .taken,
-  ← c .before .before .before .before .byte-at .ensures,
-)
+returns-3 c =
+    let at-byte-at = c .before .before .before .before in
+    rw (
+      ← c .before .before .before .is-command .ensures,
+      c .before .before .if1 .left,
+      ← c .before .is-data .ensures,
+      c .if3 .taken,
+      ← at-byte-at .byte-at .ensures,
+    )
 
 returns-4 : tie.Need-returns-4
 returns-4 c = rw (← c .before .before .before .is-command .ensures, c .before .before .if1 .left, ← c .before .is-data .ensures, c .if3 .left)

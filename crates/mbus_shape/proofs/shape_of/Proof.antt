@@ -7,19 +7,25 @@ use Rattle.mbus_shape.proofs.shape_of.Statement.{statement}
 use Rattle.mbus_shape.proofs.shape_of.Tie as tie
 
 returns : tie.Need-returns
-returns c = c .brief-shape .ensures ∙ brief-is (now (c .before .before .before .before .args .bytes)) (c .before .before .before .before .args .sum)
+returns c =
+    let start = c .before .before .before .before in
+    c .brief-shape .ensures ∙ brief-is (now (start .args .bytes)) (start .args .sum)
     (λ e. c .before .if1 .taken (c .before .before .byte-at .ensures ∙ e))
 
 wrong-length-requires : tie.Need-wrong-length-requires
 wrong-length-requires c κs = sym (c .before .byte-at .ensures) ∙ c .if1 .left
 
 returns-2 : tie.Need-returns-2
-returns-2 c = length-five (now (c .before .before .before .before .before .args .bytes))
+returns-2 c =
+    let start = c .before .before .before .before .before in
+    length-five (now (start .args .bytes))
     (sym (c .before .before .before .byte-at .ensures) ∙ c .before .before .if1 .left) (c .before .wrong-length .ensures)
-    (c .before .before .before .before .before .args .sum) (c .if2 .taken)
+    (start .args .sum) (c .if2 .taken)
 
 long-form-requires : tie.Need-long-form-requires
-long-form-requires c κs = long-count (now (c .before .before .before .before .before .args .bytes))
+long-form-requires c κs =
+    let start = c .before .before .before .before .before in
+    long-count (now (start .args .bytes))
     (sym (c .before .before .before .byte-at .ensures) ∙ c .before .before .if1 .left) (c .before .wrong-length .ensures) (c .if2 .left)
 
 pub shape-of-spec : {M : Type 1} → statement M

@@ -10,8 +10,10 @@ use Rattle.mbus_shape.proofs.wrong_whole.Tie as tie
 
 returns : tie.Need-returns
 returns c =
-    ap (λ (n : ℕ). not (eqb (c .before .before .before .before .before .before .args .sum) n))
-    (twice-is (c .before .before .before .before .byte-at .ensures) (c .before .before .before .byte-at2 .ensures)
+    let at-byte-at = c .before .before .before .before in
+    let start = at-byte-at .before .before in
+    ap (λ (n : ℕ). not (eqb (start .args .sum) n))
+    (twice-is (at-byte-at .byte-at .ensures) (c .before .before .before .byte-at2 .ensures)
     (c .before .before .wrapping-add-u8 .ensures) (c .before .wrapping-add-u82 .ensures) (c .wrapping-add-u83 .ensures))
 
 pub wrong-whole-spec : {M : Type 1} → statement M

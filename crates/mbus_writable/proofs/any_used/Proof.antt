@@ -20,7 +20,8 @@ loop-holds c = looked-none usedEntry (c .args .t1) (c .args .from)
 
 loop-again : tie.Need-loop-again Inv-loop μ-loop
 loop-again c =
-    let n : length (c .before .before .before .before .args .t1) ≡ 7 = search needs in
+    let start = c .before .before .before .before in
+    let n : length (start .args .t1) ≡ 7 = search needs in
     rw (c .used-entry .ensures) (looked-next _ (c .before .before .before .loop .inv) (omega arith))
 
 returns : tie.Need-returns Inv-loop μ-loop

@@ -20,19 +20,23 @@ limit : (c : tie.After-limit-of) → c .limit-of .result ≡ 100 ^ widthOf (c .b
 limit c = c .limit-of .ensures ∙ ap (λ (w : ℕ). 100 ^ w) (c .before .width-of .ensures)
 
 sub-result : tie.Need-sub-result
-sub-result c = rw (limit (c .before .before .before)) (limit-some (widthOf (c .before .before .before .before .before .args .structure)))
+sub-result c =
+    let start = c .before .before .before .before .before in
+    rw (limit (c .before .before .before)) (limit-some (widthOf (start .args .structure)))
 
 returns : tie.Need-returns
 returns c =
-    let a = c .before .before .before .before .before .args in
-    let t = toZ-ofZ w64 (a .count) (c .before .before .before .before .before .fits .count) in
+    let start = c .before .before .before .before .before in
+    let a = start .args in
+    let t = toZ-ofZ w64 (a .count) (start .fits .count) in
     rw (limit (c .before .before .before), c .before .before .size-of .ensures ∙ ap natAbs t)
     (long-below (widthOf (a .structure)) (a .count) (sym (c .before .is-below-zero .ensures ∙ ap belowZero t) ∙ c .if1 .taken))
 
 returns-2 : tie.Need-returns-2
 returns-2 c =
-    let a = c .before .before .before .before .before .args in
-    let t = toZ-ofZ w64 (a .count) (c .before .before .before .before .before .fits .count) in
+    let start = c .before .before .before .before .before in
+    let a = start .args in
+    let t = toZ-ofZ w64 (a .count) (start .fits .count) in
     rw (limit (c .before .before .before), c .before .before .size-of .ensures ∙ ap natAbs t)
     (long-above (widthOf (a .structure)) (a .count) (sym (c .before .is-below-zero .ensures ∙ ap belowZero t) ∙ c .if1 .left))
 

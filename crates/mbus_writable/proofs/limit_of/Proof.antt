@@ -25,16 +25,24 @@ returns-5 : tie.Need-returns-5
 returns-5 c = is 0 _ (c .if6 .taken)
 
 returns-6 : tie.Need-returns-6
-returns-6 c = is 1 (c .before .before .before .before .before .before .args .width) (omega arith)
+returns-6 c =
+    let start = c .before .before .before .before .before .before in
+    is 1 (start .args .width) (omega arith)
 
 returns-7 : tie.Need-returns-7
-returns-7 c = is 5 (c .before .before .before .before .before .before .args .width) (omega arith)
+returns-7 c =
+    let start = c .before .before .before .before .before .before in
+    is 5 (start .args .width) (omega arith)
 
 returns-8 : tie.Need-returns-8
-returns-8 c = is 7 (c .before .before .before .before .before .before .before .args .width) (omega arith)
+returns-8 c =
+    let start = c .before .before .before .before .before .before .before in
+    is 7 (start .args .width) (omega arith)
 
 returns-9 : tie.Need-returns-9
-returns-9 c = is 8 (c .before .before .before .before .before .before .before .args .width) (omega arith)
+returns-9 c =
+    let start = c .before .before .before .before .before .before .before in
+    is 8 (start .args .width) (omega arith)
 
 pub limit-of-spec : {M : Type 1} → statement M
 limit-of-spec = tie.close (tie.spec returns returns-2 returns-3 returns-4 returns-5 returns-6 returns-7 returns-8 returns-9)

@@ -10,7 +10,9 @@ returns c = sym (data-many (c .before .args .t) (c .if1 .taken))
 
 returns-2 : tie.Need-returns-2
 returns-2 c =
-    data-few (c .before .before .before .before .before .before .args .t) _ _ _ (c .before .before .before .before .before .if1 .left)
+    let at-if1 = c .before .before .before .before .before in
+    let start = at-if1 .before in
+    data-few (start .args .t) _ _ _ (at-if1 .if1 .left)
     (c .before .before .unwritten-header .ensures)
     (c .before .wrong-entries .ensures) (c .any-used .ensures)
 

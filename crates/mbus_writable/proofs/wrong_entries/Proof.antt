@@ -25,8 +25,10 @@ array-write-seen c = rw (c .before .quantity-of .ensures) (quantity-few _)
 
 loop-again : tie.Need-loop-again Inv-loop μ-loop
 loop-again c =
-    let n : c .before .before .before .before .before .args .count ≤ length (c .before .before .before .before .before .args .t1) = search needs in
-    counted-next _ (c .before .before .before .before .loop .inv) n (c .before .before .before .loop-test .taken) (c .before .quantity-of .ensures)
+    let at-loop = c .before .before .before .before in
+    let start = at-loop .before in
+    let n : start .args .count ≤ length (start .args .t1) = search needs in
+    counted-next _ (at-loop .loop .inv) n (c .before .before .before .loop-test .taken) (c .before .quantity-of .ensures)
     (c .wrong-entry .ensures)
 
 returns : tie.Need-returns Inv-loop μ-loop

@@ -17,20 +17,24 @@ use Rattle.mbus_writable.proofs.wrong_value.Tie as tie
 
 returns : tie.Need-returns
 returns c =
+    let at-is-binary = c .before .before .before .before in
     let a = c .before .before .before .before .before .args in
     let v = c .before .before .value .given in
     let z = v .0 .0 .count in
-    rw (v .1, sym (c .before .before .before .before .is-binary .ensures) ∙ c .if1 .taken)
+    rw (v .1, sym (at-is-binary .is-binary .ensures) ∙ c .if1 .taken)
     (digits-coded (isTime (a .unit)) (not (fitsSigned (widthOf (a .structure)) z)) (belowZero z && not (mayFall (a .unit))))
 
 returns-2 : tie.Need-returns-2
 returns-2 c =
+    let at-if1 = c .before .before .before .before .before in
+    let at-is-binary = at-if1 .before .before .before .before in
+    let start = at-is-binary .before in
     let v = c .before .before .before .before .before .before .before .value .given in
     let g = c .before .before .before .before .struct-told .given in
-    let w = widthOf (c .before .before .before .before .before .before .before .before .before .before .args .structure) in
+    let w = widthOf (start .args .structure) in
     let t = toZ-ofZ w64 (v .0 .0 .count) (record { sfits = omega arith }) in
-    let b = sym (c .before .before .before .before .before .before .before .before .before .is-binary .ensures)
-    ∙ c .before .before .before .before .before .if1 .left in
+    let b = sym (at-is-binary .is-binary .ensures)
+    ∙ at-if1 .if1 .left in
     rw (
       v .1,
       b,
@@ -42,27 +46,31 @@ returns-2 c =
 
 returns-3 : tie.Need-returns-3
 returns-3 c =
+    let at-width-of = c .before .before .before .before .before in
+    let at-is-binary = at-width-of .before .before .before .before in
     let st = c .before .before .before .before .before .before .before .before .before .before .args .structure in
     let v = c .before .before .before .before .before .before .before .value2 .given in
     let g = c .before .before .before .before .struct-told3 .given in
     let t = toZ-ofZ w64 (v .0 .0 .count) (record { sfits = omega arith }) in
-    let w : min (c .before .before .before .before .before .width-of .result) 8 ≡ widthOf st =
-    omega (arith, c .before .before .before .before .before .width-of .ensures, width-most st) in
+    let w : min (at-width-of .width-of .result) 8 ≡ widthOf st =
+    omega (arith, at-width-of .width-of .ensures, width-most st) in
     rw (
       v .1,
-      c .before .before .before .before .before .before .before .before .before .is-binary .ensures,
+      at-is-binary .is-binary .ensures,
       c .before .before .before .fits-binary .ensures ∙ (λ i. fitsBinary (w i) (t i)),
       c .before .is-below-zero2 .ensures ∙ ap belowZero t,
       c .may-fall2 .ensures,
     )
 
 returns-4 : tie.Need-returns-4
-returns-4 c = rw (
-  c .before .before .before .before .value3 .given .1,
-  c .before .before .date-exists .ensures,
-  c .before .time-exists .ensures,
-  c .weekday-exists .ensures,
-)
+returns-4 c =
+    let at-value3 = c .before .before .before .before in
+    rw (
+      at-value3 .value3 .given .1,
+      c .before .before .date-exists .ensures,
+      c .before .time-exists .ensures,
+      c .weekday-exists .ensures,
+    )
 
 pub wrong-value-spec : {M : Type 1} → statement M
 wrong-value-spec =

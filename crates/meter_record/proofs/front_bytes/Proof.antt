@@ -11,13 +11,15 @@ use Rattle.meter_record.proofs.front_bytes.Tie as tie
 
 returns : tie.Need-returns
 returns c =
+    let at-since-of = c .before .before .before .before .before .before in
+    let at-head-bytes = at-since-of .before in
     let m = c .before .before .before .before .before .before .before .before .before .args .m in
     let k = m .core in
     let mode = c .before .before .before .before .before .before .before .before .mode-of .ensures in
     record-made (replicate 56 0) (meterHead (m .last .0) (k .address) (k .mode)) (coreWords k) [] (search needs)
-    (c .before .before .before .before .before .before .before .head-bytes .ensures ∙ ap (meterHead (m .last .0) (k .address)) mode)
+    (at-head-bytes .head-bytes .ensures ∙ ap (meterHead (m .last .0) (k .address)) mode)
     (ap (λ (n : ℕ). n ∷ k .used .volume ∷ k .used .energy ∷ k .verified .volume ∷ k .verified .energy ∷ [])
-    (c .before .before .before .before .before .before .since-of .ensures ∙ ap sinceOf mode))
+    (at-since-of .since-of .ensures ∙ ap sinceOf mode))
     refl (c .before .put-record .ensures)
 
 pub front-bytes-spec : {M : Type 1} → statement M

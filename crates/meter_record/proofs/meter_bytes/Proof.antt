@@ -7,11 +7,15 @@ use Rattle.meter_record.proofs.meter_bytes.Tie as tie
 
 returns : tie.Need-returns
 returns c =
-    front-laid (replicate 192 0) (c .before .before .before .before .before .before .before .before .before .before .args .m)
+    let at-lay = c .before .before .before .before .before in
+    let at-telegram-bytes = at-lay .before .before .before in
+    let at-front-bytes = at-telegram-bytes .before in
+    let start = at-front-bytes .before in
+    front-laid (replicate 192 0) (start .args .m)
     (search needs) (search needs) (search needs)
-    (c .before .before .before .before .before .before .before .before .before .front-bytes .ensures)
-    (c .before .before .before .before .before .before .before .before .telegram-bytes .ensures)
-    (c .before .before .before .before .before .lay .ensures) (c .before .lay2 .ensures)
+    (at-front-bytes .front-bytes .ensures)
+    (at-telegram-bytes .telegram-bytes .ensures)
+    (at-lay .lay .ensures) (c .before .lay2 .ensures)
 
 pub meter-bytes-spec : {M : Type 1} → statement M
 meter-bytes-spec =

@@ -7,13 +7,16 @@ use Rattle.meter_record.proofs.meter_in.Tie as tie
 returns : tie.Need-returns
 unfolding meterIn
 returns c =
+    let at-number-at2 = c .before .before .before .before in
+    let at-mode-in = at-number-at2 .before in
+    let at-number-at = at-mode-in .before in
     rw (
       c .before .number-at5 .ensures .so,
       c .before .before .number-at4 .ensures .so,
       c .before .before .before .number-at3 .ensures .so,
-      c .before .before .before .before .number-at2 .ensures .so,
-      c .before .before .before .before .before .mode-in .ensures,
-      c .before .before .before .before .before .before .number-at .ensures .so,
+      at-number-at2 .number-at2 .ensures .so,
+      at-mode-in .mode-in .ensures,
+      at-number-at .number-at .ensures .so,
     )
 
 pub meter-in-spec : {M : Type 1} → statement M

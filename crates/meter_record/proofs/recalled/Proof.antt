@@ -20,33 +20,45 @@ behind c =
     ∙ c .before .before .pre .1
 
 slice-aggregate-is-same : tie.Need-slice-aggregate-is-same
-slice-aggregate-is-same c = omega (arith, c .before .before .before .before .pre .0, length-take 56 (now (c .before .before .before .before .args .b)))
+slice-aggregate-is-same c =
+    let start = c .before .before .before .before in
+    omega (arith, start .pre .0, length-take 56 (now (start .args .b)))
 
 returns : tie.Need-returns
 returns c =
-    let b = now (c .before .before .before .before .before .before .before .before .args .b) in
-    c .no-meter .ensures ∙ sym (ap shownSetup (recalled-other b (c .before .before .before .before .before .before .meter-in .result)
-    (behind (c .before .before .before .before .before .before))
-    (c .before .before .before .before .before .front-bytes .ensures) (c .before .before .is-same .ensures) (c .before .if1 .taken)))
-    ∙ ap (λ (m : Meter). shownSetup (recalled b m)) (c .before .before .before .before .before .before .meter-in .ensures)
+    let at-front-bytes = c .before .before .before .before .before in
+    let at-meter-in = at-front-bytes .before in
+    let start = at-meter-in .before .before in
+    let b = now (start .args .b) in
+    c .no-meter .ensures ∙ sym (ap shownSetup (recalled-other b (at-meter-in .meter-in .result)
+    (behind (at-meter-in))
+    (at-front-bytes .front-bytes .ensures) (c .before .before .is-same .ensures) (c .before .if1 .taken)))
+    ∙ ap (λ (m : Meter). shownSetup (recalled b m)) (at-meter-in .meter-in .ensures)
 
 returns-2 : tie.Need-returns-2
 returns-2 c =
-    let b = now (c .before .before .before .before .before .before .before .before .before .before .args .b) in
-    c .no-meter2 .ensures ∙ sym (ap shownSetup (recalled-unreached b (c .before .before .before .before .before .before .before .before .meter-in .result)
-    (behind (c .before .before .before .before .before .before .before .before))
-    (c .before .before .before .before .before .before .before .front-bytes .ensures) (c .before .before .before .before .is-same .ensures)
+    let at-is-same = c .before .before .before .before in
+    let at-front-bytes = at-is-same .before .before .before in
+    let at-meter-in = at-front-bytes .before in
+    let start = at-meter-in .before .before in
+    let b = now (start .args .b) in
+    c .no-meter2 .ensures ∙ sym (ap shownSetup (recalled-unreached b (at-meter-in .meter-in .result)
+    (behind (at-meter-in))
+    (at-front-bytes .front-bytes .ensures) (at-is-same .is-same .ensures)
     (c .before .before .is-unreached .ensures) (c .before .before .before .if1 .left) (c .before .if2 .taken)))
-    ∙ ap (λ (m : Meter). shownSetup (recalled b m)) (c .before .before .before .before .before .before .before .before .meter-in .ensures)
+    ∙ ap (λ (m : Meter). shownSetup (recalled b m)) (at-meter-in .meter-in .ensures)
 
 returns-3 : tie.Need-returns-3
 returns-3 c =
-    let b = now (c .before .before .before .before .before .before .before .before .before .args .b) in
-    sym (ap shownSetup (recalled-same b (c .before .before .before .before .before .before .before .meter-in .result)
-    (behind (c .before .before .before .before .before .before .before))
-    (c .before .before .before .before .before .before .front-bytes .ensures) (c .before .before .before .is-same .ensures) (c .before .is-unreached .ensures)
+    let at-front-bytes = c .before .before .before .before .before .before in
+    let at-meter-in = at-front-bytes .before in
+    let start = at-meter-in .before .before in
+    let b = now (start .args .b) in
+    sym (ap shownSetup (recalled-same b (at-meter-in .meter-in .result)
+    (behind (at-meter-in))
+    (at-front-bytes .front-bytes .ensures) (c .before .before .before .is-same .ensures) (c .before .is-unreached .ensures)
     (c .before .before .if1 .left) (c .if2 .left)))
-    ∙ ap (λ (m : Meter). shownSetup (recalled b m)) (c .before .before .before .before .before .before .before .meter-in .ensures)
+    ∙ ap (λ (m : Meter). shownSetup (recalled b m)) (at-meter-in .meter-in .ensures)
 
 pub recalled-spec : {M : Type 1} → statement M
 recalled-spec =

@@ -8,11 +8,13 @@ returns : tie.Need-returns
 returns c = rw (sym (c .before .before .holds .ensures) ∙ c .before .if1 .taken) (c .counted .ensures)
 
 returns-2 : tie.Need-returns-2
-returns-2 c = rw (
-  sym (c .before .before .before .before .holds .ensures) ∙ c .before .before .before .if1 .left,
-  sym (c .before .before .holds2 .ensures)
-      ∙ c .before .if2 .taken,
-) (c .counted2 .ensures)
+returns-2 c =
+    let at-holds = c .before .before .before .before in
+    rw (
+      sym (at-holds .holds .ensures) ∙ c .before .before .before .if1 .left,
+      sym (c .before .before .holds2 .ensures)
+          ∙ c .before .if2 .taken,
+    ) (c .counted2 .ensures)
 
 returns-3 : tie.Need-returns-3
 returns-3 c = rw (sym (c .before .before .before .holds .ensures) ∙ c .before .before .if1 .left, sym (c .before .holds2 .ensures) ∙ c .if2 .left)

@@ -23,7 +23,8 @@ loop-holds c = (gathered-none, gathered-none)
 
 loop-again : tie.Need-loop-again Inv-loop μ-loop
 loop-again c =
-    let seven : length (c .before .before .before .before .before .args .t1) ≡ 7 = search needs in
+    let start = c .before .before .before .before .before in
+    let seven : length (start .args .t1) ≡ 7 = search needs in
     let known = c .before .before .before .before .loop .inv in
     (rw (c .before .holds .ensures) (gathered-next _ (known .0) (omega arith)), rw (c .holds2 .ensures) (gathered-next _ (known .1) (omega arith)))
 

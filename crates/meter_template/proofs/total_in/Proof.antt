@@ -22,18 +22,20 @@ loop-holds c = refl
 
 returns : tie.Need-returns Inv-loop μ-loop
 returns c =
+    let at-loop = c .before .before .before .before .before in
     let a = c .before .before .before .before .before .before .args in
-    let i = c .before .before .before .before .before .loop .i in
+    let i = at-loop .loop .i in
     let seven : length (a .t1) ≡ 7 = search needs in
     c .count-of .ensures ∙ sym (total-here (a .quantity) (a .t1) i _ (omega arith) (sym (c .before .before .holds .ensures) ∙ c .before .if1 .taken))
-    ∙ c .before .before .before .before .before .loop .inv
+    ∙ at-loop .loop .inv
 
 loop-again : tie.Need-loop-again Inv-loop μ-loop
 loop-again c =
+    let at-loop = c .before .before .before .before in
     let a = c .before .before .before .before .before .args in
-    let i = c .before .before .before .before .loop .i in
+    let i = at-loop .loop .i in
     let seven : length (a .t1) ≡ 7 = search needs in
-    total-next (a .quantity) (a .t1) i _ (omega arith) (sym (c .before .holds .ensures) ∙ c .if1 .left) ∙ c .before .before .before .before .loop .inv
+    total-next (a .quantity) (a .t1) i _ (omega arith) (sym (c .before .holds .ensures) ∙ c .if1 .left) ∙ at-loop .loop .inv
 
 returns-2 : tie.Need-returns-2 Inv-loop μ-loop
 returns-2 c =

@@ -12,7 +12,9 @@ slice-aggregate-put c =
     sym (length-take-le (word .result .size) (word .result .bytes) (omega arith))
 
 returns : tie.Need-returns
-returns c = rw (← (c .before .before .before .before .before .before .word-of .ensures .so)) (c .before .before .put .ensures)
+returns c =
+    let at-word-of = c .before .before .before .before .before .before in
+    rw (← (at-word-of .word-of .ensures .so)) (c .before .before .put .ensures)
 
 pub put-word-spec : {M : Type 1} → statement M
 put-word-spec =

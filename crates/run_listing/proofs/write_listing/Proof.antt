@@ -43,7 +43,8 @@ returns c =
 
 returns-2 : tie.Need-returns-2
 returns-2 c =
-    let size : 24605 ≡ length (c .before .before .before .before .before .before .before .before .before .before .before .before .args .out .now) =
+    let start = c .before .before .before .before .before .before .before .before .before .before .before .before in
+    let size : 24605 ≡ length (start .args .out .now) =
     search needs in
     let back4 = c .before .before .before .before in
     let back6 = back4 .before .before in

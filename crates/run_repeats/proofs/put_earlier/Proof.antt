@@ -16,7 +16,9 @@ loop-holds : tie.Need-loop-holds Inv-loop μ-loop
 loop-holds c = putting-none (c .before .before .pre .0 .accepted) (c .before .before .pre .1)
 
 earlier-of-requires : tie.Need-earlier-of-requires Inv-loop μ-loop
-earlier-of-requires c κs = (c .before .before .before .before .pre .0, c .loop-test .taken)
+earlier-of-requires c κs =
+    let start = c .before .before .before .before in
+    (start .pre .0, c .loop-test .taken)
 
 slice-write-rows : tie.Need-slice-write-rows Inv-loop μ-loop
 slice-write-rows c = omega (arith, c .before .loop-test .taken, c .before .before .loop .inv .room, c .before .before .loop .inv .size)

@@ -17,9 +17,10 @@ returns-2 c =
 
 returns-3 : tie.Need-returns-3
 returns-3 c =
+    let at-if1 = c .before .before .before .before in
     let a = c .before .before .before .before .before .before .args in
     rw (
-      here (now (a .bytes)) (a .at) (c .before .before .before .before .if1 .left),
+      here (now (a .bytes)) (a .at) (at-if1 .if1 .left),
       ne-eqb _ _ (c .before .before .if2 .left),
       eq-eqb _ _ (c .before .if3 .taken),
       c .after-zero .ensures,
@@ -27,9 +28,10 @@ returns-3 c =
 
 returns-4 : tie.Need-returns-4
 returns-4 c =
+    let at-if1 = c .before .before .before .before in
     let a = c .before .before .before .before .before .before .args in
     rw (
-      here (now (a .bytes)) (a .at) (c .before .before .before .before .if1 .left),
+      here (now (a .bytes)) (a .at) (at-if1 .if1 .left),
       ne-eqb _ _ (c .before .before .if2 .left),
       ne-eqb _ _ (c .before .if3 .left),
       c .wrong .ensures,

@@ -19,29 +19,39 @@ loop-holds : tie.Need-loop-holds Inv-loop μ-loop
 loop-holds c = along-none (now (c .before .before .args .bytes)) (now (c .before .before .args .characters))
 
 same-length : tie.Need-same-length Inv-loop μ-loop
-same-length c = along-length (c .before .before .before .before .loop .inv)
+same-length c =
+    let at-loop = c .before .before .before .before in
+    along-length (at-loop .loop .inv)
 
 returns : tie.Need-returns Inv-loop μ-loop
-returns c = along-stop (c .before .before .before .before .loop .inv) (sym (c .before .before .first-at .ensures) ∙ c .enum-told .given .1)
+returns c =
+    let at-loop = c .before .before .before .before in
+    along-stop (at-loop .loop .inv) (sym (c .before .before .first-at .ensures) ∙ c .enum-told .given .1)
 
 mul-characters : tie.Need-mul-characters Inv-loop μ-loop
-mul-characters c = let n = along-length (c .before .before .before .before .before .loop .inv) in omega arith
+mul-characters c =
+    let at-loop = c .before .before .before .before .before in
+    let n = along-length (at-loop .loop .inv) in omega arith
 
 add-used : tie.Need-add-used Inv-loop μ-loop
 add-used c =
+    let at-loop = c .before .before .before .before .before in
     omega (
       arith,
-      along-inside (c .before .before .before .before .before .loop .inv)
+      along-inside (at-loop .loop .inv)
           (sym (c .before .before .before .first-at .ensures) ∙ c .before .next .given .1),
     )
 
 loop-less : tie.Need-loop-less Inv-loop μ-loop
-loop-less c = omega (arith, along-length (c .before .before .before .before .before .loop .inv))
+loop-less c =
+    let at-loop = c .before .before .before .before .before in
+    omega (arith, along-length (at-loop .loop .inv))
 
 loop-again : tie.Need-loop-again Inv-loop μ-loop
 loop-again c =
-    along-next (c .before .before .before .before .before .loop .inv) (sym (c .before .before .before .first-at .ensures) ∙ c .before .next .given .1)
-    (omega (arith, along-length (c .before .before .before .before .before .loop .inv)))
+    let at-loop = c .before .before .before .before .before in
+    along-next (at-loop .loop .inv) (sym (c .before .before .before .first-at .ensures) ∙ c .before .next .given .1)
+    (omega (arith, along-length (at-loop .loop .inv)))
 
 same-length-2 : tie.Need-same-length-2 Inv-loop μ-loop
 same-length-2 c = along-length (c .before .loop .inv)

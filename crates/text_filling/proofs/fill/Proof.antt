@@ -21,20 +21,23 @@ loop-holds c = (search needs, search needs, left-all (search needs) (search need
 
 loop-again : tie.Need-loop-again Inv-loop μ-loop
 loop-again c =
+    let at-number-or-none = c .before .before .before .before in
+    let at-if1 = at-number-or-none .before in
     let at-loop = c .before .before .before .before .before .before .before .before in
     let a = at-loop .before .before .before .before .args in
     let inv = at-loop .loop .inv in
     let next = filledWith-hole (a .template .now) (a .numbers .now) (at-loop .loop .i) (at-loop .loop .used) (omega arith)
-    (c .before .before .before .before .before .if1 .taken) (c .before .before .before .before .number-or-none .ensures) in
+    (at-if1 .if1 .taken) (at-number-or-none .number-or-none .ensures) in
     (omega arith, omega arith, left-next (inv .2) next (c .before .before .put-number .ensures))
 
 loop-again-2 : tie.Need-loop-again-2 Inv-loop μ-loop
 loop-again-2 c =
+    let at-if1 = c .before .before .before .before in
     let at-loop = c .before .before .before .before .before .before .before in
     let a = at-loop .before .before .before .before .args in
     let inv = at-loop .loop .inv in
     let next = filledWith-byte (a .template .now) (a .numbers .now) (at-loop .loop .i) (at-loop .loop .used) (omega arith)
-    (c .before .before .before .before .if1 .left) in
+    (at-if1 .if1 .left) in
     (omega arith, omega arith, left-next (inv .2) next (c .before .before .put-byte .ensures))
 
 same-length : tie.Need-same-length Inv-loop μ-loop

@@ -30,7 +30,8 @@ same-length c = c .before .loop .inv .same
 
 returns : tie.Need-returns Inv-loop μ-loop
 returns c =
-    let none = drop-of-length-le (c .before .before .before .before .args .bytes .now) (c .loop-test .left) in
+    let start = c .before .before .before .before in
+    let none = drop-of-length-le (start .args .bytes .now) (c .loop-test .left) in
     left-none (rw none at (c .before .loop .inv))
 
 pub put-spec : {M : Type 1} → statement M

@@ -22,9 +22,10 @@ returns c = skipped-here (c .before .before .loop .inv) (c .if1 .taken)
 
 loop-again : tie.Need-loop-again Inv-loop μ-loop
 loop-again c =
-    let inv = c .before .before .before .before .loop .inv in
+    let at-loop = c .before .before .before .before in
+    let inv = at-loop .loop .inv in
     let inside = c .before .before .before .loop-test .taken in
-    let more : 0 < c .before .before .before .before .loop .left = omega arith in
+    let more : 0 < at-loop .loop .left = omega arith in
     ⊎-elim (λ w. rw (w .1) (skipped-feed inv inside more (w .0 .taken))) (λ w. rw (w .1) (skipped-on inv inside more (w .0 .left)))
     (c .if2 .came)
 

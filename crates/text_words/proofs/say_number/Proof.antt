@@ -10,7 +10,8 @@ use Rattle.text_words.proofs.say_number.Tie as tie
 
 returns-4 : tie.Need-returns-4
 returns-4 c =
-    let none : textOf (c .before .before .before .before .args .number) ≡ refusal 100 = no-words (c .before .before .before .before .args .number)
+    let start = c .before .before .before .before in
+    let none : textOf (start .args .number) ≡ refusal 100 = no-words (start .args .number)
     (omega arith) in
     record { answer = rw none; holds = rw none }
 

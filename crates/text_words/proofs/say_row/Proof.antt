@@ -15,7 +15,9 @@ located : (c : tie.After-row-size)
 located c = record { from = c .before .before .row-start .ensures .1; inside = c .row-size .ensures .0; found = c .row-size .ensures .1 }
 
 returns : tie.Need-returns
-returns c = row-missing (located (c .before)) (c .before .before .before .before .before .before .args .out .now) (c .if1 .taken)
+returns c =
+    let start = c .before .before .before .before .before .before in
+    row-missing (located (c .before)) (start .args .out .now) (c .if1 .taken)
 
 slice-aggregate-say : tie.Need-slice-aggregate-say
 slice-aggregate-say c = sym (size-in (located (c .before .before .before)))
@@ -25,7 +27,9 @@ say-requires c κs = omega (arith, size-in (located (c .before .before .before))
 
 returns-2 : tie.Need-returns-2
 returns-2 c =
-    row-said (located (c .before .before .before .before .before .before)) (c .before .before .before .before .before .if1 .left)
+    let at-if1 = c .before .before .before .before .before in
+    let earlier = at-if1 .before in
+    row-said (located (earlier)) (at-if1 .if1 .left)
     (c .before .before .say .ensures)
 
 pub say-row-spec : {M : Type 1} → statement M

@@ -17,10 +17,14 @@ loop-holds : tie.Need-loop-holds Inv-loop μ-loop
 loop-holds c = carried-none (c .before .before .pre)
 
 mul-out : tie.Need-mul-out Inv-loop μ-loop
-mul-out c = omega (arith, c .before .before .before .before .before .before .good)
+mul-out c =
+    let start = c .before .before .before .before .before .before in
+    omega (arith, start .good)
 
 slice-write-out : tie.Need-slice-write-out Inv-loop μ-loop
-slice-write-out c = let n = carried-length (c .before .before .before .loop .inv) in omega (arith, c .before .before .before .before .before .before .pre)
+slice-write-out c =
+    let start = c .before .before .before .before .before .before in
+    let n = carried-length (c .before .before .before .loop .inv) in omega (arith, start .pre)
 
 loop-again : tie.Need-loop-again Inv-loop μ-loop
 loop-again c = carried-next (c .before .before .before .loop .inv) (c .before .before .loop-test .taken) (c .carrier-of .ensures)

@@ -12,8 +12,9 @@ returns c =
 
 returns-2 : tie.Need-returns-2
 returns-2 c =
+    let at-if1 = c .before .before .before .before in
     let a = c .before .before .before .before .before .before .before .args in
-    bytes-written (now (a .bytes)) (now (a .out)) (c .before .before .before .before .if1 .left) (c .before .before .carry .ensures)
+    bytes-written (now (a .bytes)) (now (a .out)) (at-if1 .if1 .left) (c .before .before .carry .ensures)
 
 pub write-bytes-spec : {M : Type 1} → statement M
 write-bytes-spec = tie.close (tie.spec returns (λ c κs. search needs) (λ c. search needs) returns-2)

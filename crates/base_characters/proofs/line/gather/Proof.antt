@@ -26,17 +26,24 @@ shared-slice-read-c : tie.Need-shared-slice-read-c Inv-loop μ-loop
 shared-slice-read-c c = let h = placed-in _ refl (c .before .before .loop .inv) (c .before .loop-test .taken) in omega arith
 
 slice-write-out : tie.Need-slice-write-out Inv-loop μ-loop
-slice-write-out c = let h = placed-in _ refl (c .before .before .before .before .loop .inv) (c .before .before .before .loop-test .taken) in h .1
+slice-write-out c =
+    let at-loop = c .before .before .before .before in
+    let h = placed-in _ refl (at-loop .loop .inv) (c .before .before .before .loop-test .taken) in h .1
 
 add-i : tie.Need-add-i Inv-loop μ-loop
-add-i c = let h = placed-in _ refl (c .before .before .before .before .loop .inv) (c .before .before .before .loop-test .taken) in omega arith
+add-i c =
+    let at-loop = c .before .before .before .before in
+    let h = placed-in _ refl (at-loop .loop .inv) (c .before .before .before .loop-test .taken) in omega arith
 
 loop-less : tie.Need-loop-less Inv-loop μ-loop
-loop-less c = let h = placed-in _ refl (c .before .before .before .before .loop .inv) (c .before .before .before .loop-test .taken) in omega arith
+loop-less c =
+    let at-loop = c .before .before .before .before in
+    let h = placed-in _ refl (at-loop .loop .inv) (c .before .before .before .loop-test .taken) in omega arith
 
 loop-again : tie.Need-loop-again Inv-loop μ-loop
 loop-again c =
-    let line = now (c .before .before .before .before .before .before .before .args .line) in
+    let start = c .before .before .before .before .before .before .before in
+    let line = now (start .args .line) in
     let w = c .before .before .before .before .loop .inv in
     let test = c .before .before .before .loop-test .taken in
     rw (c .wrapping-add-u16 .ensures)
@@ -47,7 +54,8 @@ same-length c = copied-length (c .before .before .loop .inv .stored)
 
 returns : tie.Need-returns Inv-loop μ-loop
 returns c =
-    let line = now (c .before .before .before .before .before .args .line) in
+    let start = c .before .before .before .before .before in
+    let line = now (start .args .line) in
     let w = c .before .before .loop .inv in
     let end = placed-all line refl w (c .before .loop-test .left) in
     (walk-all w end (c .told-by .ensures), walk-stored w end)

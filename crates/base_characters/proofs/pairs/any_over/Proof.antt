@@ -18,7 +18,9 @@ loop-holds : tie.Need-loop-holds Inv-loop μ-loop
 loop-holds c = gathered-none
 
 loop-again : tie.Need-loop-again Inv-loop μ-loop
-loop-again c = characters-next (now (c .before .before .before .before .args .bytes)) (c .before .before .loop .inv) (c .before .loop-test .taken)
+loop-again c =
+    let start = c .before .before .before .before in
+    characters-next (now (start .args .bytes)) (c .before .before .loop .inv) (c .before .loop-test .taken)
     (c .character-at .ensures)
 
 returns : tie.Need-returns Inv-loop μ-loop

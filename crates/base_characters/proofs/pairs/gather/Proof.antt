@@ -27,8 +27,9 @@ counted c = fewer-all (line c) (places c) (sym (length-characters (now (c .befor
 
 gather-short-requires : tie.Need-gather-short-requires
 gather-short-requires c κs =
+    let start = c .before .before .before .before .before in
     let h = counted (c .before .before) in
-    (omega (arith, h .0, length-characters (now (c .before .before .before .before .before .args .bytes))), h .1)
+    (omega (arith, h .0, length-characters (now (start .args .bytes))), h .1)
 
 returns : tie.Need-returns
 returns c =
@@ -39,8 +40,9 @@ returns c =
 
 gather-long-requires : tie.Need-gather-long-requires
 gather-long-requires c κs =
+    let start = c .before .before .before .before .before in
     let h = counted (c .before .before) in
-    (c .before .if1 .left, omega (arith, h .0, length-characters (now (c .before .before .before .before .before .args .bytes))), h .1)
+    (c .before .if1 .left, omega (arith, h .0, length-characters (now (start .args .bytes))), h .1)
 
 returns-2 : tie.Need-returns-2
 returns-2 c =

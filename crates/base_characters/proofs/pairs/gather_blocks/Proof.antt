@@ -33,7 +33,9 @@ loop-holds c =
     ))
 
 pair-at-requires : tie.Need-pair-at-requires Inv-loop μ-loop
-pair-at-requires c κs = omega (arith, c .loop-test .taken, c .before .before .before .before .pre .0)
+pair-at-requires c κs =
+    let start = c .before .before .before .before in
+    omega (arith, c .loop-test .taken, start .pre .0)
 
 slice-write-out : tie.Need-slice-write-out Inv-loop μ-loop
 slice-write-out c =
@@ -48,12 +50,14 @@ loop-less c = omega (arith, c .before .before .before .loop-test .taken)
 
 loop-again : tie.Need-loop-again Inv-loop μ-loop
 loop-again c =
-    let a = c .before .before .before .before .before .before .before .args in
+    let at-loop = c .before .before .before .before in
+    let start = at-loop .before .before .before in
+    let a = start .args in
     let l = chars (now (a .bytes)) in
-    let most : a .whole ≤ length l = omega (arith, c .before .before .before .before .before .before .before .pre .0, length-characters (now (a .bytes))) in
-    let i = c .before .before .before .before .loop .i in
+    let most : a .whole ≤ length l = omega (arith, start .pre .0, length-characters (now (a .bytes))) in
+    let i = at-loop .loop .i in
     rw (c .wrapping-add-u16 .ensures)
-    (walk-first (c .before .before .before .before .loop .inv) (omega (arith, c .before .before .before .loop-test .taken, length-take-le (a .whole) l most))
+    (walk-first (at-loop .loop .inv) (omega (arith, c .before .before .before .loop-test .taken, length-take-le (a .whole) l most))
     (c .before .before .pair-at .ensures ∙ sym (getD-take (a .whole) l i 0 (c .before .before .before .loop-test .taken))) (c .before .folded .ensures))
 
 same-length : tie.Need-same-length Inv-loop μ-loop
@@ -61,9 +65,10 @@ same-length c = copied-length (c .before .loop .inv .stored)
 
 returns : tie.Need-returns Inv-loop μ-loop
 returns c =
-    let a = c .before .before .before .before .args in
+    let start = c .before .before .before .before in
+    let a = start .args in
     let l = chars (now (a .bytes)) in
-    let most : a .whole ≤ length l = omega (arith, c .before .before .before .before .pre .0, length-characters (now (a .bytes))) in
+    let most : a .whole ≤ length l = omega (arith, start .pre .0, length-characters (now (a .bytes))) in
     let end : length (take (a .whole) l) ≤ c .before .loop .i = omega (arith, c .loop-test .left, length-take-le (a .whole) l most) in
     (walk-parted (c .before .loop .inv) end, walk-stored (c .before .loop .inv) end)
 

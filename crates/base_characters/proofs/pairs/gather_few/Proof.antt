@@ -34,18 +34,23 @@ add-pair-at : tie.Need-add-pair-at Inv-loop μ-loop
 add-pair-at c = omega (arith, c .loop-test .taken)
 
 pair-at-requires : tie.Need-pair-at-requires Inv-loop μ-loop
-pair-at-requires c κs = omega (arith, c .loop-test .taken, c .before .before .before .before .pre .1)
+pair-at-requires c κs =
+    let start = c .before .before .before .before in
+    omega (arith, c .loop-test .taken, start .pre .1)
 
 add-out : tie.Need-add-out Inv-loop μ-loop
 add-out c = omega (arith, c .before .before .before .loop-test .taken)
 
 slice-write-out : tie.Need-slice-write-out Inv-loop μ-loop
-slice-write-out c = omega (
-  arith,
-  c .before .before .before .loop-test .taken,
-  c .before .before .before .before .before .before .before .pre .2,
-  copied-length (c .before .before .before .before .loop .inv .stored),
-)
+slice-write-out c =
+    let at-loop = c .before .before .before .before in
+    let start = at-loop .before .before .before in
+    omega (
+      arith,
+      c .before .before .before .loop-test .taken,
+      start .pre .2,
+      copied-length (at-loop .loop .inv .stored),
+    )
 
 add-i : tie.Need-add-i Inv-loop μ-loop
 add-i c = omega (arith, c .before .before .before .loop-test .taken)
@@ -55,13 +60,15 @@ loop-less c = omega (arith, c .before .before .before .loop-test .taken)
 
 loop-again : tie.Need-loop-again Inv-loop μ-loop
 loop-again c =
-    let a = c .before .before .before .before .before .before .before .args in
+    let at-loop = c .before .before .before .before in
+    let start = at-loop .before .before .before in
+    let a = start .args in
     let l = chars (now (a .bytes)) in
-    let to : a .count ≤ length l = omega (arith, c .before .before .before .before .before .before .before .pre .1, length-characters (now (a .bytes))) in
+    let to : a .count ≤ length l = omega (arith, start .pre .1, length-characters (now (a .bytes))) in
     let test = c .before .before .before .loop-test .taken in
     rw (c .wrapping-add-u16 .ensures)
-    (walk-next (c .before .before .before .before .loop .inv) (omega (arith, test, part-length l (a .from) to))
-    (c .before .before .pair-at .ensures ∙ sym (part-at l (a .from) to (c .before .before .before .before .loop .i) (omega (arith, test))))
+    (walk-next (at-loop .loop .inv) (omega (arith, test, part-length l (a .from) to))
+    (c .before .before .pair-at .ensures ∙ sym (part-at l (a .from) to (at-loop .loop .i) (omega (arith, test))))
     (c .before .counted .ensures))
 
 same-length : tie.Need-same-length Inv-loop μ-loop
@@ -69,9 +76,10 @@ same-length c = copied-length (c .before .loop .inv .stored)
 
 returns : tie.Need-returns Inv-loop μ-loop
 returns c =
-    let a = c .before .before .before .before .args in
+    let start = c .before .before .before .before in
+    let a = start .args in
     let l = chars (now (a .bytes)) in
-    let to : a .count ≤ length l = omega (arith, c .before .before .before .before .pre .1, length-characters (now (a .bytes))) in
+    let to : a .count ≤ length l = omega (arith, start .pre .1, length-characters (now (a .bytes))) in
     let end : length (drop (a .from) (take (a .count) l)) ≤ c .before .loop .i = omega (arith, c .loop-test .left, part-length l (a .from) to) in
     (walk-parted (c .before .loop .inv) end, walk-stored (c .before .loop .inv) end)
 

@@ -31,10 +31,14 @@ loop-holds c =
     last-none (take (a .count) l) (length-take-le (a .count) l to) (pre .0) (pre .2)
 
 add-i : tie.Need-add-i Inv-loop μ-loop
-add-i c = omega (arith, c .loop-test .taken, c .before .before .before .before .pre .0)
+add-i c =
+    let start = c .before .before .before .before in
+    omega (arith, c .loop-test .taken, start .pre .0)
 
 pair-at-requires : tie.Need-pair-at-requires Inv-loop μ-loop
-pair-at-requires c κs = omega (arith, c .loop-test .taken, c .before .before .before .before .pre .0, c .before .before .before .before .pre .1)
+pair-at-requires c κs =
+    let start = c .before .before .before .before in
+    omega (arith, c .loop-test .taken, start .pre .0, start .pre .1)
 
 add-c : tie.Need-add-c Inv-loop μ-loop
 add-c c = omega (arith, c .before .loop-test .taken)
@@ -47,13 +51,16 @@ mul-c c =
     omega (arith, times-one (c .pair-at .result) ((n % 16 + 16 + j) / 32) k)
 
 slice-write-out : tie.Need-slice-write-out Inv-loop μ-loop
-slice-write-out c = omega (
-  arith,
-  c .before .before .before .loop-test .taken,
-  c .before .before .before .before .before .before .before .pre .0,
-  c .before .before .before .before .before .before .before .pre .2,
-  copied-length (c .before .before .before .before .loop .inv .stored),
-)
+slice-write-out c =
+    let at-loop = c .before .before .before .before in
+    let start = at-loop .before .before .before in
+    omega (
+      arith,
+      c .before .before .before .loop-test .taken,
+      start .pre .0,
+      start .pre .2,
+      copied-length (at-loop .loop .inv .stored),
+    )
 
 add-j : tie.Need-add-j Inv-loop μ-loop
 add-j c = omega (arith, c .before .before .before .loop-test .taken)
@@ -63,14 +70,15 @@ loop-less c = omega (arith, c .before .before .before .loop-test .taken)
 
 loop-again : tie.Need-loop-again Inv-loop μ-loop
 loop-again c =
+    let at-loop = c .before .before .before .before in
     let a = c .before .before .before .before .before .before .before .args in
     let pre = c .before .before .before .before .before .before .before .pre in
     let l = chars (now (a .bytes)) in
     let to : a .count ≤ length l = omega (arith, pre .1, length-characters (now (a .bytes))) in
     let test = c .before .before .before .loop-test .taken in
-    let i = a .count - 16 + c .before .before .before .before .loop .j in
+    let i = a .count - 16 + at-loop .loop .j in
     rw (c .wrapping-add-u16 .ensures)
-    (last-turn (take (a .count) l) (length-take-le (a .count) l to) (pre .0) (c .before .before .before .before .loop .inv) test
+    (last-turn (take (a .count) l) (length-take-le (a .count) l to) (pre .0) (at-loop .loop .inv) test
     (c .before .before .pair-at .ensures ∙ sym (getD-take (a .count) l i 0 (omega (arith, pre .0, test)))) refl (c .before .folded .ensures))
 
 same-length : tie.Need-same-length Inv-loop μ-loop

@@ -29,7 +29,8 @@ loop-less c = omega arith
 
 loop-again : tie.Need-loop-again Inv-loop μ-loop
 loop-again c =
-    let b = now (c .before .before .before .before .before .args .bytes) in (
+    let start = c .before .before .before .before .before in
+    let b = now (start .args .bytes) in (
       omega arith,
       flagged-next (chars b) (c .before .before .before .loop .inv .1) (omega (arith, length-characters b)) (c .before .character-at .ensures)
           (c .folded .ensures),
@@ -37,7 +38,8 @@ loop-again c =
 
 returns : tie.Need-returns Inv-loop μ-loop
 returns c =
-    let b = now (c .before .before .before .before .args .bytes) in
+    let start = c .before .before .before .before in
+    let b = now (start .args .bytes) in
     c .told-by .ensures ∙ flagged-all (chars b) (c .before .before .loop .i) (c .before .before .loop .inv .1) (omega (arith, length-characters b))
 
 pub soundness-of-spec : {M : Type 1} → statement M

@@ -16,7 +16,9 @@ loop-holds : tie.Need-loop-holds Inv-loop μ-loop
 loop-holds c = along-none (c .before .pre .0) (c .before .pre .1)
 
 add-end : tie.Need-add-end Inv-loop μ-loop
-add-end c = omega (arith, c .before .struct-known .given, c .before .before .before .before .loop .inv .near)
+add-end c =
+    let at-loop = c .before .before .before .before in
+    omega (arith, c .before .struct-known .given, at-loop .loop .inv .near)
 
 loop-again : tie.Need-loop-again Inv-loop μ-loop
 loop-again c =

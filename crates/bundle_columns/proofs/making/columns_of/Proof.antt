@@ -18,17 +18,22 @@ use Rattle.bundle_columns.proofs.making.columns_of.Tie as tie
 counted : (c : tie.After-known-told)
     → checkOf (now (c .before .before .before .before .before .before .before .args .bundle)) ≡ reads (c .before .count .given .0 .0)
 counted c =
-    shownChecked-same (checkOf (now (c .before .before .before .before .before .before .before .args .bundle))) (reads (c .before .count .given .0 .0))
+    let start = c .before .before .before .before .before .before .before in
+    shownChecked-same (checkOf (now (start .args .bundle))) (reads (c .before .count .given .0 .0))
     (sym (c .before .before .before .check .ensures) ∙ c .before .count .given .1)
 
 few : (c : tie.After-known-told) → c .before .count .given .0 .0 ≤ mostRows
-few c = few-rows (now (c .before .before .before .before .before .before .before .args .bundle)) (c .before .count .given .0 .0) (counted c)
+few c =
+    let start = c .before .before .before .before .before .before .before in
+    few-rows (now (start .args .bundle)) (c .before .count .given .0 .0) (counted c)
 
 returns : tie.Need-returns
 returns c = let a = c .before .before .before .args in made-short (now (a .bundle)) (now (a .out)) (c .if1 .taken)
 
 put-bytes-requires : tie.Need-put-bytes-requires
-put-bytes-requires c κs = (few (c .before), omega (arith, ltb-false, c .before .before .before .before .before .if1 .left))
+put-bytes-requires c κs =
+    let at-if1 = c .before .before .before .before .before in
+    (few (c .before), omega (arith, ltb-false, at-if1 .if1 .left))
 
 put-words-requires : tie.Need-put-words-requires
 put-words-requires c κs =

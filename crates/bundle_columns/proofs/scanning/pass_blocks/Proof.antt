@@ -19,11 +19,15 @@ loop-holds : tie.Need-loop-holds Inv-loop μ-loop
 loop-holds c = passed-none (c .before .pre .0)
 
 returns : tie.Need-returns Inv-loop μ-loop
-returns c = c .before .before .before .before .loop .inv
+returns c =
+    let at-loop = c .before .before .before .before in
+    at-loop .loop .inv
 
 loop-again : tie.Need-loop-again Inv-loop μ-loop
 loop-again c =
-    passed-block (c .before .before .before .before .loop .inv) (c .before .before .before .before .before .before .args .size)
+    let at-loop = c .before .before .before .before in
+    let start = at-loop .before .before in
+    passed-block (at-loop .loop .inv) (start .args .size)
     (c .before .before .before .loop-test .taken) (sym (c .before .has .ensures) ∙ c .if1 .left)
 
 returns-2 : tie.Need-returns-2 Inv-loop μ-loop

@@ -11,7 +11,8 @@ use Rattle.bundle_columns.proofs.writing.contents_of.Tie as tie
 -- the count as it was read
 counted : (c : tie.After-known-told) → Taken (now (c .before .before .before .before .before .before .args .columns)) (c .before .count .given .0 .0)
 counted c =
-    taken (now (c .before .before .before .before .before .before .args .columns)) (c .before .before .before .count-in .ensures) (c .before .count .given .1)
+    let start = c .before .before .before .before .before .before in
+    taken (now (start .args .columns)) (c .before .before .before .count-in .ensures) (c .before .count .given .1)
 
 mul-short : tie.Need-mul-short
 mul-short c = omega (arith, counted c .few)
@@ -26,9 +27,10 @@ returns c =
 
 put-rows-requires : tie.Need-put-rows-requires
 put-rows-requires c κs =
+    let at-if1 = c .before .before .before .before .before in
     let back6 = c .before .before .before .before .before .before in
     let t = counted back6 in
-    (t .size, t .few, omega (arith, ltb-false, c .before .before .before .before .before .if1 .left, c .before .before .before .put-number .kept .0))
+    (t .size, t .few, omega (arith, ltb-false, at-if1 .if1 .left, c .before .before .before .put-number .kept .0))
 
 returns-2 : tie.Need-returns-2
 returns-2 c =

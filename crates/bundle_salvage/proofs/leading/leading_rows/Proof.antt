@@ -26,7 +26,8 @@ rule-of-requires c κs = let g = c .before .before .loop .inv in (omega (arith, 
 
 returns : tie.Need-returns Inv-loop μ-loop
 returns c =
-    trying-broken (c .before .before .before .before .loop .inv) (c .before .before .before .loop-test .taken) (c .before .before .unchecked-row .ensures)
+    let at-loop = c .before .before .before .before in
+    trying-broken (at-loop .loop .inv) (c .before .before .before .loop-test .taken) (c .before .before .unchecked-row .ensures)
     (c .before .rule-of .ensures) (c .if1 .taken)
 
 add-at-2 : tie.Need-add-at-2 Inv-loop μ-loop
@@ -36,8 +37,9 @@ add-at-2 c =
 
 loop-again : tie.Need-loop-again Inv-loop μ-loop
 loop-again c =
+    let at-loop-test = c .before .before .before .before in
     let back5 = c .before .before .before .before .before in
-    trying-next (back5 .loop .inv) (c .before .before .before .before .loop-test .taken) (c .before .before .before .unchecked-row .ensures)
+    trying-next (back5 .loop .inv) (at-loop-test .loop-test .taken) (c .before .before .before .unchecked-row .ensures)
     (c .before .before .rule-of .ensures) (c .before .if1 .left)
 
 returns-2 : tie.Need-returns-2 Inv-loop μ-loop

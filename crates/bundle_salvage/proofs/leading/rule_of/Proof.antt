@@ -49,7 +49,9 @@ returns c =
     sym (rule-field (now (a .damaged)) (a .before) (a .at) (a .row) (field-is (c .before .before) ∙ c .if1 .taken))
 
 add-end : tie.Need-add-end
-add-end c = omega (arith, c .before .before .before .before .struct-known .given)
+add-end c =
+    let at-struct-known = c .before .before .before .before in
+    omega (arith, at-struct-known .struct-known .given)
 
 returns-2 : tie.Need-returns-2
 returns-2 c =
@@ -59,8 +61,9 @@ returns-2 c =
 
 returns-3 : tie.Need-returns-3
 returns-3 c =
+    let earlier = c .before .before .before .before in
     let a = c .before .before .before .before .before .before .before .before .args in
-    sym (rule-place (now (a .damaged)) (a .before) (a .at) (a .row) (field-is (c .before .before .before .before) ∙ c .before .before .if1 .left)
+    sym (rule-place (now (a .damaged)) (a .before) (a .at) (a .row) (field-is (earlier) ∙ c .before .before .if1 .left)
     (rw (eq-eqb (a .row .offset) (a .at) (c .before .if2 .left), lt-ltb (length (now (a .damaged))) (a .at + a .row .length) (c .if3 .taken))))
 
 returns-4 : tie.Need-returns-4

@@ -43,10 +43,14 @@ sub-offset c =
     )
 
 mul-lay : tie.Need-mul-lay Inv-loop μ-loop
-mul-lay c = let back8 = c .before .before .before .before .before .before .before .before in omega (arith, back8 .pre .0 .part, back8 .pre .0 .whole .few)
+mul-lay c =
+    let earlier = c .before .before .before .before .before .before .before .before in
+    let back8 = earlier in omega (arith, back8 .pre .0 .part, back8 .pre .0 .whole .few)
 
 add-lay : tie.Need-add-lay Inv-loop μ-loop
-add-lay c = let back8 = c .before .before .before .before .before .before .before .before in omega (arith, back8 .pre .0 .part, back8 .pre .0 .whole .few)
+add-lay c =
+    let earlier = c .before .before .before .before .before .before .before .before in
+    let back8 = earlier in omega (arith, back8 .pre .0 .part, back8 .pre .0 .whole .few)
 
 loop-again : tie.Need-loop-again Inv-loop μ-loop
 loop-again c =

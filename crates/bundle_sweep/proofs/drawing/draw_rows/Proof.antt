@@ -22,22 +22,34 @@ goes-at-requires : tie.Need-goes-at-requires Inv-loop μ-loop
 goes-at-requires c κs = drawing-inside (c .before .before .loop .inv) (c .before .loop-test .taken)
 
 mul-move-down : tie.Need-mul-move-down Inv-loop μ-loop
-mul-move-down c = let g = c .before .before .before .before .before .loop .inv in omega (arith, drawing-few g)
+mul-move-down c =
+    let at-loop = c .before .before .before .before .before in
+    let g = at-loop .loop .inv in omega (arith, drawing-few g)
 
 add-move-down : tie.Need-add-move-down Inv-loop μ-loop
-add-move-down c = let g = c .before .before .before .before .before .loop .inv in omega (arith, drawing-few g)
+add-move-down c =
+    let at-loop = c .before .before .before .before .before in
+    let g = at-loop .loop .inv in omega (arith, drawing-few g)
 
 mul-move-down-2 : tie.Need-mul-move-down-2 Inv-loop μ-loop
-mul-move-down-2 c = let g = c .before .before .before .before .before .loop .inv in omega (arith, g .few, drawing-few g)
+mul-move-down-2 c =
+    let at-loop = c .before .before .before .before .before in
+    let g = at-loop .loop .inv in omega (arith, g .few, drawing-few g)
 
 add-move-down-2 : tie.Need-add-move-down-2 Inv-loop μ-loop
-add-move-down-2 c = let g = c .before .before .before .before .before .loop .inv in omega (arith, g .few, drawing-few g)
+add-move-down-2 c =
+    let at-loop = c .before .before .before .before .before in
+    let g = at-loop .loop .inv in omega (arith, g .few, drawing-few g)
 
 move-down-requires : tie.Need-move-down-requires Inv-loop μ-loop
-move-down-requires c κs = let g = c .before .before .before .before .before .loop .inv in (omega (arith, g .few), omega (arith, drawing-whole g))
+move-down-requires c κs =
+    let at-loop = c .before .before .before .before .before in
+    let g = at-loop .loop .inv in (omega (arith, g .few), omega (arith, drawing-whole g))
 
 add-kept : tie.Need-add-kept Inv-loop μ-loop
-add-kept c = let g = c .before .before .before .before .before .before .before .before .loop .inv in omega (arith, g .few, drawing-few g)
+add-kept c =
+    let at-loop = c .before .before .before .before .before .before .before .before in
+    let g = at-loop .loop .inv in omega (arith, g .few, drawing-few g)
 
 loop-again : tie.Need-loop-again Inv-loop μ-loop
 loop-again c =

@@ -27,13 +27,19 @@ move-down-requires c κs =
     placing-room (back3 .before .before .before .loop .inv) (back3 .before .before .loop-test .taken) (back3 .unchecked-row .ensures)
 
 cast-offset : tie.Need-cast-offset Inv-loop μ-loop
-cast-offset c = omega (arith, placing-near (c .before .before .before .before .before .before .before .before .before .loop .inv))
+cast-offset c =
+    let at-loop = c .before .before .before .before .before .before .before .before .before in
+    omega (arith, placing-near (at-loop .loop .inv))
 
 mul-lay : tie.Need-mul-lay Inv-loop μ-loop
-mul-lay c = omega (arith, c .before .before .before .before .before .before .before .before .before .before .before .loop .inv .order .few)
+mul-lay c =
+    let at-loop = c .before .before .before .before .before .before .before .before .before .before .before in
+    omega (arith, at-loop .loop .inv .order .few)
 
 add-lay : tie.Need-add-lay Inv-loop μ-loop
-add-lay c = omega (arith, c .before .before .before .before .before .before .before .before .before .before .before .loop .inv .order .few)
+add-lay c =
+    let at-loop = c .before .before .before .before .before .before .before .before .before .before .before in
+    omega (arith, at-loop .loop .inv .order .few)
 
 add-at-2 : tie.Need-add-at-2 Inv-loop μ-loop
 add-at-2 c =

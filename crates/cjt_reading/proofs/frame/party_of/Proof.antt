@@ -22,11 +22,12 @@ returns c =
 
 returns-2 : tie.Need-returns-2
 returns-2 c =
-    let s = now (c .before .before .before .before .args .b) in
+    let start = c .before .before .before .before in
+    let s = now (start .args .b) in
     let byte : (i : ℕ) → at s i < 256 = λ i. omega (arith, c .before .before .before .shared-slice-known .given i) in
     let digits = read-part s byte 2 7 (omega arith) (c .packed-in .ensures) (c .before .before .number-at .ensures .so) in
     let all : allAA (partyBytes s) ≡ false =
-    sym (ap (λ (n : ℕ). eqb n 0xAAAAAAAAAAAAAA) (c .before .before .number-at .ensures .so) ∙ all-word s byte (c .before .before .before .before .pre))
+    sym (ap (λ (n : ℕ). eqb n 0xAAAAAAAAAAAAAA) (c .before .before .number-at .ensures .so) ∙ all-word s byte (start .pre))
     ∙ c .before .if1 .left in
     rw (all, digits)
 

@@ -14,15 +14,17 @@ use Rattle.cjt_reading.proofs.frame.read_in.Tie as tie
 
 read-frame-requires : tie.Need-read-frame-requires
 read-frame-requires c κs =
-    let b = now (c .before .before .before .before .args .bytes) in
+    let start = c .before .before .before .before in
+    let b = now (start .args .bytes) in
     let n = c .before .before .skips .result in
     let rest = rest-is b n in
-    own-sum (c .before .before .skips .ensures) (c .before .before .before .before .pre) (c .before .wrapping-add-u8 .ensures) ∙ ap (λ
+    own-sum (c .before .before .skips .ensures) (start .pre) (c .before .wrapping-add-u8 .ensures) ∙ ap (λ
     (l : List ℕ). total l % 256) (sym rest)
 
 returns : tie.Need-returns
 returns c =
-    let b = now (c .before .before .before .before .before .args .bytes) in
+    let start = c .before .before .before .before .before in
+    let b = now (start .args .bytes) in
     let n = c .before .before .before .skips .result in
     let rest = rest-is b n in
     c .read-frame .ensures ∙ ap (λ (l : List ℕ). cjtShown (readCjtFrame l)) (rest ∙ c .before .before .before .skips .ensures .same)

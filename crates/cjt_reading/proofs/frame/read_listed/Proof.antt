@@ -19,49 +19,66 @@ use Rattle.cjt_reading.proofs.frame.read_listed.Tie as tie
 
 returns : tie.Need-returns
 returns c =
-    let s = now (c .before .before .before .before .args .b) in
+    let start = c .before .before .before .before in
+    let s = now (start .args .b) in
     let wrong : wrongListed (drop 14 s) ≡ true = ap wrongListed (sym (rest-is s 14)) ∙ sym (c .before .wrong-listed .ensures) ∙ c .if1 .taken in
     rw wrong
 
 returns-2 : tie.Need-returns-2
 returns-2 c =
-    let s = now (c .before .before .before .before .before .before .before .before .before .before .before .before .args .b) in
+    let at-byte-at2 = c .before .before .before .before in
+    let at-packed-in = at-byte-at2 .before in
+    let at-number-at = at-packed-in .before in
+    let at-byte-at = at-number-at .before in
+    let at-if1 = at-byte-at .before in
+    let at-wrong-listed = at-if1 .before in
+    let at-shared-slice-known = at-wrong-listed .before .before in
+    let start = at-shared-slice-known .before in
+    let s = now (start .args .b) in
     let byte : (i : ℕ) → at s i < 256 = λ i. omega
-    (arith, c .before .before .before .before .before .before .before .before .before .before .before .shared-slice-known .given i) in
-    let digits = read-part s byte 2 7 (omega arith) (c .before .before .before .before .before .packed-in .ensures)
-    (c .before .before .before .before .before .before .number-at .ensures .so) in
+    (arith, at-shared-slice-known .shared-slice-known .given i) in
+    let digits = read-part s byte 2 7 (omega arith) (at-packed-in .packed-in .ensures)
+    (at-number-at .number-at .ensures .so) in
     let answer : c .before .before .tells-in .result ≡ tellsWith s =
     c .before .before .tells-in .ensures ∙ rw (
-      c .before .before .before .before .before .before .before .byte-at .ensures,
+      at-byte-at .byte-at .ensures,
       digits,
-      c .before .before .before .before .byte-at2 .ensures,
+      at-byte-at2 .byte-at2 .ensures,
       rest-is s
           14,
     ) in
     let right : wrongListed (drop 14 s) ≡ false = ap wrongListed (sym (rest-is s 14)) ∙ sym
-    (c .before .before .before .before .before .before .before .before .before .wrong-listed .ensures)
-    ∙ c .before .before .before .before .before .before .before .before .if1 .left in
+    (at-wrong-listed .wrong-listed .ensures)
+    ∙ at-if1 .if1 .left in
     let units : wrongUnits (tellsWith s) ≡ true = ap wrongUnits (sym answer) ∙ sym (c .before .wrong-units .ensures) ∙ c .if2 .taken in
     rw (right, units)
 
 returns-3 : tie.Need-returns-3
 returns-3 c =
-    let s = now (c .before .before .before .before .before .before .before .before .before .before .before .before .args .b) in
+    let at-byte-at2 = c .before .before .before .before in
+    let at-packed-in = at-byte-at2 .before in
+    let at-number-at = at-packed-in .before in
+    let at-byte-at = at-number-at .before in
+    let at-if1 = at-byte-at .before in
+    let at-wrong-listed = at-if1 .before in
+    let at-shared-slice-known = at-wrong-listed .before .before in
+    let start = at-shared-slice-known .before in
+    let s = now (start .args .b) in
     let byte : (i : ℕ) → at s i < 256 = λ i. omega
-    (arith, c .before .before .before .before .before .before .before .before .before .before .before .shared-slice-known .given i) in
-    let digits = read-part s byte 2 7 (omega arith) (c .before .before .before .before .before .packed-in .ensures)
-    (c .before .before .before .before .before .before .number-at .ensures .so) in
+    (arith, at-shared-slice-known .shared-slice-known .given i) in
+    let digits = read-part s byte 2 7 (omega arith) (at-packed-in .packed-in .ensures)
+    (at-number-at .number-at .ensures .so) in
     let answer : c .before .before .tells-in .result ≡ tellsWith s =
     c .before .before .tells-in .ensures ∙ rw (
-      c .before .before .before .before .before .before .before .byte-at .ensures,
+      at-byte-at .byte-at .ensures,
       digits,
-      c .before .before .before .before .byte-at2 .ensures,
+      at-byte-at2 .byte-at2 .ensures,
       rest-is s
           14,
     ) in
     let right : wrongListed (drop 14 s) ≡ false = ap wrongListed (sym (rest-is s 14)) ∙ sym
-    (c .before .before .before .before .before .before .before .before .before .wrong-listed .ensures)
-    ∙ c .before .before .before .before .before .before .before .before .if1 .left in
+    (at-wrong-listed .wrong-listed .ensures)
+    ∙ at-if1 .if1 .left in
     let units : wrongUnits (tellsWith s) ≡ false = ap wrongUnits (sym answer) ∙ sym (c .before .wrong-units .ensures) ∙ c .if2 .left in
     rw (right, units) (ap (λ (a : CjtAnswer). readings.Read (telegrams.Answer a)) answer)
 

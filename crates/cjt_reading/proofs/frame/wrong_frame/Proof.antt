@@ -12,13 +12,17 @@ returns : tie.Need-returns
 returns c = sym (frame-unknown (now (c .before .before .before .args .b)) (rw (← c .before .byte-at .ensures) (not-true _ (c .if1 .taken))))
 
 returns-2 : tie.Need-returns-2
-returns-2 c = sym (frame-count (now (c .before .before .before .before .args .b)) (rw (← c .before .before .byte-at .ensures) (ne-eqb _ _ (c .if2 .taken))))
+returns-2 c =
+    let start = c .before .before .before .before in
+    sym (frame-count (now (start .args .b)) (rw (← c .before .before .byte-at .ensures) (ne-eqb _ _ (c .if2 .taken))))
 
 returns-3 : tie.Need-returns-3
 returns-3 c =
-    sym (frame-ends (now (c .before .before .before .before .before .before .args .b)) (rw (← c .before .before .before .before .byte-at .ensures)
+    let at-byte-at = c .before .before .before .before in
+    let start = at-byte-at .before .before in
+    sym (frame-ends (now (start .args .b)) (rw (← at-byte-at .byte-at .ensures)
     (not-false _ (c .before .before .before .if1 .left)))
-    (rw (← c .before .before .before .before .byte-at .ensures) (eq-eqb _ _ (c .before .before .if2 .left))))
+    (rw (← at-byte-at .byte-at .ensures) (eq-eqb _ _ (c .before .before .if2 .left))))
 
 pub wrong-frame-spec : {M : Type 1} → statement M
 wrong-frame-spec =

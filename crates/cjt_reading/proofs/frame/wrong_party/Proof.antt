@@ -12,14 +12,18 @@ use Rattle.cjt_reading.proofs.frame.wrong_party.Tie as tie
 
 returns : tie.Need-returns
 returns c =
-    let s = now (c .before .before .before .before .before .before .before .args .b) in
-    let byte : (i : ℕ) → at s i < 256 = λ i. omega (arith, c .before .before .before .before .before .before .shared-slice-known .given i) in
+    let at-is-heat-type = c .before .before .before .before in
+    let at-byte-at = at-is-heat-type .before in
+    let at-shared-slice-known = at-byte-at .before in
+    let start = at-shared-slice-known .before in
+    let s = now (start .args .b) in
+    let byte : (i : ℕ) → at s i < 256 = λ i. omega (arith, at-shared-slice-known .shared-slice-known .given i) in
     let digits = read-part s byte 2 7 (omega arith) (c .before .before .packed-in .ensures) (c .before .before .before .number-at .ensures .so) in
     let all = ap (λ (n : ℕ). eqb n 0xAAAAAAAAAAAAAA) (c .before .before .before .number-at .ensures .so) ∙ all-word s byte
-    (c .before .before .before .before .before .before .before .pre) in
+    (start .pre) in
     rw (
-      c .before .before .before .before .is-heat-type .ensures,
-      c .before .before .before .before .before .byte-at .ensures,
+      at-is-heat-type .is-heat-type .ensures,
+      at-byte-at .byte-at .ensures,
       c .before .byte-at2 .ensures,
       digits,
       all,

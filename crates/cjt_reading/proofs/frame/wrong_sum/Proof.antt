@@ -17,9 +17,10 @@ shared-slice-read-own c = omega (arith, frame-least (now (c .before .before .arg
 
 returns : tie.Need-returns
 returns c =
-    let b = now (c .before .before .before .before .args .b) in
+    let start = c .before .before .before .before in
+    let b = now (start .args .b) in
     rw (c .wrapping-add-u82 .ensures, c .before .wrapping-add-u8 .ensures)
-    (sum-told b (c .before .before .before .before .pre .1) (c .before .before .before .before .pre .0) refl (omega
+    (sum-told b (start .pre .1) (start .pre .0) refl (omega
     (arith, c .before .before .before .shared-slice-known .given (length b - 2))))
 
 pub wrong-sum-spec : {M : Type 1} → statement M

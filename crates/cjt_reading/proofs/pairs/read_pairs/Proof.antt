@@ -16,44 +16,61 @@ returns c = ap cjtShown (sym (none-is (chars (now (c .before .before .args .byte
 
 returns-2 : tie.Need-returns-2
 returns-2 c =
-    let size = length-characters (now (c .before .before .before .before .before .args .bytes)) in
+    let start = c .before .before .before .before .before in
+    let size = length-characters (now (start .args .bytes)) in
     rw (c .far-of .ensures)
-    (ap cjtShown (sym (taken-far (chars (now (c .before .before .before .before .before .args .bytes))) (omega
+    (ap cjtShown (sym (taken-far (chars (now (start .args .bytes))) (omega
     (arith, size, c .before .before .if2 .taken)) (c .before .soundness-of .ensures) (omega (arith, size, c .before .before .if2 .taken)))))
 
 returns-3 : tie.Need-returns-3
 returns-3 c =
-    ap cjtShown (sym (near-refused (chars (now (c .before .before .before .before .before .before .before .before .before .args .bytes)))
-    (c .before .before .before .before .gather .last .1 .0) (sym (length-characters (now
-    (c .before .before .before .before .before .before .before .before .before .args .bytes))))
-    (c .before .before .before .before .before .before .before .if1 .left) (c .before .before .before .before .before .before .if2 .left)
-    (c .before .before .before .before .gather .ensures .0) (c .before .before .before .before .gather .ensures .1)
+    let at-gather = c .before .before .before .before in
+    let at-if2 = at-gather .before .before in
+    let at-if1 = at-if2 .before in
+    let start = at-if1 .before .before in
+    ap cjtShown (sym (near-refused (chars (now (start .args .bytes)))
+    (at-gather .gather .last .1 .0) (sym (length-characters (now
+    (start .args .bytes))))
+    (at-if1 .if1 .left) (at-if2 .if2 .left)
+    (at-gather .gather .ensures .0) (at-gather .gather .ensures .1)
     (c .before .outcome .given .1)))
 
 slice-aggregate-read-in : tie.Need-slice-aggregate-read-in
 slice-aggregate-read-in c =
-    near-count (chars (now (c .before .before .before .before .before .before .before .before .before .args .bytes)))
-    (c .before .before .before .before .gather .last .1 .0) (sym (length-characters (now
-    (c .before .before .before .before .before .before .before .before .before .args .bytes))))
-    (c .before .before .before .before .before .before .before .if1 .left) (c .before .before .before .before .before .before .if2 .left)
-    (c .before .before .before .before .gather .ensures .0) (c .before .before .before .before .gather .ensures .1)
+    let at-gather = c .before .before .before .before in
+    let at-if2 = at-gather .before .before in
+    let at-if1 = at-if2 .before in
+    let start = at-if1 .before .before in
+    near-count (chars (now (start .args .bytes)))
+    (at-gather .gather .last .1 .0) (sym (length-characters (now
+    (start .args .bytes))))
+    (at-if1 .if1 .left) (at-if2 .if2 .left)
+    (at-gather .gather .ensures .0) (at-gather .gather .ensures .1)
 
 read-in-requires : tie.Need-read-in-requires
 read-in-requires c κs =
-    near-sum (chars (now (c .before .before .before .before .before .before .before .before .before .args .bytes)))
-    (c .before .before .before .before .gather .last .1 .0) (sym (length-characters (now
-    (c .before .before .before .before .before .before .before .before .before .args .bytes))))
-    (c .before .before .before .before .before .before .before .if1 .left) (c .before .before .before .before .before .before .if2 .left)
-    (c .before .before .before .before .gather .ensures .0) (c .before .before .before .before .gather .ensures .1)
+    let at-gather = c .before .before .before .before in
+    let at-if2 = at-gather .before .before in
+    let at-if1 = at-if2 .before in
+    let start = at-if1 .before .before in
+    near-sum (chars (now (start .args .bytes)))
+    (at-gather .gather .last .1 .0) (sym (length-characters (now
+    (start .args .bytes))))
+    (at-if1 .if1 .left) (at-if2 .if2 .left)
+    (at-gather .gather .ensures .0) (at-gather .gather .ensures .1)
 
 returns-4 : tie.Need-returns-4
 returns-4 c =
+    let at-gather = c .before .before .before .before .before in
+    let at-if2 = at-gather .before .before in
+    let at-if1 = at-if2 .before in
+    let start = at-if1 .before .before in
     c .read-in .ensures ∙ ap cjtShown (near-passed (chars (now
-    (c .before .before .before .before .before .before .before .before .before .before .args .bytes)))
-    (c .before .before .before .before .before .gather .last .1 .0) (sym (length-characters (now
-    (c .before .before .before .before .before .before .before .before .before .before .args .bytes))))
-    (c .before .before .before .before .before .before .before .before .if1 .left) (c .before .before .before .before .before .before .before .if2 .left)
-    (c .before .before .before .before .before .gather .ensures .0) (c .before .before .before .before .before .gather .ensures .1)
+    (start .args .bytes)))
+    (at-gather .gather .last .1 .0) (sym (length-characters (now
+    (start .args .bytes))))
+    (at-if1 .if1 .left) (at-if2 .if2 .left)
+    (at-gather .gather .ensures .0) (at-gather .gather .ensures .1)
     (c .before .before .enum-told .given .1))
 
 pub read-pairs-spec : {M : Type 1} → statement M

@@ -8,21 +8,31 @@ use Rattle.cjt_reading.proofs.parts.clock_in.Tie as tie
 
 returns : tie.Need-returns
 returns c =
-    let s = now (c .before .before .before .before .before .before .before .before .before .before .before .before .before .before .args .d) in
+    let at-byte-at5 = c .before .before .before .before in
+    let at-two-digits4 = at-byte-at5 .before in
+    let at-byte-at4 = at-two-digits4 .before in
+    let at-two-digits3 = at-byte-at4 .before in
+    let at-byte-at3 = at-two-digits3 .before in
+    let at-two-digits2 = at-byte-at3 .before in
+    let at-byte-at2 = at-two-digits2 .before in
+    let at-two-digits = at-byte-at2 .before in
+    let at-byte-at = at-two-digits .before in
+    let start = at-byte-at .before .before in
+    let s = now (start .args .d) in
     rw (
       c .four-digits .ensures,
       c .before .byte-at7 .ensures,
       c .before .before .byte-at6 .ensures,
       c .before .before .before .two-digits5 .ensures,
-      c .before .before .before .before .byte-at5 .ensures,
-      c .before .before .before .before .before .two-digits4 .ensures,
-      c .before .before .before .before .before .before .byte-at4 .ensures,
-      c .before .before .before .before .before .before .before .two-digits3 .ensures,
-      c .before .before .before .before .before .before .before .before .byte-at3 .ensures,
-      c .before .before .before .before .before .before .before .before .before .two-digits2 .ensures,
-      c .before .before .before .before .before .before .before .before .before .before .byte-at2 .ensures,
-      c .before .before .before .before .before .before .before .before .before .before .before .two-digits .ensures,
-      c .before .before .before .before .before .before .before .before .before .before .before .before .byte-at .ensures,
+      at-byte-at5 .byte-at5 .ensures,
+      at-two-digits4 .two-digits4 .ensures,
+      at-byte-at4 .byte-at4 .ensures,
+      at-two-digits3 .two-digits3 .ensures,
+      at-byte-at3 .byte-at3 .ensures,
+      at-two-digits2 .two-digits2 .ensures,
+      at-byte-at2 .byte-at2 .ensures,
+      at-two-digits .two-digits .ensures,
+      at-byte-at .byte-at .ensures,
       clock-at s 0 (omega arith),
       clock-at s 1 (omega arith),
       clock-at s 2 (omega arith),

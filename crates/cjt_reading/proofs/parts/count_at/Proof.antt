@@ -12,24 +12,26 @@ use Rattle.cjt_reading.proofs.parts.count_at.Tie as tie
 
 cast-result : tie.Need-cast-result
 cast-result c =
-    let s = now (c .before .before .before .before .args .d) in
+    let start = c .before .before .before .before in
+    let s = now (start .args .d) in
     let byte : (i : ℕ) → at s i < 256 = λ i. omega (arith, c .before .before .before .shared-slice-known .given i) in
-    let digits = read-part s byte (c .before .before .before .before .args .place) (c .before .before .before .before .args .width) (omega
-    (arith, c .before .before .before .before .pre)) (c .before .packed-in .ensures)
+    let digits = read-part s byte (start .args .place) (start .args .width) (omega
+    (arith, start .pre)) (c .before .packed-in .ensures)
     (c .before .before .number-at .ensures .so) in
     rw (ap (λ (p : Packed). p .count) digits)
     (omega (
       arith,
-      count-fits s byte (c .before .before .before .before .args .place) (c .before .before .before .before .args .width)
-          (c .before .before .before .before .pre),
+      count-fits s byte (start .args .place) (start .args .width)
+          (start .pre),
     ))
 
 returns : tie.Need-returns
 returns c =
-    let s = now (c .before .before .before .before .args .d) in
+    let start = c .before .before .before .before in
+    let s = now (start .args .d) in
     let byte : (i : ℕ) → at s i < 256 = λ i. omega (arith, c .before .before .before .shared-slice-known .given i) in
-    let digits = read-part s byte (c .before .before .before .before .args .place) (c .before .before .before .before .args .width) (omega
-    (arith, c .before .before .before .before .pre)) (c .before .packed-in .ensures)
+    let digits = read-part s byte (start .args .place) (start .args .width) (omega
+    (arith, start .pre)) (c .before .packed-in .ensures)
     (c .before .before .number-at .ensures .so) in
     ap (λ (p : Packed). p .count) digits
 

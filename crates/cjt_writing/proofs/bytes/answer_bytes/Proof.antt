@@ -8,7 +8,9 @@ use Rattle.cjt_writing.proofs.bytes.answer_bytes.Tie as tie
 
 returns : tie.Need-returns
 unfolding packed
-returns c = c .before .close .ensures ∙ ap closed (c .before .before .before .before .answer-frame .ensures)
+returns c =
+    let at-answer-frame = c .before .before .before .before in
+    c .before .close .ensures ∙ ap closed (at-answer-frame .answer-frame .ensures)
 
 pub answer-bytes-spec : {M : Type 1} → statement M
 answer-bytes-spec =

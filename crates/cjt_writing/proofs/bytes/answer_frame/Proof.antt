@@ -7,12 +7,19 @@ use Rattle.cjt_writing.proofs.bytes.answer_frame.Statement.{statement}
 use Rattle.cjt_writing.proofs.bytes.answer_frame.Tie as tie
 
 returns : tie.Need-returns
-returns c = answer-laid (c .before .before .before .before .before .before .before .before .before .before .before .before .before .before .before
+returns c =
+    let at-lay2 = c .before .before .before .before .before in
+    let at-lay = at-lay2 .before .before .before .before in
+    let at-rest-bytes = at-lay .before .before .before in
+    let at-quantities-bytes = at-rest-bytes .before in
+    let at-answer-head = at-quantities-bytes .before in
+    let earlier = at-answer-head .before in
+    answer-laid (earlier
     .before .before .before .before .before .args .a) (replicate 57 0) refl
-    (c .before .before .before .before .before .before .before .before .before .before .before .before .before .before .answer-head .ensures)
-    (c .before .before .before .before .before .before .before .before .before .before .before .before .before .quantities-bytes .ensures)
-    (c .before .before .before .before .before .before .before .before .before .before .before .before .rest-bytes .ensures)
-    (c .before .before .before .before .before .before .before .before .before .lay .ensures) (c .before .before .before .before .before .lay2 .ensures)
+    (at-answer-head .answer-head .ensures)
+    (at-quantities-bytes .quantities-bytes .ensures)
+    (at-rest-bytes .rest-bytes .ensures)
+    (at-lay .lay .ensures) (at-lay2 .lay2 .ensures)
     (c .before .lay3 .ensures)
 
 pub answer-frame-spec : {M : Type 1} → statement M

@@ -6,11 +6,15 @@ use Rattle.cjt_writing.proofs.bytes.close.Statement.{statement}
 use Rattle.cjt_writing.proofs.bytes.close.Tie as tie
 
 returns : tie.Need-returns
-returns c = frame-closed (now (c .before .before .before .before .before .before .before .before .before .before .before .before .args .bytes)) (now
-    (c .before .before .before .before .before .before .before .before .before .before .before .before .args .frame))
-    (c .before .before .before .before .before .before .before .before .before .before .before .before .pre)
-    (c .before .before .before .before .before .before .before .before .before .sum-of .ensures)
-    (c .before .before .before .before .before .before .before .lay .ensures) (c .before .before .lay2 .ensures)
+returns c =
+    let at-lay = c .before .before .before .before .before .before .before in
+    let at-sum-of = at-lay .before .before in
+    let start = at-sum-of .before .before .before in
+    frame-closed (now (start .args .bytes)) (now
+    (start .args .frame))
+    (start .pre)
+    (at-sum-of .sum-of .ensures)
+    (at-lay .lay .ensures) (c .before .before .lay2 .ensures)
 
 pub close-spec : {M : Type 1} → statement M
 close-spec =

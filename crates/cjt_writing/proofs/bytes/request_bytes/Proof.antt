@@ -6,7 +6,9 @@ use Rattle.cjt_writing.proofs.bytes.request_bytes.Statement.{statement}
 use Rattle.cjt_writing.proofs.bytes.request_bytes.Tie as tie
 
 returns : tie.Need-returns
-returns c = c .before .close .ensures ∙ ap closed (c .before .before .before .before .request-frame .ensures)
+returns c =
+    let at-request-frame = c .before .before .before .before in
+    c .before .close .ensures ∙ ap closed (at-request-frame .request-frame .ensures)
 
 pub request-bytes-spec : {M : Type 1} → statement M
 request-bytes-spec =

@@ -6,12 +6,14 @@ use Rattle.cjt_writing.proofs.unwritten.unwritten_answer.Tie as tie
 
 returns : tie.Need-returns
 unfolding unwritten
-returns c = rw (
-  c .before .before .before .before .is-heat-type .ensures,
-  c .before .before .before .unwritten-counts .ensures,
-  c .before .before .wrong-clock .ensures,
-  c .before .wrong-units .ensures,
-)
+returns c =
+    let at-is-heat-type = c .before .before .before .before in
+    rw (
+      at-is-heat-type .is-heat-type .ensures,
+      c .before .before .before .unwritten-counts .ensures,
+      c .before .before .wrong-clock .ensures,
+      c .before .wrong-units .ensures,
+    )
 
 pub unwritten-answer-spec : {M : Type 1} → statement M
 unwritten-answer-spec =

@@ -11,14 +11,17 @@ returns c =
 
 returns-2 : tie.Need-returns-2
 returns-2 c =
+    let at-asks-for = c .before .before .before .before in
+    let at-sent = at-asks-for .before in
     let a = c .before .before .before .before .before .before .args in
-    resent-refused (a .self) (a .outline) (a .t) (c .before .before .before .before .before .sent .ensures)
-    (c .before .before .before .before .asks-for .ensures) (c .before .stepped .given .1)
+    resent-refused (a .self) (a .outline) (a .t) (at-sent .sent .ensures)
+    (at-asks-for .asks-for .ensures) (c .before .stepped .given .1)
 
 returns-3 : tie.Need-returns-3
 returns-3 c =
+    let at-sent = c .before .before .before .before in
     let a = c .before .before .before .before .before .args in
-    resent-another (a .self) (a .outline) (a .t) (c .before .before .before .before .sent .ensures)
+    resent-another (a .self) (a .outline) (a .t) (at-sent .sent .ensures)
     (c .before .before .before .asks-for .ensures) (c .before .before .if1 .left) (c .enum-told .given .1)
 
 pub resent-spec : {M : Type 1} → statement M

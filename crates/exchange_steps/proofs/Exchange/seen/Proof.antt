@@ -6,8 +6,9 @@ use Rattle.exchange_steps.proofs.Exchange.seen.Tie as tie
 
 returns : tie.Need-returns
 returns c =
+    let at-waits = c .before .before .before .before .before in
     let a = c .before .before .before .before .before .before .args in
-    line-parts (a .self) (a .t) (c .before .before .before .before .before .waits .ensures) (c .before .before .before .late .ensures)
+    line-parts (a .self) (a .t) (at-waits .waits .ensures) (c .before .before .before .late .ensures)
     (c .before .moved .ensures) (c .step .ensures) (a .outline) (c .before .before .after-line .ensures)
 
 pub seen-spec : {M : Type 1} → statement M

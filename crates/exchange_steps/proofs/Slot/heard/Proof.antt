@@ -26,10 +26,11 @@ step-is c =
 
 returns : tie.Need-returns
 returns c =
+    let at-read-line = c .before .before .before .before in
     let a = c .before .before .before .before .before .before .args in
     heard-parts (a .self) (readLine (now (a .line))) (a .t) (step-is (c .before .before)) (sym (c .before .ends-well .ensures))
     (c .reply-of .ensures ∙ ap (λ (r : Reading). cond (c .before .ends-well .result) (r .telegram) blank)
-    (c .before .before .before .before .read-line .ensures))
+    (at-read-line .read-line .ensures))
 
 pub heard-spec : {M : Type 1} → statement M
 heard-spec =

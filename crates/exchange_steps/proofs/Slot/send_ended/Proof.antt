@@ -5,15 +5,18 @@ use Rattle.exchange_steps.proofs.Slot.send_ended.Tie as tie
 
 returns : tie.Need-returns
 returns c =
-    rw (← c .before .before .before .in-progress .ensures, c .before .enum-told .given .1, ← c .before .before .before .before .outlined .ensures)
+    let at-outlined = c .before .before .before .before in
+    rw (← c .before .before .before .in-progress .ensures, c .before .enum-told .given .1, ← at-outlined .outlined .ensures)
     (c .start-with .ensures)
 
 returns-2 : tie.Need-returns-2
 returns-2 c =
+    let at-in-progress = c .before .before .before .before in
+    let at-outlined = at-in-progress .before in
     rw (
-      ← c .before .before .before .before .in-progress .ensures,
+      ← at-in-progress .in-progress .ensures,
       c .before .before .slot .given .1,
-      ← c .before .before .before .before .before .outlined .ensures,
+      ← at-outlined .outlined .ensures,
     )
     (c .resent .ensures)
 

@@ -10,13 +10,15 @@ returns-2 : tie.Need-returns-2
 returns-2 c = rw (c .before .before .if1 .left, ← c .before .fits2 .ensures, c .if2 .taken)
 
 returns-3 : tie.Need-returns-3
-returns-3 c = rw (
-  c .before .before .before .before .if1 .left,
-  ← c .before .before .before .fits2 .ensures,
-  c .before .before .if2 .left,
-  ← c .before
-      .cause-of .ensures,
-) (c .failed2 .ensures)
+returns-3 c =
+    let at-if1 = c .before .before .before .before in
+    rw (
+      at-if1 .if1 .left,
+      ← c .before .before .before .fits2 .ensures,
+      c .before .before .if2 .left,
+      ← c .before
+          .cause-of .ensures,
+    ) (c .failed2 .ensures)
 
 pub after-line-spec : {M : Type 1} → statement M
 after-line-spec =

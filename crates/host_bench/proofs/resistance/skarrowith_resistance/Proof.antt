@@ -10,13 +10,15 @@ use Rattle.host_bench.proofs.resistance.skarrowith_resistance.Tie as ti
 
 returns : tie.Need-returns
 returns c =
-    let answer = resistanceOf (c .before .before .before .before .args .hundredths) in
+    let start = c .before .before .before .before in
+    let answer = resistanceOf (start .args .hundredths) in
     let found = c .before .found .given in
     leaves-value (shownResistance-same answer (reads (found .0 .0)) (sym (c .before .before .before .resistance-of .ensures) ∙ found .1))
 
 returns-2 : tie.Need-returns-2
 returns-2 c =
-    let answer = resistanceOf (c .before .before .before .before .args .hundredths) in
+    let start = c .before .before .before .before in
+    let answer = resistanceOf (start .args .hundredths) in
     let number = c .before .number .given in
     leaves-number (shownResistance-same answer (refusal (number .0 .0)) (sym (c .before .before .before .resistance-of .ensures) ∙ number .1))
 

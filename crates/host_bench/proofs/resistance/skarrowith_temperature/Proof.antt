@@ -10,13 +10,15 @@ use Rattle.host_bench.proofs.resistance.skarrowith_temperature.Tie as t
 
 returns : tie.Need-returns
 returns c =
-    let answer = temperatureOf (c .before .before .before .before .args .milliohm) in
+    let start = c .before .before .before .before in
+    let answer = temperatureOf (start .args .milliohm) in
     let found = c .before .found .given in
     leaves-value (shownTemperature-same answer (reads (found .0 .0)) (sym (c .before .before .before .temperature-of .ensures) ∙ found .1))
 
 returns-2 : tie.Need-returns-2
 returns-2 c =
-    let answer = temperatureOf (c .before .before .before .before .args .milliohm) in
+    let start = c .before .before .before .before in
+    let answer = temperatureOf (start .args .milliohm) in
     let number = c .before .number .given in
     leaves-number (shownTemperature-same answer (refusal (number .0 .0)) (sym (c .before .before .before .temperature-of .ensures) ∙ number .1))
 

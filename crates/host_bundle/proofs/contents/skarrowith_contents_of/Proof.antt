@@ -8,13 +8,15 @@ use Rattle.host_bundle.proofs.contents.skarrowith_contents_of.Tie as ti
 
 returns : tie.Need-returns
 returns c =
+    let at-columns-of = c .before .before .before .before in
     let a = c .before .before .before .before .before .before .before .before .args in
-    turns-done (columnsInto (now (a .bundle)) (now (a .contents))) (c .before .before .before .before .columns-of .ensures) (c .enum-told .given .1)
+    turns-done (columnsInto (now (a .bundle)) (now (a .contents))) (at-columns-of .columns-of .ensures) (c .enum-told .given .1)
 
 returns-2 : tie.Need-returns-2
 returns-2 c =
+    let at-columns-of = c .before .before .before .before .before in
     let a = c .before .before .before .before .before .before .before .before .before .args in
-    turns-refused (columnsInto (now (a .bundle)) (now (a .contents))) (c .before .before .before .before .before .columns-of .ensures)
+    turns-refused (columnsInto (now (a .bundle)) (now (a .contents))) (at-columns-of .columns-of .ensures)
     (c .before .number .given .1)
 
 pub skarrowith-contents-of-spec : {M : Type 1} → statement M

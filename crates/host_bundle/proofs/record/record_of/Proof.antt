@@ -6,7 +6,9 @@ use Rattle.host_bundle.proofs.record.record_of.Tie as tie
 
 returns : tie.Need-returns
 unfolding bytesOf
-returns c = rw (c .before .before .before .before .bytes-of .ensures, c .before .before .bytes-of2 .ensures, c .bytes-of3 .ensures)
+returns c =
+    let at-bytes-of = c .before .before .before .before in
+    rw (at-bytes-of .bytes-of .ensures, c .before .before .bytes-of2 .ensures, c .bytes-of3 .ensures)
 
 pub record-of-spec : {M : Type 1} → statement M
 record-of-spec =

@@ -6,7 +6,9 @@ use Rattle.host_bundle.proofs.salvaging.skarrowith_bundle_salvage.State
 use Rattle.host_bundle.proofs.salvaging.skarrowith_bundle_salvage.Tie as tie
 
 returns : tie.Need-returns
-returns c = let a = c .before .before .before .before .args in salvage-short (now (a .damaged)) (now (a .out)) (now (a .told)) (c .if1 .taken)
+returns c =
+    let start = c .before .before .before .before in
+    let a = start .args in salvage-short (now (a .damaged)) (now (a .out)) (now (a .told)) (c .if1 .taken)
 
 returns-2 : tie.Need-returns-2
 returns-2 c =

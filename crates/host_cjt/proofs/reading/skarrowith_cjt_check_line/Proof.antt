@@ -9,15 +9,22 @@ returns : tie.Need-returns
 returns c = odd-number (now (c .before .before .args .bytes)) (c .if1 .taken)
 
 returns-2 : tie.Need-returns-2
-returns-2 c = even-number (now (c .before .before .before .before .before .before .args .bytes)) (c .before .before .before .before .if1 .left)
+returns-2 c =
+    let at-if1 = c .before .before .before .before in
+    let start = at-if1 .before .before in
+    even-number (now (start .args .bytes)) (at-if1 .if1 .left)
     (c .before .before .before .outline-of .ensures) (c .before .n .given .1)
 
 returns-3 : tie.Need-returns-3
-returns-3 c = even-number (now (c .before .before .before .before .before .args .bytes)) (c .before .before .before .if1 .left)
+returns-3 c =
+    let start = c .before .before .before .before .before in
+    even-number (now (start .args .bytes)) (c .before .before .before .if1 .left)
     (c .before .before .outline-of .ensures) (c .enum-told .given .1)
 
 returns-4 : tie.Need-returns-4
-returns-4 c = even-number (now (c .before .before .before .before .before .args .bytes)) (c .before .before .before .if1 .left)
+returns-4 c =
+    let start = c .before .before .before .before .before in
+    even-number (now (start .args .bytes)) (c .before .before .before .if1 .left)
     (c .before .before .outline-of .ensures) (c .enum-told2 .given .1)
 
 pub skarrowith-cjt-check-line-spec : {M : Type 1} → statement M

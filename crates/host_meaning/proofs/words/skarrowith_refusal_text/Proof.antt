@@ -4,10 +4,14 @@ use Rattle.host_meaning.proofs.words.skarrowith_refusal_text.Statement.
 use Rattle.host_meaning.proofs.words.skarrowith_refusal_text.Tie as tie
 
 returns : tie.Need-returns
-returns c = rw (c .before .before .before .before .if1 .taken) (c .before .before .say-number .ensures)
+returns c =
+    let at-if1 = c .before .before .before .before in
+    rw (at-if1 .if1 .taken) (c .before .before .say-number .ensures)
 
 returns-2 : tie.Need-returns-2
-returns-2 c = rw (c .before .before .before .before .if1 .left) (c .before .before .say-number2 .ensures)
+returns-2 c =
+    let at-if1 = c .before .before .before .before in
+    rw (at-if1 .if1 .left) (c .before .before .say-number2 .ensures)
 
 pub skarrowith-refusal-text-spec : {M : Type 1} → statement M
 skarrowith-refusal-text-spec =

@@ -5,10 +5,14 @@ use Rattle.host_verdicts.proofs.repeats.skarrowith_repeats.Statement.{s
 use Rattle.host_verdicts.proofs.repeats.skarrowith_repeats.Tie as tie
 
 returns : tie.Need-returns
-returns c = repeats-value (c .before .before .before .before .before .earlier-rows .ensures) (c .before .told .given .1)
+returns c =
+    let at-earlier-rows = c .before .before .before .before .before in
+    repeats-value (at-earlier-rows .earlier-rows .ensures) (c .before .told .given .1)
 
 returns-2 : tie.Need-returns-2
-returns-2 c = repeats-number (c .before .before .before .before .before .earlier-rows .ensures) (c .before .number .given .1)
+returns-2 c =
+    let at-earlier-rows = c .before .before .before .before .before in
+    repeats-number (at-earlier-rows .earlier-rows .ensures) (c .before .number .given .1)
 
 pub skarrowith-repeats-spec : {M : Type 1} → statement M
 skarrowith-repeats-spec =

@@ -13,18 +13,20 @@ use Rattle.mbus_entries.proofs.entry.binary_value.Tie as tie
 
 returns : tie.Need-returns
 returns c =
-    let a = c .before .before .before .before .before .args in
+    let start = c .before .before .before .before .before in
+    let a = start .args in
     binary-refused (a .unit) (now (a .value))
-    (c .before .before .before .coded-of .ensures ∙ ap codedOf (take-all 8 (now (a .value)) (c .before .before .before .before .before .pre)))
+    (c .before .before .before .coded-of .ensures ∙ ap codedOf (take-all 8 (now (a .value)) (start .pre)))
     (c .before .before .may-fall .ensures) (c .if1 .taken)
 
 returns-2 : tie.Need-returns-2
 returns-2 c =
-    let a = c .before .before .before .before .before .before .args in
+    let start = c .before .before .before .before .before .before in
+    let a = start .args in
     let x = c .before .before .before .before .coded-of in
     let g = c .struct-told .given in
     rw (toZ-ofZ w64 (x .result .count) (record { sfits = omega arith }))
-    (binary-holds (a .unit) (now (a .value)) (x .ensures ∙ ap codedOf (take-all 8 (now (a .value)) (c .before .before .before .before .before .before .pre)))
+    (binary-holds (a .unit) (now (a .value)) (x .ensures ∙ ap codedOf (take-all 8 (now (a .value)) (start .pre)))
     (c .before .before .before .may-fall .ensures) (c .before .if1 .left))
 
 pub binary-value-spec : {M : Type 1} → statement M

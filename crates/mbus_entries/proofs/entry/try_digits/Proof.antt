@@ -15,12 +15,15 @@ returns c =
 
 returns-2 : tie.Need-returns-2
 returns-2 c =
+    let at-digits-at = c .before .before .before .before .before in
+    let at-shared-slice-known = at-digits-at .before .before .before in
+    let start = at-shared-slice-known .before in
     c .entry-with .ensures
-    ∙ wide-tried (c .before .before .before .before .before .before .before .before .before .pre .0)
-    (c .before .before .before .before .before .before .before .before .before .pre .1) (c .before .before .before .before .before .digits-at .ensures)
+    ∙ wide-tried (start .pre .0)
+    (start .pre .1) (at-digits-at .digits-at .ensures)
     (c .before .before .before .if1 .left)
-    (bytes-each (now (c .before .before .before .before .before .before .before .before .before .args .rest))
-    (λ i. omega (arith, c .before .before .before .before .before .before .before .before .shared-slice-known .given i)))
+    (bytes-each (now (start .args .rest))
+    (λ i. omega (arith, at-shared-slice-known .shared-slice-known .given i)))
     (c .before .before .signed-in .ensures) (c .before .digits-value .ensures)
 
 pub try-digits-spec : {M : Type 1} → statement M

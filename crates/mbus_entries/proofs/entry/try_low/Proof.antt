@@ -11,12 +11,14 @@ use Rattle.mbus_entries.proofs.entry.try_low.Tie as tie
 told : (c : tie.After-width-of)
     → Told (now (c .before .before .before .before .before .args .rest)) (c .before .before .before .before .before .args .quantity)
     (c .width-of .result) (c .before .goes-with .result)
-told c = record {
-  led = c .before .before .before .before .before .pre .0;
-  below = c .before .before .before .before .before .pre .1;
-  width = c .width-of .ensures;
-  pair = c .before .goes-with .ensures;
-}
+told c =
+    let start = c .before .before .before .before .before in
+    record {
+      led = start .pre .0;
+      below = start .pre .1;
+      width = c .width-of .ensures;
+      pair = c .before .goes-with .ensures;
+    }
 
 add-if1 : tie.Need-add-if1
 add-if1 c = omega (arith, told-narrow (told c))
@@ -35,8 +37,9 @@ low-value-requires c κs = told-long (told (c .before .before)) (c .before .if1 
 
 returns-2 : tie.Need-returns-2
 returns-2 c =
+    let earlier = c .before .before .before .before in
     c .entry-with .ensures
-    ∙ told-tried (told (c .before .before .before .before)) (c .before .before .before .if1 .left) (c .before .low-value .ensures)
+    ∙ told-tried (told (earlier)) (c .before .before .before .if1 .left) (c .before .low-value .ensures)
 
 pub try-low-spec : {M : Type 1} → statement M
 try-low-spec =

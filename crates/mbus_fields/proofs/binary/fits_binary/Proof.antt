@@ -12,15 +12,17 @@ use Rattle.mbus_fields.proofs.binary.fits_binary.Tie as tie
 
 returns : tie.Need-returns
 returns c =
-    let a = c .before .before .before .before .args in
-    let t = toZ-ofZ w64 (a .count) (c .before .before .before .before .fits .count) in
+    let start = c .before .before .before .before in
+    let a = start .args in
+    let t = toZ-ofZ w64 (a .count) (start .fits .count) in
     rw (c .before .before .before .most-of .ensures, c .before .before .size-of .ensures ∙ ap natAbs t)
     (fits-below (min (a .width) 8) (a .count) (sym (c .before .is-below-zero .ensures ∙ ap belowZero t) ∙ c .if1 .taken))
 
 returns-2 : tie.Need-returns-2
 returns-2 c =
-    let a = c .before .before .before .before .args in
-    let t = toZ-ofZ w64 (a .count) (c .before .before .before .before .fits .count) in
+    let start = c .before .before .before .before in
+    let a = start .args in
+    let t = toZ-ofZ w64 (a .count) (start .fits .count) in
     rw (c .before .before .before .most-of .ensures, c .before .before .size-of .ensures ∙ ap natAbs t)
     (fits-above (min (a .width) 8) (a .count) (sym (c .before .is-below-zero .ensures ∙ ap belowZero t) ∙ c .if1 .left))
 

@@ -15,14 +15,17 @@ cast-number c =
     rw (c .before .number-of .ensures) (omega (arith, number-fits part byte))
 
 returns : tie.Need-returns
-returns c = rw (
-  c .before .before .before .before .before .before .number-of .ensures,
-  c .before .before .before .before .maker-of .ensures,
-  c .before .before .before .byte-at .ensures,
-  c .before .before .byte-at2 .ensures,
-  c .before .byte-at3 .ensures,
-  c .byte-at4 .ensures,
-)
+returns c =
+    let at-maker-of = c .before .before .before .before in
+    let at-number-of = at-maker-of .before .before in
+    rw (
+      at-number-of .number-of .ensures,
+      at-maker-of .maker-of .ensures,
+      c .before .before .before .byte-at .ensures,
+      c .before .before .byte-at2 .ensures,
+      c .before .byte-at3 .ensures,
+      c .byte-at4 .ensures,
+    )
 
 pub header-of-spec : {M : Type 1} → statement M
 header-of-spec =

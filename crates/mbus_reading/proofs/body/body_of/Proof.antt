@@ -12,14 +12,17 @@ slice-aggregate-wrong-header : tie.Need-slice-aggregate-wrong-header
 slice-aggregate-wrong-header c = sym (length-take-le 12 (now (c .before .before .args .part)) (c .before .before .pre))
 
 returns : tie.Need-returns
-returns c = rw (
-  sym (head-wrong (now (c .before .before .before .before .before .args .part))) ∙ sym (c .before .before .wrong-header .ensures) ∙ c .before .if1 .taken,
-  c .blank-entry .ensures,
-)
+returns c =
+    let start = c .before .before .before .before .before in
+    rw (
+      sym (head-wrong (now (start .args .part))) ∙ sym (c .before .before .wrong-header .ensures) ∙ c .before .if1 .taken,
+      c .blank-entry .ensures,
+    )
 
 returns-2 : tie.Need-returns-2
 returns-2 c =
-    let d = now (c .before .before .before .before .before .before .args .part) in
+    let start = c .before .before .before .before .before .before in
+    let d = now (start .args .part) in
     rw (sym (head-wrong d) ∙ sym (c .before .before .before .wrong-header .ensures) ∙ c .before .before .if1 .left, ← rest-is d 12) (c .read-entries .ensures)
 
 pub body-of-spec : {M : Type 1} → statement M

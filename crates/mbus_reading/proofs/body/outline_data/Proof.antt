@@ -9,14 +9,16 @@ use Rattle.mbus_reading.proofs.body.outline_data.Tie as tie
 
 returns : tie.Need-returns
 returns c =
+    let start = c .before .before .before .before .before in
     ap outlined
     (sym
-    (data-refused (c .before .before .before .before .before .args .address) (now (c .before .before .before .before .before .args .part))
+    (data-refused (start .args .address) (now (start .args .part))
     (c .before .before .before .body-of .result) (c .before .before .before .body-of .ensures) _ (c .before .outcome .given .1)))
 
 returns-2 : tie.Need-returns-2
 returns-2 c =
-    data-outlined (c .before .before .before .before .args .address) (now (c .before .before .before .before .args .part))
+    let start = c .before .before .before .before in
+    data-outlined (start .args .address) (now (start .args .part))
     (c .before .before .body-of .result) (c .before .before .body-of .ensures) (c .enum-told .given .1)
 
 pub outline-data-spec : {M : Type 1} → statement M

@@ -10,21 +10,27 @@ use Rattle.mbus_reading.proofs.body.read_data.Tie as tie
 
 returns : tie.Need-returns
 returns c =
+    let at-body-of = c .before .before .before .before in
+    let start = at-body-of .before .before in
     c .refused .ensures
     ∙ ap shown
     (sym
-    (data-refused (c .before .before .before .before .before .before .args .address) (now (c .before .before .before .before .before .before .args .part))
-    (c .before .before .before .before .body-of .result) (c .before .before .before .before .body-of .ensures) _ (c .before .before .outcome .given .1)))
+    (data-refused (start .args .address) (now (start .args .part))
+    (at-body-of .body-of .result) (at-body-of .body-of .ensures) _ (c .before .before .outcome .given .1)))
 
 slice-aggregate-header-of : tie.Need-slice-aggregate-header-of
-slice-aggregate-header-of c = sym
-    (length-take-le 12 (now (c .before .before .before .before .before .args .part)) (c .before .before .before .before .before .pre))
+slice-aggregate-header-of c =
+    let start = c .before .before .before .before .before in
+    sym
+    (length-take-le 12 (now (start .args .part)) (start .pre))
 
 returns-2 : tie.Need-returns-2
 returns-2 c =
-    let d = now (c .before .before .before .before .before .before .before .args .part) in
-    data-accepted (c .before .before .before .before .before .before .before .args .address) d (c .before .before .before .before .before .body-of .result)
-    (c .before .before .before .before .before .body-of .ensures) _ (c .before .header-of .ensures ∙ head-is d)
+    let at-body-of = c .before .before .before .before .before in
+    let start = at-body-of .before .before in
+    let d = now (start .args .part) in
+    data-accepted (start .args .address) d (at-body-of .body-of .result)
+    (at-body-of .body-of .ensures) _ (c .before .header-of .ensures ∙ head-is d)
     (c .before .before .before .enum-told .given .1)
 
 pub read-data-spec : {M : Type 1} → statement M

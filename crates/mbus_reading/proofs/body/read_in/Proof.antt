@@ -11,52 +11,71 @@ use Rattle.mbus_reading.proofs.body.read_in.Statement.{statement}
 use Rattle.mbus_reading.proofs.body.read_in.Tie as tie
 
 sub-read-data : tie.Need-sub-read-data
-sub-read-data c = let h = left-by (now (c .before .before .before .before .before .args .bytes)) (c .before .before .before .before .before .args .sum)
+sub-read-data c =
+    let start = c .before .before .before .before .before in
+    let h = left-by (now (start .args .bytes)) (start .args .sum)
     (c .before .before .before .shape-of .ensures)
     (c .before .shape .given .1) in omega (arith, h .0)
 
 sub-read-data-2 : tie.Need-sub-read-data-2
-sub-read-data-2 c = let h = left-by (now (c .before .before .before .before .before .args .bytes)) (c .before .before .before .before .before .args .sum)
+sub-read-data-2 c =
+    let start = c .before .before .before .before .before in
+    let h = left-by (now (start .args .bytes)) (start .args .sum)
     (c .before .before .before .shape-of .ensures)
     (c .before .shape .given .1) in omega (arith, h .0)
 
 part-read-data-start : tie.Need-part-read-data-start
-part-read-data-start c = let h = left-by (now (c .before .before .before .before .before .args .bytes)) (c .before .before .before .before .before .args .sum)
+part-read-data-start c =
+    let start = c .before .before .before .before .before in
+    let h = left-by (now (start .args .bytes)) (start .args .sum)
     (c .before .before .before .shape-of .ensures)
     (c .before .shape .given .1) in omega (arith, h .0)
 
 read-data-requires : tie.Need-read-data-requires
 read-data-requires c κs =
-    let b = now (c .before .before .before .before .before .before .args .bytes) in
-    let h = left-by (now (c .before .before .before .before .before .before .args .bytes)) (c .before .before .before .before .before .before .args .sum)
-    (c .before .before .before .before .shape-of .ensures)
+    let at-shape-of = c .before .before .before .before in
+    let start = at-shape-of .before .before in
+    let b = now (start .args .bytes) in
+    let h = left-by (now (start .args .bytes)) (start .args .sum)
+    (at-shape-of .shape-of .ensures)
     (c .before .before .shape .given .1) in
     omega (arith, h .0, length-take (length b - 2 - 7) (drop 7 b), length-drop 7 b)
 
 returns : tie.Need-returns
-returns c = let h = left-by (now (c .before .before .before .before .before .before .before .args .bytes))
-    (c .before .before .before .before .before .before .before .args .sum)
-    (c .before .before .before .before .before .shape-of .ensures) (c .before .before .before .shape .given .1) in c .read-data .ensures ∙ ap shown
+returns c =
+    let at-shape-of = c .before .before .before .before .before in
+    let start = at-shape-of .before .before in
+    let h = left-by (now (start .args .bytes))
+    (start .args .sum)
+    (at-shape-of .shape-of .ensures) (c .before .before .before .shape .given .1) in c .read-data .ensures ∙ ap shown
     (sym (h .1))
 
 returns-2 : tie.Need-returns-2
-returns-2 c = c .refused .ensures ∙ ap shown
+returns-2 c =
+    let at-shape-of = c .before .before .before .before in
+    let start = at-shape-of .before .before in
+    c .refused .ensures ∙ ap shown
     (sym
-    (left-by (now (c .before .before .before .before .before .before .args .bytes)) (c .before .before .before .before .before .before .args .sum)
-    (c .before .before .before .before .shape-of .ensures)
+    (left-by (now (start .args .bytes)) (start .args .sum)
+    (at-shape-of .shape-of .ensures)
     (c .before .before .shape2 .given .1)))
 
 returns-3 : tie.Need-returns-3
-returns-3 c = c .plain .ensures ∙ ap shown
+returns-3 c =
+    let start = c .before .before .before .before .before in
+    c .plain .ensures ∙ ap shown
     (sym
-    (left-by (now (c .before .before .before .before .before .args .bytes)) (c .before .before .before .before .before .args .sum)
+    (left-by (now (start .args .bytes)) (start .args .sum)
     (c .before .before .before .shape-of .ensures) (c .before .enum-told .given .1)))
 
 returns-4 : tie.Need-returns-4
-returns-4 c = c .asked .ensures ∙ ap shown
+returns-4 c =
+    let at-shape-of = c .before .before .before .before in
+    let start = at-shape-of .before .before in
+    c .asked .ensures ∙ ap shown
     (sym
-    (left-by (now (c .before .before .before .before .before .before .args .bytes)) (c .before .before .before .before .before .before .args .sum)
-    (c .before .before .before .before .shape-of .ensures)
+    (left-by (now (start .args .bytes)) (start .args .sum)
+    (at-shape-of .shape-of .ensures)
     (c .before .before .shape3 .given .1)))
 
 pub read-in-spec : {M : Type 1} → statement M

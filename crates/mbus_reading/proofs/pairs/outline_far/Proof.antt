@@ -13,12 +13,13 @@ use Rattle.mbus_reading.proofs.pairs.outline_far.Tie as tie
 
 returns : tie.Need-returns
 returns c =
-    let b = now (c .before .before .before .before .args .bytes) in
+    let start = c .before .before .before .before in
+    let b = now (start .args .bytes) in
     let s = chars b in
     rw (c .far-of .ensures)
     (ap outlined
     (sym
-    (far-line s (omega (arith, length-characters b, c .before .before .before .before .pre)) (c .before .before .soundness-of .ensures)
+    (far-line s (omega (arith, length-characters b, start .pre)) (c .before .before .soundness-of .ensures)
     (ap byteOf (c .before .character-at .ensures) ∙ sym (at-bytes s 0)))))
 
 pub outline-far-spec : {M : Type 1} → statement M

@@ -22,31 +22,37 @@ returns c =
 
 returns-2 : tie.Need-returns-2
 returns-2 c =
-    let b = now (c .before .before .before .before .before .before .before .before .args .bytes) in
+    let at-take-few = c .before .before .before .before in
+    let start = at-take-few .before .before .before .before in
+    let b = now (start .args .bytes) in
     let s = chars b in
-    let low = c .before .before .before .before .take-few .last .1 .0 in
+    let low = at-take-few .take-few .last .1 .0 in
     let size = length-characters b in
-    let t = taken-as s low (total (map byteOf s) % 256) (c .before .outcome .given .1) (c .before .before .before .before .take-few .ensures) in
+    let t = taken-as s low (total (map byteOf s) % 256) (c .before .outcome .given .1) (at-take-few .take-few .ensures) in
     ap outlined (sym t)
 
 slice-aggregate-brief-shape : tie.Need-slice-aggregate-brief-shape
 slice-aggregate-brief-shape c =
-    let b = now (c .before .before .before .before .before .before .before .before .args .bytes) in
+    let at-take-few = c .before .before .before .before in
+    let start = at-take-few .before .before .before .before in
+    let b = now (start .args .bytes) in
     let s = chars b in
-    let low = c .before .before .before .before .take-few .last .1 .0 in
+    let low = at-take-few .take-few .last .1 .0 in
     let size = length-characters b in
-    let t = taken-as s low (total (map byteOf s) % 256) (c .before .enum-told .given .1) (c .before .before .before .before .take-few .ensures) in
+    let t = taken-as s low (total (map byteOf s) % 256) (c .before .enum-told .given .1) (at-take-few .take-few .ensures) in
     cut-count s low (sym size) (ap (λ (n : ℕ). take n low) (sym size) ∙ t .1)
 
 returns-3 : tie.Need-returns-3
 returns-3 c =
-    let b = now (c .before .before .before .before .before .before .before .before .before .args .bytes) in
+    let at-take-few = c .before .before .before .before .before in
+    let start = at-take-few .before .before .before .before in
+    let b = now (start .args .bytes) in
     let s = chars b in
-    let low = c .before .before .before .before .before .take-few .last .1 .0 in
+    let low = at-take-few .take-few .last .1 .0 in
     let size = length-characters b in
     let t = taken-as s low (total (map byteOf s) % 256) (c .before .before .enum-told .given .1)
-    (c .before .before .before .before .before .take-few .ensures) in
-    few-is s low (total (map byteOf s) % 256) (omega (arith, size, c .before .before .before .before .before .before .before .before .before .pre))
+    (at-take-few .take-few .ensures) in
+    few-is s low (total (map byteOf s) % 256) (omega (arith, size, start .pre))
     (sym size) t (c .brief-shape .ensures)
 
 pub outline-few-spec : {M : Type 1} → statement M

@@ -18,31 +18,37 @@ taken : (c : tie.After-gather)
     → TakenBytes (chars (now (c .before .before .before .before .before .before .args .bytes))) (c .gather .last .1 .0) (c .gather .result .outcome)
     (c .gather .result .sum)
 taken c =
-    let b = now (c .before .before .before .before .before .before .args .bytes) in
+    let start = c .before .before .before .before .before .before in
+    let b = now (start .args .bytes) in
     let w = c .before .before .before .write-apart in
     let size = length-characters b in
     taken-some (chars b) (w .last .0) (c .gather .last .1 .0)
-    (omega (arith, size, w .kept, length-replicate {A = ℕ} 261 0, c .before .before .before .before .before .before .pre .1)) (c .gather .ensures .0)
-    (c .gather .ensures .1) (omega (arith, size, c .before .before .before .before .before .before .pre .0))
+    (omega (arith, size, w .kept, length-replicate {A = ℕ} 261 0, start .pre .1)) (c .gather .ensures .0)
+    (c .gather .ensures .1) (omega (arith, size, start .pre .0))
 
 returns : tie.Need-returns
 returns c =
-    let g = c .before .before .before .before .gather in
-    ap outlined (sym (taken-as _ (g .last .1 .0) (g .result .sum) (c .before .outcome .given .1) (taken (c .before .before .before .before))))
+    let at-gather = c .before .before .before .before in
+    let g = at-gather .gather in
+    ap outlined (sym (taken-as _ (g .last .1 .0) (g .result .sum) (c .before .outcome .given .1) (taken (at-gather))))
 
 slice-aggregate-outline-in : tie.Need-slice-aggregate-outline-in
 slice-aggregate-outline-in c =
-    let b = now (c .before .before .before .before .before .before .before .before .before .before .args .bytes) in
-    let g = c .before .before .before .before .gather in
+    let at-gather = c .before .before .before .before in
+    let start = at-gather .before .before .before .before .before .before in
+    let b = now (start .args .bytes) in
+    let g = at-gather .gather in
     let size = length-characters b in
-    let t = taken-as (chars b) (g .last .1 .0) (g .result .sum) (c .before .enum-told .given .1) (taken (c .before .before .before .before)) in
+    let t = taken-as (chars b) (g .last .1 .0) (g .result .sum) (c .before .enum-told .given .1) (taken (at-gather)) in
     cut-count (chars b) (g .last .1 .0) (sym size) (ap (λ (n : ℕ). take n (g .last .1 .0)) (sym size) ∙ t .1)
 
 returns-2 : tie.Need-returns-2
 returns-2 c =
-    let b = now (c .before .before .before .before .before .before .before .before .before .before .before .args .bytes) in
-    let g = c .before .before .before .before .before .gather in
-    let t = taken-as (chars b) (g .last .1 .0) (g .result .sum) (c .before .before .enum-told .given .1) (taken (c .before .before .before .before .before)) in
+    let at-gather = c .before .before .before .before .before in
+    let start = at-gather .before .before .before .before .before .before in
+    let b = now (start .args .bytes) in
+    let g = at-gather .gather in
+    let t = taken-as (chars b) (g .last .1 .0) (g .result .sum) (c .before .before .enum-told .given .1) (taken (at-gather)) in
     c .outline-in .ensures ∙ ap outlined (taken-frame (chars b) (g .last .1 .0) (g .result .sum) (sym (length-characters b)) t)
 
 pub outline-many-spec : {M : Type 1} → statement M

@@ -41,32 +41,49 @@ part-any-over-start : tie.Need-part-any-over-start Inv-loop μ-loop
 part-any-over-start c = omega arith
 
 same-length-2 : tie.Need-same-length-2 Inv-loop μ-loop
-same-length-2 c = copied-length (c .before .before .before .before .before .before .before .before .loop .inv .stored)
+same-length-2 c =
+    let at-loop = c .before .before .before .before .before .before .before .before in
+    copied-length (at-loop .loop .inv .stored)
 
 returns-2 : tie.Need-returns-2 Inv-loop μ-loop
 returns-2 c =
-    let b = now (c .before .before .before .before .before .before .before .before .before .before .before .args .bytes) in
-    walked-odd (c .before .before .before .before .before .before .before .before .loop .inv)
-    (c .before .before .before .before .before .before .before .loop-test .taken) (c .before .before .before .before .before .before .character-at .ensures)
-    (c .before .before .before .before .counts-odd .ensures) (c .before .before .before .if2 .taken)
+    let at-counts-odd = c .before .before .before .before in
+    let at-character-at = at-counts-odd .before .before in
+    let at-loop-test = at-character-at .before in
+    let at-loop = at-loop-test .before in
+    let start = at-loop .before .before .before in
+    let b = now (start .args .bytes) in
+    walked-odd (at-loop .loop .inv)
+    (at-loop-test .loop-test .taken) (at-character-at .character-at .ensures)
+    (at-counts-odd .counts-odd .ensures) (c .before .before .before .if2 .taken)
     (sym (c .if3 .taken) ∙ c .before .any-over .ensures ∙ ap (λ (l : List ℕ). any over (chars l))
-    (rest-is b (2 * c .before .before .before .before .before .before .before .before .loop .i)))
+    (rest-is b (2 * at-loop .loop .i)))
 
 same-length-3 : tie.Need-same-length-3 Inv-loop μ-loop
-same-length-3 c = copied-length (c .before .before .before .before .before .before .before .before .loop .inv .stored)
+same-length-3 c =
+    let at-loop = c .before .before .before .before .before .before .before .before in
+    copied-length (at-loop .loop .inv .stored)
 
 returns-3 : tie.Need-returns-3 Inv-loop μ-loop
 returns-3 c =
-    let b = now (c .before .before .before .before .before .before .before .before .before .before .before .args .bytes) in
-    walked-odd (c .before .before .before .before .before .before .before .before .loop .inv)
-    (c .before .before .before .before .before .before .before .loop-test .taken) (c .before .before .before .before .before .before .character-at .ensures)
-    (c .before .before .before .before .counts-odd .ensures) (c .before .before .before .if2 .taken)
+    let at-counts-odd = c .before .before .before .before in
+    let at-character-at = at-counts-odd .before .before in
+    let at-loop-test = at-character-at .before in
+    let at-loop = at-loop-test .before in
+    let start = at-loop .before .before .before in
+    let b = now (start .args .bytes) in
+    walked-odd (at-loop .loop .inv)
+    (at-loop-test .loop-test .taken) (at-character-at .character-at .ensures)
+    (at-counts-odd .counts-odd .ensures) (c .before .before .before .if2 .taken)
     (sym (c .if3 .left) ∙ c .before .any-over .ensures ∙ ap (λ (l : List ℕ). any over (chars l))
-    (rest-is b (2 * c .before .before .before .before .before .before .before .before .loop .i)))
+    (rest-is b (2 * at-loop .loop .i)))
 
 slice-write-out : tie.Need-slice-write-out Inv-loop μ-loop
-slice-write-out c = let n = copied-length (c .before .before .before .before .before .loop .inv .stored) in omega
-    (arith, c .before .before .before .before .before .before .before .before .pre .1)
+slice-write-out c =
+    let at-loop = c .before .before .before .before .before in
+    let start = at-loop .before .before .before in
+    let n = copied-length (at-loop .loop .inv .stored) in omega
+    (arith, start .pre .1)
 
 add-i : tie.Need-add-i Inv-loop μ-loop
 add-i c = omega arith
@@ -76,7 +93,9 @@ loop-less c = omega arith
 
 loop-again : tie.Need-loop-again Inv-loop μ-loop
 loop-again c =
-    walked-next (c .before .before .before .before .before .loop .inv) (c .before .before .before .before .loop-test .taken)
+    let at-loop-test = c .before .before .before .before in
+    let at-loop = at-loop-test .before in
+    walked-next (at-loop .loop .inv) (at-loop-test .loop-test .taken)
     (c .before .before .before .character-at .ensures) (le-ltb 511 _ (c .before .before .if1 .left)) (c .before .counts-odd .ensures)
     (c .if2 .left)
 

@@ -8,7 +8,9 @@ use Rattle.mbus_records.proofs.telegrams.entry_in.Tie as tie
 
 returns : tie.Need-returns
 unfolding entryIn
-returns c = rw (c .before .before .before .before .before .before .before .if1 .taken)
+returns c =
+    let at-if1 = c .before .before .before .before .before .before .before in
+    rw (at-if1 .if1 .taken)
 
 returns-2 : tie.Need-returns-2
 unfolding entryIn

@@ -6,7 +6,9 @@ use Rattle.mbus_records.proofs.telegrams.head_bytes.Tie as tie
 
 returns : tie.Need-returns
 unfolding bytesOf
-returns c = rw (c .bytes-of2 .ensures, c .before .before .bytes-of .ensures, c .before .before .before .before .kind-number .ensures)
+returns c =
+    let at-kind-number = c .before .before .before .before in
+    rw (c .bytes-of2 .ensures, c .before .before .bytes-of .ensures, at-kind-number .kind-number .ensures)
 
 pub head-bytes-spec : {M : Type 1} → statement M
 head-bytes-spec =

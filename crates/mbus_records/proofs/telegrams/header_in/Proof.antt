@@ -4,7 +4,10 @@ use Rattle.mbus_records.proofs.telegrams.header_in.Statement.{statement
 use Rattle.mbus_records.proofs.telegrams.header_in.Tie as tie
 
 returns : tie.Need-returns
-returns c = rw (c .before .before .before .before .number-at2 .ensures .so, c .before .before .before .before .before .number-at .ensures .so)
+returns c =
+    let at-number-at2 = c .before .before .before .before in
+    let at-number-at = at-number-at2 .before in
+    rw (at-number-at2 .number-at2 .ensures .so, at-number-at .number-at .ensures .so)
 
 pub header-in-spec : {M : Type 1} → statement M
 header-in-spec =

@@ -11,10 +11,12 @@ use Rattle.mbus_records.proofs.telegrams.telegram_bytes.Tie as tie
 returns : tie.Need-returns
 unfolding telegramBytes
 returns c =
+    let at-entries-bytes = c .before .before .before .before .before .before in
+    let at-head-bytes = at-entries-bytes .before .before in
     let t = c .before .before .before .before .before .before .before .before .before .args .t in
     record-made (replicate 136 0) (telegramHead t) (t .count ∷ []) (entriesBytes (t .entries)) (search needs)
-    (c .before .before .before .before .before .before .before .before .head-bytes .ensures) refl
-    (c .before .before .before .before .before .before .entries-bytes .ensures) (c .before .put-record .ensures)
+    (at-head-bytes .head-bytes .ensures) refl
+    (at-entries-bytes .entries-bytes .ensures) (c .before .put-record .ensures)
 
 pub telegram-bytes-spec : {M : Type 1} → statement M
 telegram-bytes-spec =

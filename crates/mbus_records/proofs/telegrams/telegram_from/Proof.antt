@@ -13,14 +13,21 @@ returns : tie.Need-returns
 returns c = c .refused .ensures ∙ sym (ap shown (telegram-size (now (c .before .before .before .args .b)) (c .before .if1 .taken)))
 
 returns-2 : tie.Need-returns-2
-returns-2 c = sym (ap shown (record-same telegramBytes telegramIn (now (c .before .before .before .before .before .before .before .args .b))
-    (c .before .before .before .before .telegram-in .ensures) (c .before .before .before .telegram-bytes .ensures) (c .before .is-same .ensures)
+returns-2 c =
+    let at-telegram-in = c .before .before .before .before in
+    let start = at-telegram-in .before .before .before in
+    sym (ap shown (record-same telegramBytes telegramIn (now (start .args .b))
+    (at-telegram-in .telegram-in .ensures) (c .before .before .before .telegram-bytes .ensures) (c .before .is-same .ensures)
     (c .if2 .taken)))
 
 returns-3 : tie.Need-returns-3
-returns-3 c = c .refused2 .ensures ∙ sym (ap shown (record-differs telegramBytes telegramIn
-    (now (c .before .before .before .before .before .before .before .before .args .b)) (c .before .before .before .before .before .telegram-in .ensures)
-    (c .before .before .before .before .telegram-bytes .ensures) (c .before .before .is-same .ensures) (c .before .if2 .left)))
+returns-3 c =
+    let at-telegram-bytes = c .before .before .before .before in
+    let at-telegram-in = at-telegram-bytes .before in
+    let start = at-telegram-in .before .before .before in
+    c .refused2 .ensures ∙ sym (ap shown (record-differs telegramBytes telegramIn
+    (now (start .args .b)) (at-telegram-in .telegram-in .ensures)
+    (at-telegram-bytes .telegram-bytes .ensures) (c .before .before .is-same .ensures) (c .before .if2 .left)))
 
 pub telegram-from-spec : {M : Type 1} → statement M
 telegram-from-spec =

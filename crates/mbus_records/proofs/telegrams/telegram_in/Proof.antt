@@ -11,14 +11,16 @@ use Rattle.mbus_records.proofs.telegrams.telegram_in.Tie as tie
 returns : tie.Need-returns
 unfolding telegramIn
 returns c =
-    let b = now (c .before .before .before .before .before .before .before .before .before .args .b) in
+    let at-kind-in = c .before .before .before .before .before .before in
+    let start = at-kind-in .before .before .before in
+    let b = now (start .args .b) in
     rw (
       c .entries-in .ensures,
       c .before .before .number-at .ensures .so,
       c .before .before .before .header-in .ensures,
-      c .before .before .before .before .before .before .kind-in .ensures,
+      at-kind-in .kind-in .ensures,
       take-all 112 (drop 24 b)
-          (omega (arith, length-drop 24 b, c .before .before .before .before .before .before .before .before .before .pre)),
+          (omega (arith, length-drop 24 b, start .pre)),
     )
 
 pub telegram-in-spec : {M : Type 1} → statement M

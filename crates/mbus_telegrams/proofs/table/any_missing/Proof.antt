@@ -31,9 +31,10 @@ array-read-missing c =
 
 loop-again : tie.Need-loop-again Inv-loop μ-loop
 loop-again c =
+    let at-loop = c .before .before .before .before in
     let made = c .before .before .before .before .before .rows in
     let known : length (made .result) ≡ length table = ap length (made .ensures) in
-    gathered-next _ (c .before .before .before .before .loop .inv) (omega arith)
+    gathered-next _ (at-loop .loop .inv) (omega arith)
 
 returns : tie.Need-returns Inv-loop μ-loop
 returns c =

@@ -5,8 +5,11 @@ use Rattle.mbus_writing.proofs.bytes.close.Statement.{statement}
 use Rattle.mbus_writing.proofs.bytes.close.Tie as tie
 
 returns : tie.Need-returns
-returns c = frame-closed (c .before .before .before .before .before .before .before .before .before .pre)
-    (c .before .before .before .before .before .sum-of .ensures) (c .before .before .lay .ensures)
+returns c =
+    let at-sum-of = c .before .before .before .before .before in
+    let start = at-sum-of .before .before .before .before in
+    frame-closed (start .pre)
+    (at-sum-of .sum-of .ensures) (c .before .before .lay .ensures)
 
 pub close-spec : {M : Type 1} → statement M
 close-spec =

@@ -6,13 +6,16 @@ use Rattle.mbus_writing.proofs.bytes.head_bytes.Tie as tie
 
 returns : tie.Need-returns
 unfolding packed
-returns c = rw (
-  c .before .before .before .before .before .two-digits .ensures,
-  c .before .before .before .before .two-digits2 .ensures,
-  c .before .before
-      .before .two-digits3 .ensures,
-  c .before .before .two-digits4 .ensures,
-)
+returns c =
+    let at-two-digits2 = c .before .before .before .before in
+    let at-two-digits = at-two-digits2 .before in
+    rw (
+      at-two-digits .two-digits .ensures,
+      at-two-digits2 .two-digits2 .ensures,
+      c .before .before
+          .before .two-digits3 .ensures,
+      c .before .before .two-digits4 .ensures,
+    )
 
 pub head-bytes-spec : {M : Type 1} → statement M
 head-bytes-spec =

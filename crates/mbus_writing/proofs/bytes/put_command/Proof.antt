@@ -10,13 +10,15 @@ use Rattle.mbus_writing.proofs.bytes.put_command.Tie as tie
 
 returns : tie.Need-returns
 returns c =
+    let at-lay = c .before .before .before .before .before .before in
+    let earlier = at-lay .before in
     let a = c .before .before .before .before .before .before .before .before .before .before .args in
     let s : List ℕ = 0x68 ∷ 4 ∷ 4 ∷ 0x68 ∷ 0x53 ∷ a .address ∷ 0x50 ∷ a .method ∷ [] in
     frame-laid s (c .before .before .close .ensures) (front-laid (a .bytes .now) s (omega (
       arith,
-      c .before .before .before .before .before .before .before
+      earlier
           .before .before .before .pre,
-    )) (c .before .before .before .before .before .before .lay .ensures)) refl
+    )) (at-lay .lay .ensures)) refl
 
 pub put-command-spec : {M : Type 1} → statement M
 put-command-spec =

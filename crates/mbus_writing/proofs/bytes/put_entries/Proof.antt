@@ -20,7 +20,9 @@ put-entry-requires c κs = laying-fits (c .before .before .before .loop .inv) (c
 
 loop-again : tie.Need-loop-again Inv-loop μ-loop
 loop-again c =
-    laying-next (c .before .before .before .before .before .before .loop .inv) (c .before .before .before .before .before .loop-test .taken) _
+    let at-loop-test = c .before .before .before .before .before in
+    let at-loop = at-loop-test .before in
+    laying-next (at-loop .loop .inv) (at-loop-test .loop-test .taken) _
     (c .before .before .put-entry .ensures)
 
 same-length : tie.Need-same-length Inv-loop μ-loop

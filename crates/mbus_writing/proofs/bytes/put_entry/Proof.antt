@@ -40,7 +40,9 @@ slice-aggregate-lay c =
     sym (length-take-le (2 + c .before .before .width-of .result) (c .before .before .before .entry-bytes .result) (sized (c .before .before) .within))
 
 add-result : tie.Need-add-result
-add-result c = let s : Sized (c .before .before .before .before .before) = sized (c .before .before .before .before .before) in omega arith
+add-result c =
+    let earlier = c .before .before .before .before .before in
+    let s : Sized (earlier) = sized (earlier) in omega arith
 
 returns : tie.Need-returns
 returns c =

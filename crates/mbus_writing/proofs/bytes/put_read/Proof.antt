@@ -10,13 +10,15 @@ use Rattle.mbus_writing.proofs.bytes.put_read.Tie as tie
 
 returns : tie.Need-returns
 returns c =
+    let at-lay = c .before .before .before .before .before .before in
+    let earlier = at-lay .before in
     let a = c .before .before .before .before .before .before .before .before .before .before .args in
     let s : List ℕ = 0x10 ∷ 0x5B ∷ a .address ∷ [] in
     frame-laid s (c .before .before .close .ensures) (front-laid (a .bytes .now) s (omega (
       arith,
-      c .before .before .before .before .before .before .before
+      earlier
           .before .before .before .pre,
-    )) (c .before .before .before .before .before .before .lay .ensures)) refl
+    )) (at-lay .lay .ensures)) refl
 
 pub put-read-spec : {M : Type 1} → statement M
 put-read-spec =

@@ -30,12 +30,14 @@ sub-b-2 c = wide c
 
 returns : tie.Need-returns
 returns c =
-    let t = toZ-ofZ w64 (c .before .before .before .before .args .count) (c .before .before .before .before .fits .count) in
+    let start = c .before .before .before .before in
+    let t = toZ-ofZ w64 (start .args .count) (start .fits .count) in
     rw (below c, c .before .packed-six .ensures, c .before .before .size-of .ensures ∙ ap natAbs t)
 
 returns-2 : tie.Need-returns-2
 returns-2 c =
-    let t = toZ-ofZ w64 (c .before .before .before .before .args .count) (c .before .before .before .before .fits .count) in
+    let start = c .before .before .before .before in
+    let t = toZ-ofZ w64 (start .args .count) (start .fits .count) in
     rw (
       sym (c .before .before .before .is-below-zero .ensures ∙ ap belowZero t) ∙ c .if1 .left,
       c .before .packed-six .ensures,

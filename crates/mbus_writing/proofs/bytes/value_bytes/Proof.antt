@@ -18,10 +18,11 @@ use Rattle.mbus_writing.proofs.bytes.value_bytes.Tie as tie
 
 signed-six-requires : tie.Need-signed-six-requires
 signed-six-requires c κs =
+    let start = c .before .before .before .before in
     let v = c .before .before .value .given in
     let g = c .struct-told .given in
-    let w = c .before .before .before .before .args .width in
-    let k = every (leb w 6) (fitsSigned w (v .0 .0 .count) ∷ []) (rw (v .1) at (c .before .before .before .before .pre)) in
+    let w = start .args .width in
+    let k = every (leb w 6) (fitsSigned w (v .0 .0 .count) ∷ []) (rw (v .1) at (start .pre)) in
     rw (toZ-ofZ w64 (v .0 .0 .count) (record { sfits = omega arith })) (k .1 .0, leb-true w 6 (k .0))
 
 moment-bytes-requires : tie.Need-moment-bytes-requires

@@ -22,10 +22,11 @@ no-request t k (outlines.Asks q) one = absurd (miss (0 ∷ 1 ∷ 3 ∷ []) 2 tt 
 
 returns : tie.Need-returns
 returns c =
+    let at-returned = c .before .before .before .before in
     let t = c .before .before .before .before .before .args .t in
     let q = c .before .before .outline .given .0 .0 in
     rw (c .before .before .outline .given .1) (c .asked .ensures ∙ ap (λ (k : Core). takenAt t (asked t k q))
-    (c .before .before .before .before .returned .ensures))
+    (at-returned .returned .ensures))
 
 returns-2 : tie.Need-returns-2
 returns-2 c =

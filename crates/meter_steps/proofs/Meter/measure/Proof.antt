@@ -25,25 +25,32 @@ returns c = rw (sym (c .before .before .earlier .ensures) ∙ c .before .if1 .ta
 
 returns-2 : tie.Need-returns-2
 returns-2 c =
+    let earlier = c .before .before .before .before in
+    let at-if1 = earlier .before .before .before in
+    let at-earlier = at-if1 .before in
     let n = c .before .before .sum .given .0 .0 in
     rw (
-      sym (c .before .before .before .before .before .before .before .before .earlier .ensures)
-          ∙ c .before .before .before .before .before .before .before .if1 .left,
+      sym (at-earlier .earlier .ensures)
+          ∙ at-if1 .if1 .left,
       measured-sum,
-      total (c .before .before .before .before) (refusal n)
+      total (earlier) (refusal n)
           (c .before .before .sum .given .1),
     ) (c .replies2 .ensures)
 
 returns-3 : tie.Need-returns-3
 returns-3 c =
+    let earlier = c .before .before .before .before in
+    let at-returned = earlier .before .before in
+    let at-if1 = at-returned .before in
+    let at-earlier = at-if1 .before in
     let p = c .before .before .sum2 .given .0 .0 in
     rw (
-      sym (c .before .before .before .before .before .before .before .before .earlier .ensures)
-          ∙ c .before .before .before .before .before .before .before .if1 .left,
+      sym (at-earlier .earlier .ensures)
+          ∙ at-if1 .if1 .left,
       measured-sum,
-      total (c .before .before .before .before) (reads p)
+      total (earlier) (reads p)
           (c .before .before .sum2 .given .1),
-    ) (rw (c .measured .ensures, c .before .before .before .before .before .before .returned .ensures))
+    ) (rw (c .measured .ensures, at-returned .returned .ensures))
 
 pub measure-spec : {M : Type 1} → statement M
 measure-spec =

@@ -20,7 +20,8 @@ loop-holds c = redone-none
 
 loop-again : tie.Need-loop-again Inv-loop μ-loop
 loop-again c =
-    let seven : length (c .before .before .before .before .args .entries) ≡ 7 = search needs in
+    let start = c .before .before .before .before in
+    let seven : length (start .args .entries) ≡ 7 = search needs in
     rw (c .filled-entry .ensures) (redone-next _ (c .before .before .before .loop .inv) (omega arith))
 
 returns : tie.Need-returns Inv-loop μ-loop

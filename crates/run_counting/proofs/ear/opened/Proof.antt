@@ -4,7 +4,9 @@ use Rattle.run_counting.proofs.ear.opened.Statement.{statement}
 use Rattle.run_counting.proofs.ear.opened.Tie as tie
 
 returns-3 : tie.Need-returns-3
-returns-3 c = rw (c .before .before .before .before .outline .given .1, c .before .request .given .1)
+returns-3 c =
+    let at-outline = c .before .before .before .before in
+    rw (at-outline .outline .given .1, c .before .request .given .1)
 
 pub opened-spec : {M : Type 1} → statement M
 opened-spec =

@@ -24,11 +24,12 @@ returns-2 c =
 returns-3 : tie.Need-returns-3
 unfolding passedBy looked
 returns-3 c =
+    let at-is-wake = c .before .before .before .before in
     let back5 = c .before .before .before .before .before in
     let a = back5 .before .before .before .args in
     rw (
       not-false (eqb (a .row .position) (a .position)) (back5 .if1 .left),
-      sym (c .before .before .before .before .is-wake .ensures) ∙ c .before .before .before .if2 .left,
+      sym (at-is-wake .is-wake .ensures) ∙ c .before .before .before .if2 .left,
       c .before .if3 .taken,
       c .opened-after .ensures,
     )
@@ -36,11 +37,12 @@ returns-3 c =
 returns-4 : tie.Need-returns-4
 unfolding passedBy looked
 returns-4 c =
+    let at-is-wake = c .before .before .before .before in
     let back5 = c .before .before .before .before .before in
     let a = back5 .before .before .before .args in
     rw (
       not-false (eqb (a .row .position) (a .position)) (back5 .if1 .left),
-      sym (c .before .before .before .before .is-wake .ensures) ∙ c .before .before .before .if2 .left,
+      sym (at-is-wake .is-wake .ensures) ∙ c .before .before .before .if2 .left,
       c .before .if3 .left,
       c .heard-by .ensures,
     )

@@ -56,8 +56,9 @@ loop-again c =
 
 returns : tie.Need-returns Inv-loop μ-loop
 returns c =
-    let a = c .before .before .before .before .args in
-    let n = count-rows (a .bundle .now) (a .count) (c .before .before .before .before .pre .0) in
+    let start = c .before .before .before .before in
+    let a = start .args in
+    let n = count-rows (a .bundle .now) (a .count) (start .pre .0) in
     let all = lined-all (c .before .loop .inv) (omega (arith, n, c .loop-test .left)) in
     (omega (arith, n), all .0, all .1)
 

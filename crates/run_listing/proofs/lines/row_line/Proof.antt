@@ -12,15 +12,17 @@ use Rattle.run_listing.proofs.lines.row_line.Tie as tie
 
 part-word-of-end : tie.Need-part-word-of-end
 part-word-of-end c =
+    let start = c .before .before .before .before in
     let r = c .before .before .unchecked-row .result in
-    let h : r .offset + r .length ≤ length (c .before .before .before .before .args .bundle .now) = rw (c .before .before .unchecked-row .ensures)
-    (c .before .before .before .before .pre) in
+    let h : r .offset + r .length ≤ length (start .args .bundle .now) = rw (c .before .before .unchecked-row .ensures)
+    (start .pre) in
     omega arith
 
 returns : tie.Need-returns
 returns c =
+    let at-unchecked-row = c .before .before .before .before .before in
     let a = c .before .before .before .before .before .before .before .args in
-    let r = c .before .before .before .before .before .unchecked-row .result in
+    let r = at-unchecked-row .unchecked-row .result in
     let size : r .offset + r .length - r .offset ≡ r .length = omega arith in
     record {
       small = c .line-of .ensures .small;
@@ -29,7 +31,7 @@ returns c =
           c .line-of .ensures .so
           ∙ ap (rowText (r .position) (r .direction) (r .time))
           (c .before .word-of .ensures .so ∙ ap (λ (n : ℕ). wordOf (chars (take n (drop (r .offset) (a .bundle .now))))) size)
-          ∙ ap (lineFor (a .bundle .now)) (c .before .before .before .before .before .unchecked-row .ensures);
+          ∙ ap (lineFor (a .bundle .now)) (at-unchecked-row .unchecked-row .ensures);
     }
 
 pub row-line-spec : {M : Type 1} → statement M

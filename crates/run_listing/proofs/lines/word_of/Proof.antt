@@ -8,19 +8,23 @@ use Rattle.run_listing.proofs.lines.word_of.Tie as tie
 
 returns : tie.Need-returns
 unfolding wordOf
-returns c = record {
-  small = omega arith;
-  whole = c .begin .ensures .whole;
-  so = rw (sym (c .before .before .before .before .column-of .ensures) ∙ c .before .before .enum-told .given .1) (c .begin .ensures .so);
-}
+returns c =
+    let at-column-of = c .before .before .before .before in
+    record {
+      small = omega arith;
+      whole = c .begin .ensures .whole;
+      so = rw (sym (at-column-of .column-of .ensures) ∙ c .before .before .enum-told .given .1) (c .begin .ensures .so);
+    }
 
 returns-2 : tie.Need-returns-2
 unfolding wordOf
-returns-2 c = record {
-  small = omega arith;
-  whole = c .word-for .ensures .whole;
-  so = rw (sym (c .before .before .before .before .column-of .ensures) ∙ c .before .before .outline .given .1) (c .word-for .ensures .so);
-}
+returns-2 c =
+    let at-column-of = c .before .before .before .before in
+    record {
+      small = omega arith;
+      whole = c .word-for .ensures .whole;
+      so = rw (sym (at-column-of .column-of .ensures) ∙ c .before .before .outline .given .1) (c .word-for .ensures .so);
+    }
 
 pub word-of-spec : {M : Type 1} → statement M
 word-of-spec =

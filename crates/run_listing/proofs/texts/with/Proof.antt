@@ -9,12 +9,14 @@ use Rattle.run_listing.proofs.texts.with.Statement.{statement}
 use Rattle.run_listing.proofs.texts.with.Tie as tie
 
 returns : tie.Need-returns
-returns c = let h : 48 ≡ length (c .before .before .before .before .before .args .line .bytes) = search needs in let a =
-    c .before .before .before .before .before .args in record {
+returns c =
+    let start = c .before .before .before .before .before in
+    let h : 48 ≡ length (start .args .line .bytes) = search needs in let a =
+    start .args in record {
       small = omega arith;
       whole = search needs;
       so =
-          let back5 = c .before .before .before .before .before in
+          let back5 = start in
           rw (c .before .lay .ensures) (take-copied (a .line .bytes) (a .line .size) (a .bytes .now) (omega arith));
     }
 

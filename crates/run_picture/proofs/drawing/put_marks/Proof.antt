@@ -36,8 +36,9 @@ loop-holds c =
 
 reach-requires : tie.Need-reach-requires Inv-loop μ-loop
 reach-requires c κs =
+    let start = c .before .before .before .before .before .before in
     let inv = c .before .loop .inv in
-    (c .before .before .before .before .before .before .pre .0, inv .0, inv .1)
+    (start .pre .0, inv .0, inv .1)
 
 add-put-mark : tie.Need-add-put-mark Inv-loop μ-loop
 add-put-mark c =

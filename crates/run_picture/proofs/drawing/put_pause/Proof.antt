@@ -7,9 +7,10 @@ use Rattle.run_picture.proofs.drawing.put_pause.Tie as tie
 
 returns : tie.Need-returns
 returns c =
+    let at-if1 = c .before .before .before .before .before .before .before .before in
     let x = c .before .before .before .before .before .before .before .less in
     let width = c .before .before .before .before .before .before .less2 in
-    rw (c .before .before .before .before .before .before .before .before .if1 .taken, ← (x .ensures), ← (width .ensures)) (c .before .before .fill .ensures)
+    rw (at-if1 .if1 .taken, ← (x .ensures), ← (width .ensures)) (c .before .before .fill .ensures)
 
 returns-2 : tie.Need-returns-2
 returns-2 c = rw (c .if1 .left) (nothing (omega arith))

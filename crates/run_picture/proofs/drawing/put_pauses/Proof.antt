@@ -24,7 +24,9 @@ loop-holds : tie.Need-loop-holds Inv-loop μ-loop
 loop-holds c = rw (c .unpaced .ensures) (zero-le, record { cut = zero-le; busy = zero-le; start = zero-le }, left-all (search needs) (search needs))
 
 paced-requires : tie.Need-paced-requires Inv-loop μ-loop
-paced-requires c κs = (c .before .before .before .before .before .before .pre, c .before .loop-test .taken, c .before .before .loop .inv .1)
+paced-requires c κs =
+    let start = c .before .before .before .before .before .before in
+    (start .pre, c .before .loop-test .taken, c .before .before .loop .inv .1)
 
 loop-again : tie.Need-loop-again Inv-loop μ-loop
 loop-again c =

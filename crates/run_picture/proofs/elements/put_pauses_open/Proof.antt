@@ -4,7 +4,9 @@ use Rattle.run_picture.proofs.elements.put_pauses_open.Statement.{state
 use Rattle.run_picture.proofs.elements.put_pauses_open.Tie as tie
 
 returns : tie.Need-returns
-returns c = rw (← (c .before .before .before .before .before .before .less .ensures)) (c .before .before .fill .ensures)
+returns c =
+    let at-less = c .before .before .before .before .before .before in
+    rw (← (at-less .less .ensures)) (c .before .before .fill .ensures)
 
 pub put-pauses-open-spec : {M : Type 1} → statement M
 put-pauses-open-spec =

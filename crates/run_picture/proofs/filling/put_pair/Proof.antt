@@ -9,9 +9,10 @@ use Rattle.run_picture.proofs.filling.put_pair.Tie as tie
 
 returns : tie.Need-returns
 returns c =
+    let at-put-between = c .before .before .before .before .before .before .before in
     let a = c .before .before .before .before .before .before .before .before .before .before .before .before .before .args in
     rw (joined (a .before .now) (decimal (a .m)) (a .middle .now) (decimal (a .n) ++ a .after .now)) at
-    (two (search needs) (c .before .before .before .before .before .before .before .put-between .ensures) (c .before .before .put-between2 .ensures))
+    (two (search needs) (at-put-between .put-between .ensures) (c .before .before .put-between2 .ensures))
 
 pub put-pair-spec : {M : Type 1} → statement M
 put-pair-spec =

@@ -18,7 +18,8 @@ paced-by-requires c κs =
 
 returns : tie.Need-returns
 returns c =
-    let s = c .before .before .before .before in (
+    let earlier = c .before .before .before .before in
+    let s = earlier in (
       rw (c .paced-by .ensures .0, c .before .line-time .ensures .0, c .before .before .unchecked-row .ensures),
       record { cut = omega (arith, c .paced-by .ensures .1, s .pre .2 .cut); busy = c .paced-by .ensures .2; start = c .paced-by .ensures .3 },
     )

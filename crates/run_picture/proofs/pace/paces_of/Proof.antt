@@ -29,7 +29,9 @@ loop-holds c =
     )
 
 paced-requires : tie.Need-paced-requires Inv-loop μ-loop
-paced-requires c κs = (c .before .before .before .before .pre, c .loop-test .taken, c .before .loop .inv .1)
+paced-requires c κs =
+    let start = c .before .before .before .before in
+    (start .pre, c .loop-test .taken, c .before .loop .inv .1)
 
 mul-starts : tie.Need-mul-starts Inv-loop μ-loop
 mul-starts c =

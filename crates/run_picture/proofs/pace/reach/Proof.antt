@@ -24,7 +24,9 @@ loop-holds : tie.Need-loop-holds Inv-loop μ-loop
 loop-holds c = (c .before .before .pre .1, c .before .before .pre .2, λ x h. refl)
 
 paced-requires : tie.Need-paced-requires Inv-loop μ-loop
-paced-requires c κs = (c .before .before .before .before .pre .0, c .loop-test .taken, c .before .loop .inv .1)
+paced-requires c κs =
+    let start = c .before .before .before .before in
+    (start .pre .0, c .loop-test .taken, c .before .loop .inv .1)
 
 returns : tie.Need-returns Inv-loop μ-loop
 returns c =

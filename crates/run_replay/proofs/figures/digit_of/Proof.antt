@@ -16,17 +16,23 @@ ten-to-requires : tie.Need-ten-to-requires
 ten-to-requires c κs = rw (c .before .row-of .ensures) (digit-low (c .before .before .args .unit))
 
 sub-ten-to : tie.Need-sub-ten-to
-sub-ten-to c = rw (c .before .before .before .row-of .ensures) (less-most (c .before .before .before .before .args .unit))
+sub-ten-to c =
+    let start = c .before .before .before .before in
+    rw (c .before .before .before .row-of .ensures) (less-most (start .args .unit))
 
 -- the two powers, by the row
 powers : (c : tie.After-ten-to2)
     → c .before .before .ten-to .result * c .ten-to2 .result
     ≡ 10 ^ (c .before .before .before .before .before .args .unit % rowOf (c .before .before .before .before .before .args .unit) .4)
     * 10 ^ (6 - rowOf (c .before .before .before .before .before .args .unit) .5)
-powers c = rw (c .before .before .ten-to .ensures, c .ten-to2 .ensures, c .before .before .before .before .row-of .ensures)
+powers c =
+    let at-row-of = c .before .before .before .before in
+    rw (c .before .before .ten-to .ensures, c .ten-to2 .ensures, at-row-of .row-of .ensures)
 
 mul-result : tie.Need-mul-result
-mul-result c = record { fits = rw (powers c) (digit-small (c .before .before .before .before .before .args .unit)) }
+mul-result c =
+    let start = c .before .before .before .before .before in
+    record { fits = rw (powers c) (digit-small (start .args .unit)) }
 
 returns : tie.Need-returns
 returns c =

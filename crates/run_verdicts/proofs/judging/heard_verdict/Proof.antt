@@ -11,10 +11,11 @@ returns c =
 
 returns-3 : tie.Need-returns-3
 returns-3 c =
+    let at-if1 = c .before .before .before .before in
     let back5 = c .before .before .before .before .before in
     rw (
       back5 .before .before .before .slot .given .1,
-      sym (back5 .earlier .ensures) ∙ c .before .before .before .before .if1 .left,
+      sym (back5 .earlier .ensures) ∙ at-if1 .if1 .left,
       c .before .before .enum-told2 .given .1,
       sym (c .before .late .ensures),
     )

@@ -27,7 +27,9 @@ judge-in-requires c κs =
     rw (c .before .before .row-from .ensures) (back3 .before .before .before .before .pre .inside (back3 .before .loop .i) (back3 .loop-test .taken))
 
 array-set-from-rulings : tie.Need-array-set-from-rulings Inv-loop μ-loop
-array-set-from-rulings c = omega (arith, c .before .before .before .before .before .loop .inv .few)
+array-set-from-rulings c =
+    let at-loop = c .before .before .before .before .before in
+    omega (arith, at-loop .loop .inv .few)
 
 array-set-from-slots : tie.Need-array-set-from-slots Inv-loop μ-loop
 array-set-from-slots c =
