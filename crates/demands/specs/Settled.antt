@@ -58,7 +58,7 @@ Settled {R} promise = (x y : R) → promise x → promise y → x ≡ y
 pub equation : {R : Type 0} (a : R) → Settled (λ r. r ≡ a)
 equation a x y p q = p ∙ sym q
 
--- two of them: the answer, and what was lent (`bench_clock::write_wake`, `bytes_lent::store`)
+-- two of them: the answer, and what was lent (`bench_clock::write_wake`, `base_lent::store`)
 pub two-equations : {R L : Type 0} (a : R) (b : L) → Settled (λ (x : R × L). (x .0 ≡ a) × (x .1 ≡ b))
 two-equations a b x y p q i = (equation a (x .0) (y .0) (p .0) (q .0) i, equation b (x .1) (y .1) (p .1) (q .1) i)
 

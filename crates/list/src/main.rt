@@ -15,7 +15,7 @@ fn main() {
     let mut input = [0u8; 65_537];
     let mut text = [0u8; 15_901];
     let n = io::read_full(STDIN_FILENO, &mut input);
-    match listing_text::list(&input[..n], &mut text) {
+    match run_listing::list(&input[..n], &mut text) {
         Listed::Written(size) => print(&text, size),
         Listed::Refused(_) => {},
     }

@@ -1,4 +1,4 @@
--- Laws of `specs/Codes`.
+-- Lines whose bytes keep a rule that no single byte and no further byte escapes: flips are refused, beginnings and cuts are settled.
 use Prim.Native.Nat.{ℕ, suc, _%_, _≤_, _<_}
 use native.Mathlib.Omega.{arith}
 use mathlib.Core.Bool.{true, false, not, true≢false}

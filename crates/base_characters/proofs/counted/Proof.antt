@@ -1,4 +1,4 @@
--- `mbus_characters::counted` meets its contract. Assumes nothing.
+-- `base_characters::counted` meets its contract. Assumes nothing.
 use borrow.Author.Needs.{needs}
 use mathlib.Core.Path.{sym, _∙_}
 use Rattle.base_characters.proofs.Laws.FlagLaws.{flagged-odd, flagged-even}

@@ -1,4 +1,4 @@
--- `mbus_characters::counts_odd` meets its contract: the count of the bits gives the parity of the nine. Assumes nothing.
+-- `base_characters::counts_odd` meets its contract: the count of the bits gives the parity of the nine. Assumes nothing.
 use Rattle.base_characters.proofs.Laws.ParityLaws.{counted-odd}
 use Rattle.base_characters.proofs.counts_odd.Statement.{statement}
 use Rattle.base_characters.proofs.counts_odd.Tie as tie

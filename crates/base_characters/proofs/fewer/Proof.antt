@@ -1,4 +1,4 @@
--- `mbus_characters::fewer` meets its contract. Assumes nothing.
+-- `base_characters::fewer` meets its contract. Assumes nothing.
 use borrow.Author.Tests.{lt-ltb, le-ltb}
 use Rattle.base_characters.proofs.fewer.Statement.{statement}
 use Rattle.base_characters.proofs.fewer.Tie as tie

@@ -1,4 +1,4 @@
--- `mbus_characters::folded` meets its contract. Assumes nothing.
+-- `base_characters::folded` meets its contract. Assumes nothing.
 use native.Mathlib.Omega.{arith}
 use Rattle.base_characters.proofs.Laws.FlagLaws.{flagged-one}
 use Rattle.base_characters.proofs.folded.Statement.{statement}

@@ -1,4 +1,4 @@
--- `mbus_characters::sum_of` meets its contract: what was summed so far and the rest make the sum of the bytes, modulo 256. Assumes nothing.
+-- `base_characters::sum_of` meets its contract: what was summed so far and the rest make the sum of the bytes, modulo 256. Assumes nothing.
 use Prim.Native.Nat.{_-_}
 use borrow.Author.Needs.{needs}
 use lib.ListN.{length}

@@ -1,4 +1,4 @@
--- `mbus_characters::told_by` meets its contract. Assumes nothing.
+-- `base_characters::told_by` meets its contract. Assumes nothing.
 use Prim.Native.Nat.{_%_, _<_}
 use mathlib.Core.Bool.{and-eq-true-iff}
 use mathlib.Core.Path.{_≡_}

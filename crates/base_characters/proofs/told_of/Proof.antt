@@ -1,4 +1,4 @@
--- `mbus_characters::told_of` meets its contract. Assumes nothing.
+-- `base_characters::told_of` meets its contract. Assumes nothing.
 use Prim.Native.Nat.{ℕ, _+_, _%_}
 use mathlib.Core.Path.{ap, _∙_}
 use borrow.Author.Needs.{needs}

@@ -1,4 +1,4 @@
--- `bytes_lent::is_past` meets its contract. Assumes nothing.
+-- `base_lent::is_past` meets its contract. Assumes nothing.
 use Prim.Native.Nat.{_+_}
 use mathlib.Core.Path.{sym}
 use native.Mathlib.Omega.{arith}

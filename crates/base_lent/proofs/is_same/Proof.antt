@@ -1,4 +1,4 @@
--- `bytes_lent::is_same` meets its contract: whether the bytes are alike up to the place that the loop has reached. Assumes nothing.
+-- `base_lent::is_same` meets its contract: whether the bytes are alike up to the place that the loop has reached. Assumes nothing.
 use Prim.Native.Nat.{_-_}
 use native.Mathlib.Omega.{arith}
 use denote.Ref.{now}

@@ -1,4 +1,4 @@
--- `bytes_lent::lay` meets its contract: so many bytes are copied. Assumes nothing.
+-- `base_lent::lay` meets its contract: so many bytes are copied. Assumes nothing.
 use Prim.Native.Nat.{_-_, _+_}
 use mathlib.Core.Path.{refl, sym, _∙_}
 use native.Mathlib.Omega.{arith}

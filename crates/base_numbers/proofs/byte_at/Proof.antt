@@ -1,4 +1,4 @@
--- `bytes_numbers::byte_at` meets its contract. Assumes nothing.
+-- `base_numbers::byte_at` meets its contract. Assumes nothing.
 use borrow.Author.Needs.{needs}
 use denote.Ref.{now}
 use mathlib.Core.Path.{sym}

@@ -1,4 +1,4 @@
--- `bytes_numbers::bytes_of` meets its contract. Assumes nothing.
+-- `base_numbers::bytes_of` meets its contract. Assumes nothing.
 use borrow.Author.Needs.{needs}
 use mathlib.Core.Path.{refl}
 use Rattle.base_numbers.specs.Numbers.{bytesOf}

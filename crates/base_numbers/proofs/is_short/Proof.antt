@@ -1,4 +1,4 @@
--- `bytes_numbers::is_short` meets its contract. Assumes nothing.
+-- `base_numbers::is_short` meets its contract. Assumes nothing.
 use Rattle.base_numbers.proofs.Laws.RecordLaws.{short-head, short-words, short-tail}
 use borrow.Author.Needs.{needs}
 use Rattle.base_numbers.proofs.is_short.Statement.{statement}

@@ -1,4 +1,4 @@
--- `bytes_numbers::number_at` meets its contract: where bytes are missing, those that are there give the number. Assumes nothing.
+-- `base_numbers::number_at` meets its contract: where bytes are missing, those that are there give the number. Assumes nothing.
 use Prim.Native.Nat.{min}
 use borrow.Author.Needs.{needs}
 use native.Mathlib.Omega.{arith}

@@ -1,4 +1,4 @@
--- `bytes_numbers::number_of` meets its contract: the number of the bytes behind a place. Assumes nothing.
+-- `base_numbers::number_of` meets its contract: the number of the bytes behind a place. Assumes nothing.
 use Prim.Native.Nat.{_+_, _-_}
 use borrow.Author.Needs.{needs}
 use native.Mathlib.Omega.{arith}

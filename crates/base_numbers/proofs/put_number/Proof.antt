@@ -1,4 +1,4 @@
--- `bytes_numbers::put_number` meets its contract. Assumes nothing.
+-- `base_numbers::put_number` meets its contract. Assumes nothing.
 use mathlib.Core.Path.{sym, ap, _∙_}
 use denote.Ref.{now}
 use lib.Seq.{length-take-le}

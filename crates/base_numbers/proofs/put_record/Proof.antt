@@ -1,4 +1,4 @@
--- `bytes_numbers::put_record` meets its contract: the parts are laid one behind the other. Assumes nothing.
+-- `base_numbers::put_record` meets its contract: the parts are laid one behind the other. Assumes nothing.
 use mathlib.Core.Path.{sym, _∙_}
 use denote.Ref.{now}
 use Rattle.base_numbers.proofs.Laws.RecordLaws.{record-short, record-room, record-laid}

@@ -1,4 +1,4 @@
--- `bytes_numbers::put_words` meets its contract: so many numbers are laid. Assumes nothing.
+-- `base_numbers::put_words` meets its contract: so many numbers are laid. Assumes nothing.
 use borrow.Author.Needs.{needs}
 use Prim.Native.Nat.{_+_, _*_, _-_, _≤_}
 use native.Mathlib.Omega.{arith}

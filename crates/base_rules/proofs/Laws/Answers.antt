@@ -1,4 +1,4 @@
--- Laws of `specs/Answers`.
+-- Answers with the value left out.
 use Rattle.base_rules.specs.Answers.{Answer, within}
 
 -- The number of a refusal, and nothing beside acceptance.

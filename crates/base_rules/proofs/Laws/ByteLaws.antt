@@ -1,4 +1,4 @@
--- Laws of `specs/ByteLaws`.
+-- Bytes: at a place, taken, dropped, joined, and spelled out place by place.
 use Prim.Native.Nat.{ℕ, zero, suc, _+_, _<_, _≤_}
 use mathlib.Core.List.{List, [], _∷_, _++_}
 use mathlib.Core.Path.{_≡_, refl, sym, ap, _∙_}

@@ -1,4 +1,4 @@
--- Laws of `specs/Lists`.
+-- Lists of rows: what holds of all, windows, and parts laid one behind the other.
 use Prim.Native.Nat.{ℕ, _+_, _-_, _≤_}
 use mathlib.Core.List.{List, [], _∷_, _++_, append-assoc}
 use mathlib.Core.Path.{_≡_, ap, ap₂, _∙_}

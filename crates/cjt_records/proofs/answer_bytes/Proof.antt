@@ -1,4 +1,4 @@
--- `host_cjt_records::answer_bytes` meets its contract: one record of its parts. Assumes nothing.
+-- `cjt_records::answer_bytes` meets its contract: one record of its parts. Assumes nothing.
 use mathlib.Core.List.{List, _++_, append-assoc}
 use mathlib.Core.Path.{refl, sym, ap, _∙_}
 use Prim.Native.Nat.{ℕ}

@@ -1,4 +1,4 @@
--- `host_cjt_records::answer_in` meets its contract. Assumes nothing.
+-- `cjt_records::answer_in` meets its contract. Assumes nothing.
 use borrow.Author.Needs.{needs}
 use Rattle.cjt_records.proofs.answer_in.Statement.{statement}
 use Rattle.cjt_records.proofs.answer_in.Tie as tie

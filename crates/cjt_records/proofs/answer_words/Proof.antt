@@ -1,4 +1,4 @@
--- `host_cjt_records::answer_words` meets its contract, word by word. Assumes nothing.
+-- `cjt_records::answer_words` meets its contract, word by word. Assumes nothing.
 use native.Mathlib.Omega.{arith}
 use borrow.Author.Needs.{needs}
 use Rattle.cjt_records.proofs.Laws.Words.{quantity-word, answer-words}

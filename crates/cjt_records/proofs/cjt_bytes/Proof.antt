@@ -1,4 +1,4 @@
--- `host_cjt_records::cjt_bytes` meets its contract. Assumes nothing.
+-- `cjt_records::cjt_bytes` meets its contract. Assumes nothing.
 use mathlib.Core.Path.{sym, ap, _∙_}
 use Rattle.cjt_records.specs.CjtRecords.{cjtBytes}
 use borrow.Author.Needs.{needs}

@@ -1,4 +1,4 @@
--- `host_cjt_records::cjt_from` meets its contract. Assumes nothing.
+-- `cjt_records::cjt_from` meets its contract. Assumes nothing.
 use mathlib.Core.Path.{sym, ap}
 use denote.Ref.{now}
 use Rattle.cjt_rules.specs.CjtOutlines.{cjtShown}

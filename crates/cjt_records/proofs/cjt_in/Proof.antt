@@ -1,4 +1,4 @@
--- `host_cjt_records::cjt_in` meets its contract. Assumes nothing.
+-- `cjt_records::cjt_in` meets its contract. Assumes nothing.
 use Rattle.cjt_records.specs.CjtRecords.{cjtIn}
 use borrow.Author.Needs.{needs}
 use Rattle.cjt_records.proofs.cjt_in.Statement.{statement}

@@ -1,4 +1,4 @@
--- `host_cjt_records::clock_bytes` meets its contract. Assumes nothing.
+-- `cjt_records::clock_bytes` meets its contract. Assumes nothing.
 use Rattle.base_numbers.specs.Numbers.{bytesOf}
 use borrow.Author.Needs.{needs}
 use Rattle.cjt_records.proofs.clock_bytes.Statement.{statement}

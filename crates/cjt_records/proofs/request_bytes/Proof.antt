@@ -1,4 +1,4 @@
--- `host_cjt_records::request_bytes` meets its contract. Assumes nothing.
+-- `cjt_records::request_bytes` meets its contract. Assumes nothing.
 use mathlib.Core.Path.{_∙_}
 use Rattle.cjt_records.proofs.Laws.CjtRecordLaws.{request-laid}
 use borrow.Author.Needs.{needs}

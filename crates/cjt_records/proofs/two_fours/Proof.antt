@@ -1,4 +1,4 @@
--- `host_cjt_records::two_fours` meets its contract. Assumes nothing.
+-- `cjt_records::two_fours` meets its contract. Assumes nothing.
 use borrow.Author.Needs.{needs}
 use Rattle.cjt_records.proofs.Laws.Words.{bytes-two}
 use Rattle.cjt_records.proofs.two_fours.Statement.{statement}

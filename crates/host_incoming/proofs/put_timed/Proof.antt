@@ -1,4 +1,4 @@
--- `host_capture::put_timed` meets its contract. Assumes nothing.
+-- `host_incoming::put_timed` meets its contract. Assumes nothing.
 use mathlib.Core.Path.{refl}
 use denote.Ref.{now}
 use Rattle.host_incoming.proofs.Laws.Calls.{timed-copied}

@@ -1,4 +1,4 @@
--- `host_capture::skarrowith_find_line_after` meets its contract: each way out by its law. Assumes nothing.
+-- `host_incoming::skarrowith_find_line_after` meets its contract: each way out by its law. Assumes nothing.
 use denote.Ref.{now}
 use Rattle.host_incoming.proofs.Laws.Calls.{none-after, after-short, after-whole}
 use borrow.Author.Needs.{needs}

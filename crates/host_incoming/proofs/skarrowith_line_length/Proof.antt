@@ -1,4 +1,4 @@
--- `host_capture::skarrowith_line_length` meets its contract, by the three cases of the answer. Assumes nothing.
+-- `host_incoming::skarrowith_line_length` meets its contract, by the three cases of the answer. Assumes nothing.
 use denote.Ref.{now}
 use borrow.Author.Needs.{needs}
 use Rattle.host_incoming.proofs.Laws.Calls.{tells}

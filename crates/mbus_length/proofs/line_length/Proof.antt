@@ -1,4 +1,4 @@
--- `mbus_whole::line_length` meets its contract: each way out by its law. Assumes nothing.
+-- `mbus_length::line_length` meets its contract: each way out by its law. Assumes nothing.
 use borrow.Author.Needs.{needs}
 use Rattle.mbus_length.proofs.Laws.Wholes.{whole-none, whole-refused, whole-unsound, whole-lacking}
 use Rattle.mbus_length.proofs.line_length.Statement.{statement}

@@ -1,4 +1,4 @@
--- `mbus_whole::unsound_in` meets its contract: as many characters are looked at as are there. Assumes nothing.
+-- `mbus_length::unsound_in` meets its contract: as many characters are looked at as are there. Assumes nothing.
 use mathlib.Core.Logic.{⊎-elim}
 use mathlib.Core.Path.{_≡_, sym, ap}
 use Prim.Native.Nat.{ℕ, _≤_}

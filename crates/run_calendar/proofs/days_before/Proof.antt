@@ -1,4 +1,4 @@
--- `replay_calendar::days_before` meets its contract. Assumes nothing.
+-- `run_calendar::days_before` meets its contract. Assumes nothing.
 use Prim.Native.Nat.{ℕ, _+_}
 use mathlib.Core.Path.{ap, ap₂, _∙_}
 use borrow.Author.Needs.{needs}

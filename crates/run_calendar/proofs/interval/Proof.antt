@@ -1,4 +1,4 @@
--- `replay_calendar::interval` meets its contract. Assumes nothing.
+-- `run_calendar::interval` meets its contract. Assumes nothing.
 use native.Mathlib.Omega.{arith}
 use Rattle.run_calendar.specs.Days.{interval}
 use borrow.Author.Needs.{needs}

@@ -1,4 +1,4 @@
--- `replay_calendar::month_days` meets its contract: the loop adds the days of one month after the other. Assumes nothing.
+-- `run_calendar::month_days` meets its contract: the loop adds the days of one month after the other. Assumes nothing.
 use Prim.Native.Nat.{ℕ, _+_, _*_, _-_, _≤_}
 use mathlib.Core.Path.{_≡_, refl, ap, ap₂, _∙_}
 use native.Mathlib.Numerals.{add-one}

@@ -1,4 +1,4 @@
--- `replay_calendar::year_days` meets its contract. Assumes nothing.
+-- `run_calendar::year_days` meets its contract. Assumes nothing.
 use native.Mathlib.Omega.{arith}
 use Rattle.run_calendar.proofs.Laws.Years.{years-counted}
 use borrow.Author.Needs.{needs}

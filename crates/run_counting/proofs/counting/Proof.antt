@@ -1,4 +1,4 @@
--- `replay_counting::counting` meets its contract: each way out by what the check answered. Assumes nothing.
+-- `run_counting::counting` meets its contract: each way out by what the check answered. Assumes nothing.
 use mathlib.Core.Path.{refl, sym, ap, _∙_}
 use Rattle.run_counting.specs.Shown.{shownCounting}
 use Rattle.run_counting.proofs.Laws.Answering.{counting-refused, counting-outside, counting-reads, check-refused, check-reads, numbers-shown}

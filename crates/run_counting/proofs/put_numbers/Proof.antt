@@ -1,4 +1,4 @@
--- `replay_counting::put_numbers` meets its contract: the loop notes the number of each row that counts. Assumes nothing.
+-- `run_counting::put_numbers` meets its contract: the loop notes the number of each row that counts. Assumes nothing.
 use Prim.Native.Nat.{_-_}
 use mathlib.Core.Logic.{⊎-elim}
 use native.Mathlib.Omega.{arith}

@@ -1,4 +1,4 @@
--- `listing_text::list` meets its contract: what was written is stored, or does not fit. Assumes nothing.
+-- `run_listing::list` meets its contract: what was written is stored, or does not fit. Assumes nothing.
 use mathlib.Core.Path.{sym, _∙_}
 use lib.Seq.{length-take-le}
 use Rattle.run_listing.proofs.Laws.Shown.{lists-not, lists-all}

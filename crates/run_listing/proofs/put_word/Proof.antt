@@ -1,4 +1,4 @@
--- `listing_text::put_word` meets its contract: the word is put. Assumes nothing.
+-- `run_listing::put_word` meets its contract: the word is put. Assumes nothing.
 use lib.Seq.{length-take-le}
 use native.Mathlib.Omega.{arith}
 use mathlib.Core.Path.{sym}

@@ -1,4 +1,4 @@
--- `listing_text::write_listing` meets its contract. Assumes nothing.
+-- `run_listing::write_listing` meets its contract. Assumes nothing.
 use denote.Ref.{now}
 use Prim.Native.Nat.{_≤_}
 use mathlib.Core.Path.{_≡_, sym, ap, _∙_}

@@ -1,4 +1,4 @@
--- `picture_text::draw` meets its contract, by what the verdicts tell of the check. Assumes nothing.
+-- `run_picture::draw` meets its contract, by what the verdicts tell of the check. Assumes nothing.
 use Rattle.run_picture.proofs.Laws.Drawn.{judged-all, judged-not, draws-refused}
 use borrow.Author.Needs.{needs}
 use Rattle.run_picture.proofs.draw.Statement.{statement}

@@ -1,4 +1,4 @@
--- `picture_text::draw_rows` meets its contract: the picture is measured, and drawn where it fits. Assumes nothing.
+-- `run_picture::draw_rows` meets its contract: the picture is measured, and drawn where it fits. Assumes nothing.
 use Rattle.run_picture.proofs.Laws.Drawn.{picture-drawn, draws-not, draws-all}
 use native.Mathlib.Omega.{arith}
 use borrow.Author.Needs.{needs}

@@ -1,4 +1,4 @@
--- `verdict_repeats::earlier_of` meets its contract: the loop leaves at the first row that gives the same reading. Assumes nothing.
+-- `run_repeats::earlier_of` meets its contract: the loop leaves at the first row that gives the same reading. Assumes nothing.
 use Prim.Native.Nat.{_-_}
 use native.Mathlib.Omega.{arith}
 use borrow.Author.Needs.{needs}

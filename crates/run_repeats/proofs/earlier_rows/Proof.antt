@@ -1,4 +1,4 @@
--- `verdict_repeats::earlier_rows` meets its contract: each way out by what the check answered. Assumes nothing.
+-- `run_repeats::earlier_rows` meets its contract: each way out by what the check answered. Assumes nothing.
 use mathlib.Core.Path.{refl}
 use Rattle.run_counting.proofs.Laws.Answering.{check-refused, check-reads}
 use Rattle.run_repeats.proofs.Laws.Answering.{earlier-refused, earlier-short, earlier-told}

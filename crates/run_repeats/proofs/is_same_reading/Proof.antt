@@ -1,4 +1,4 @@
--- `verdict_repeats::is_same_reading` meets its contract, by the marks of both rows. Assumes nothing.
+-- `run_repeats::is_same_reading` meets its contract, by the marks of both rows. Assumes nothing.
 use mathlib.Core.Path.{sym, _∙_}
 use native.Mathlib.Omega.{arith}
 use Rattle.bundle_check.proofs.Laws.BodyLaws.{few-rows}

@@ -1,4 +1,4 @@
--- `verdict_repeats::mark_rows` meets its contract: the loop marks one row after the other. Assumes nothing.
+-- `run_repeats::mark_rows` meets its contract: the loop marks one row after the other. Assumes nothing.
 use Prim.Native.Nat.{_-_}
 use native.Mathlib.Omega.{arith}
 use borrow.Author.Needs.{needs}

@@ -1,4 +1,4 @@
--- `verdict_repeats::put_earlier` meets its contract: the loop puts one number after the other. Assumes nothing.
+-- `run_repeats::put_earlier` meets its contract: the loop puts one number after the other. Assumes nothing.
 use Prim.Native.Nat.{_-_}
 use native.Mathlib.Omega.{arith}
 use borrow.Author.Needs.{needs}

@@ -1,4 +1,4 @@
--- `replay_error::error_between` meets its contract. Assumes nothing.
+-- `run_replay::error_between` meets its contract. Assumes nothing.
 use borrow.Author.Needs.{needs}
 use Rattle.run_replay.proofs.error_between.Statement.{statement}
 use Rattle.run_replay.proofs.error_between.Tie as tie

@@ -1,4 +1,4 @@
--- `replay_error::error_of_figures` meets its contract: each way out by the tests that led there. Assumes nothing.
+-- `run_replay::error_of_figures` meets its contract: each way out by the tests that led there. Assumes nothing.
 use mathlib.Core.Bool.{Bool, _||_}
 use mathlib.Core.Path.{_≡_, sym, ap, ap₂, _∙_}
 use native.Mathlib.Omega.{arith}

@@ -1,4 +1,4 @@
--- `replay_error::replay` meets its contract: each way out by what was answered of the rows that count. Assumes nothing.
+-- `run_replay::replay` meets its contract: each way out by what was answered of the rows that count. Assumes nothing.
 use Prim.Native.Nat.{ℕ}
 use mathlib.Core.List.{List}
 use mathlib.Core.Path.{refl, ap, _∙_}

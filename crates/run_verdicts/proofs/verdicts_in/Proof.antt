@@ -1,4 +1,4 @@
--- `verdict_rows::verdicts_in` meets its contract: each way out by what the check answered. Assumes nothing.
+-- `run_verdicts::verdicts_in` meets its contract: each way out by what the check answered. Assumes nothing.
 use mathlib.Core.Path.{ap, _∙_}
 use Rattle.run_counting.proofs.Laws.Answering.{check-refused, check-reads}
 use Rattle.run_verdicts.specs.Shown.{shownVerdicts}

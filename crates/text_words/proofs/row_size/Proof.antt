@@ -1,4 +1,4 @@
--- `host_words::row_size` meets its contract: the loop stops at the first line feed. Assumes nothing.
+-- `text_words::row_size` meets its contract: the loop stops at the first line feed. Assumes nothing.
 use Prim.Native.Nat.{_-_}
 use native.Mathlib.Omega.{arith}
 use lib.ListN.{length}

@@ -1,4 +1,4 @@
--- `host_words::row_start` meets its contract: the loop skips rows. Assumes nothing.
+-- `text_words::row_start` meets its contract: the loop skips rows. Assumes nothing.
 use Prim.Native.Nat.{_-_, _<_}
 use mathlib.Core.Logic.{⊎-elim}
 use native.Mathlib.Omega.{arith}

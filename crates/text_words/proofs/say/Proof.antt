@@ -1,4 +1,4 @@
--- `host_words::say` meets its contract: the loop copies. Assumes nothing.
+-- `text_words::say` meets its contract: the loop copies. Assumes nothing.
 use Prim.Native.Nat.{_+_, _-_}
 use native.Mathlib.Omega.{arith}
 use lib.ListN.{length}

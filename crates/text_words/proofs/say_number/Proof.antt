@@ -1,4 +1,4 @@
--- `host_words::say_number` meets its contract. Assumes nothing.
+-- `text_words::say_number` meets its contract. Assumes nothing.
 use mathlib.Core.Path.{_≡_}
 use native.Mathlib.Omega.{arith}
 use borrow.Author.Needs.{needs}

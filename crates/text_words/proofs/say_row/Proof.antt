@@ -1,4 +1,4 @@
--- `host_words::say_row` meets its contract. Assumes nothing.
+-- `text_words::say_row` meets its contract. Assumes nothing.
 use Prim.Native.Nat.{_≤_}
 use mathlib.Core.Path.{_≡_, sym}
 use native.Mathlib.Omega.{arith}

@@ -1,4 +1,4 @@
--- `mbus_characters::line::gather` meets its contract: one loop looks at each character for range, parity and sum. Assumes nothing.
+-- `base_characters::line::gather` meets its contract: one loop looks at each character for range, parity and sum. Assumes nothing.
 use Prim.Native.Nat.{_-_}
 use mathlib.Core.Path.{refl}
 use native.Mathlib.Omega.{arith}

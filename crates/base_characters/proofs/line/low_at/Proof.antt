@@ -1,4 +1,4 @@
--- `mbus_characters::line::low_at` meets its contract: a byte of the line is the byte of the character there. Assumes nothing.
+-- `base_characters::line::low_at` meets its contract: a byte of the line is the byte of the character there. Assumes nothing.
 use borrow.Author.Needs.{needs}
 use mathlib.Core.Path.{sym}
 use denote.Ref.{now}

@@ -1,4 +1,4 @@
--- `mbus_characters::line::soundness_of` meets its contract: each character is looked at for both tests. Assumes nothing.
+-- `base_characters::line::soundness_of` meets its contract: each character is looked at for both tests. Assumes nothing.
 use Prim.Native.Nat.{_-_, _≤_}
 use mathlib.Core.Path.{refl, _∙_}
 use native.Mathlib.Omega.{arith}

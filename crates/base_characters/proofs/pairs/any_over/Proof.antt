@@ -1,4 +1,4 @@
--- `mbus_characters::pairs::any_over` meets its contract: the loop looks at each character. Assumes nothing.
+-- `base_characters::pairs::any_over` meets its contract: the loop looks at each character. Assumes nothing.
 use borrow.Author.Needs.{needs}
 use Prim.Native.Nat.{_-_}
 use denote.Ref.{now}

@@ -1,4 +1,4 @@
--- `mbus_characters::pairs::character_at` meets its contract. Assumes nothing.
+-- `base_characters::pairs::character_at` meets its contract. Assumes nothing.
 use borrow.Author.Needs.{needs}
 use mathlib.Core.Path.{sym}
 use denote.Ref.{now}

@@ -1,4 +1,4 @@
--- `mbus_characters::pairs::gather` meets its contract: as many characters as there are places. Assumes nothing.
+-- `base_characters::pairs::gather` meets its contract: as many characters as there are places. Assumes nothing.
 use Prim.Native.Nat.{ℕ, _≤_}
 use mathlib.Core.List.{List, map}
 use mathlib.Core.Path.{_≡_, sym, ap, _∙_}

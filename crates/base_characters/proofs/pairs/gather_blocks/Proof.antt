@@ -1,4 +1,4 @@
--- `mbus_characters::pairs::gather_blocks` meets its contract: one loop looks at each character for range, parity and sum. Assumes nothing.
+-- `base_characters::pairs::gather_blocks` meets its contract: one loop looks at each character for range, parity and sum. Assumes nothing.
 use Prim.Native.Nat.{_-_, _≤_}
 use mathlib.Core.Path.{sym, _∙_}
 use native.Mathlib.Omega.{arith}

@@ -1,4 +1,4 @@
--- `mbus_characters::pairs::gather_last` meets its contract: one loop over a block, of which the end alone counts. Assumes nothing.
+-- `base_characters::pairs::gather_last` meets its contract: one loop over a block, of which the end alone counts. Assumes nothing.
 use Prim.Native.Nat.{_-_, _+_, _/_, _%_, _≤_, _<_}
 use mathlib.Core.Path.{refl, sym, _∙_}
 use native.Mathlib.Omega.{arith}

@@ -1,4 +1,4 @@
--- `mbus_characters::pairs::gather_short` meets its contract: both parts together are all. Assumes nothing.
+-- `base_characters::pairs::gather_short` meets its contract: both parts together are all. Assumes nothing.
 use Prim.Native.Nat.{_-_, _*_, _/_, _≤_}
 use mathlib.Core.Path.{_∙_}
 use native.Mathlib.Omega.{arith}

@@ -1,4 +1,4 @@
--- `mbus_characters::pairs::pair_at` meets its contract. Assumes nothing.
+-- `base_characters::pairs::pair_at` meets its contract. Assumes nothing.
 use borrow.Author.Needs.{needs}
 use Prim.Native.Nat.{_+_, _*_}
 use mathlib.Core.Path.{sym}

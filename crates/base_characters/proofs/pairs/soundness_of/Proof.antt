@@ -1,4 +1,4 @@
--- `mbus_characters::pairs::soundness_of` meets its contract, as the walk over characters does. Assumes nothing.
+-- `base_characters::pairs::soundness_of` meets its contract, as the walk over characters does. Assumes nothing.
 use Prim.Native.Nat.{_-_, _/_, _≤_}
 use mathlib.Core.Path.{_∙_}
 use native.Mathlib.Omega.{arith}

@@ -1,4 +1,4 @@
--- `bytes_numbers::signed::below_one` meets its contract. Assumes nothing.
+-- `base_numbers::signed::below_one` meets its contract. Assumes nothing.
 use borrow.Author.Needs.{needs}
 use lib.IntN.{negsuc}
 use mir.Syntax.{w64}

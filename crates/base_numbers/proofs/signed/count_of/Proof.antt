@@ -1,4 +1,4 @@
--- `bytes_numbers::signed::count_of` meets its contract. Assumes nothing.
+-- `base_numbers::signed::count_of` meets its contract. Assumes nothing.
 use borrow.Author.Needs.{needs}
 use mathlib.Core.Path.{_∙_}
 use lib.IntN.{pos}

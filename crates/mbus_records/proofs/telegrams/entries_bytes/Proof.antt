@@ -1,4 +1,4 @@
--- `host_records::telegrams::entries_bytes` meets its contract: the entries so far lie one behind the other. Assumes nothing.
+-- `mbus_records::telegrams::entries_bytes` meets its contract: the entries so far lie one behind the other. Assumes nothing.
 use Prim.Native.Nat.{_-_}
 use mathlib.Core.Path.{_≡_, refl, sym, _∙_}
 use native.Mathlib.Nat.{zero-add}

@@ -1,4 +1,4 @@
--- `host_records::telegrams::entries_in` meets its contract. Assumes nothing.
+-- `mbus_records::telegrams::entries_in` meets its contract. Assumes nothing.
 use borrow.Author.Needs.{needs}
 use denote.Ref.{now}
 use Rattle.mbus_records.proofs.Laws.TelegramLaws.{entries-listed}

@@ -1,4 +1,4 @@
--- `host_records::telegrams::entry_bytes` meets its contract. Assumes nothing.
+-- `mbus_records::telegrams::entry_bytes` meets its contract. Assumes nothing.
 use borrow.Author.Needs.{needs}
 use Rattle.mbus_records.proofs.Laws.TelegramLaws.{value-listed}
 use Rattle.mbus_records.proofs.telegrams.entry_bytes.Statement.{statement}

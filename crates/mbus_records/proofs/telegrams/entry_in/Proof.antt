@@ -1,4 +1,4 @@
--- `host_records::telegrams::entry_in` meets its contract. Assumes nothing.
+-- `mbus_records::telegrams::entry_in` meets its contract. Assumes nothing.
 use borrow.Author.Needs.{needs}
 use mir.Syntax.{w64}
 use mir.ValLaws.{toZ-ofZ}

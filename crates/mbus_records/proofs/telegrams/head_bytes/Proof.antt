@@ -1,4 +1,4 @@
--- `host_records::telegrams::head_bytes` meets its contract. Assumes nothing.
+-- `mbus_records::telegrams::head_bytes` meets its contract. Assumes nothing.
 use Rattle.base_numbers.specs.Numbers.{bytesOf}
 use borrow.Author.Needs.{needs}
 use Rattle.mbus_records.proofs.telegrams.head_bytes.Statement.{statement}

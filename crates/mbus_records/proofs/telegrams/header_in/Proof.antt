@@ -1,4 +1,4 @@
--- `host_records::telegrams::header_in` meets its contract. Assumes nothing.
+-- `mbus_records::telegrams::header_in` meets its contract. Assumes nothing.
 use borrow.Author.Needs.{needs}
 use Rattle.mbus_records.proofs.telegrams.header_in.Statement.{statement}
 use Rattle.mbus_records.proofs.telegrams.header_in.Tie as tie

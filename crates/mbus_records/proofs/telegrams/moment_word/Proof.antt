@@ -1,4 +1,4 @@
--- `host_records::telegrams::moment_word` meets its contract. Assumes nothing.
+-- `mbus_records::telegrams::moment_word` meets its contract. Assumes nothing.
 use mathlib.Core.Path.{refl}
 use Rattle.mbus_records.proofs.Laws.TelegramLaws.{moment-word}
 use borrow.Author.Needs.{needs}

@@ -1,4 +1,4 @@
--- `host_records::telegrams::telegram_bytes` meets its contract: one record of its parts. Assumes nothing.
+-- `mbus_records::telegrams::telegram_bytes` meets its contract: one record of its parts. Assumes nothing.
 use mathlib.Core.Path.{refl}
 use mathlib.Core.List.{[], _∷_}
 use lib.ListN.{replicate}

@@ -1,4 +1,4 @@
--- `host_records::telegrams::telegram_from` meets its contract. Assumes nothing.
+-- `mbus_records::telegrams::telegram_from` meets its contract. Assumes nothing.
 use borrow.Author.Needs.{needs}
 use denote.Ref.{now}
 use mathlib.Core.Path.{sym, ap, _∙_}

@@ -1,4 +1,4 @@
--- `host_records::telegrams::telegram_in` meets its contract. Assumes nothing.
+-- `mbus_records::telegrams::telegram_in` meets its contract. Assumes nothing.
 use denote.Ref.{now}
 use native.Mathlib.Omega.{arith}
 use lib.ListN.{drop, length-drop}

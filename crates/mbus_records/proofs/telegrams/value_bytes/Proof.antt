@@ -1,4 +1,4 @@
--- `host_records::telegrams::value_bytes` meets its contract. Assumes nothing.
+-- `mbus_records::telegrams::value_bytes` meets its contract. Assumes nothing.
 use mathlib.Core.Path.{_∙_}
 use borrow.Author.Needs.{needs}
 use Rattle.mbus_records.proofs.telegrams.value_bytes.Statement.{statement}

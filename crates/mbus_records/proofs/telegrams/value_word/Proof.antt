@@ -1,4 +1,4 @@
--- `host_records::telegrams::value_word` meets its contract. Assumes nothing.
+-- `mbus_records::telegrams::value_word` meets its contract. Assumes nothing.
 use borrow.Author.Needs.{needs}
 use mathlib.Core.Path.{ap, _∙_}
 use native.Mathlib.Omega.{arith}

@@ -1,4 +1,4 @@
--- `replay_counting::ear::fits_in_time` meets its contract. Assumes nothing.
+-- `run_counting::ear::fits_in_time` meets its contract. Assumes nothing.
 use borrow.Author.Needs.{needs}
 use Rattle.run_counting.proofs.ear.fits_in_time.Statement.{statement}
 use Rattle.run_counting.proofs.ear.fits_in_time.Tie as tie

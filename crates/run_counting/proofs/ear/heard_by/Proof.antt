@@ -1,4 +1,4 @@
--- `replay_counting::ear::heard_by` meets its contract: nothing is open, the row begins before the end, or it decides. Assumes nothing.
+-- `run_counting::ear::heard_by` meets its contract: nothing is open, the row begins before the end, or it decides. Assumes nothing.
 use borrow.Author.Needs.{needs}
 use Rattle.run_counting.proofs.ear.heard_by.Statement.{statement}
 use Rattle.run_counting.proofs.ear.heard_by.Tie as tie

@@ -1,4 +1,4 @@
--- `replay_counting::ear::opened` meets its contract: each outline by its case. Assumes nothing.
+-- `run_counting::ear::opened` meets its contract: each outline by its case. Assumes nothing.
 use borrow.Author.Needs.{needs}
 use Rattle.run_counting.proofs.ear.opened.Statement.{statement}
 use Rattle.run_counting.proofs.ear.opened.Tie as tie

@@ -1,4 +1,4 @@
--- `replay_counting::ear::opened_after` meets its contract. Assumes nothing.
+-- `run_counting::ear::opened_after` meets its contract. Assumes nothing.
 use Rattle.base_characters.proofs.Laws.PairLaws.{length-characters}
 use borrow.Author.Needs.{needs}
 use Rattle.run_counting.proofs.ear.opened_after.Statement.{statement}

@@ -1,4 +1,4 @@
--- `replay_counting::ear::passed_by` meets its contract: each way out by the tests that led there. Assumes nothing.
+-- `run_counting::ear::passed_by` meets its contract: each way out by the tests that led there. Assumes nothing.
 use mathlib.Core.Path.{sym, _∙_}
 use borrow.Author.Tests.{not-true, not-false}
 use lib.Dec.{eqb}

@@ -1,4 +1,4 @@
--- `replay_counting::ear::turn_at` meets its contract: the body of the row is that stretch of the bundle. Assumes nothing.
+-- `run_counting::ear::turn_at` meets its contract: the body of the row is that stretch of the bundle. Assumes nothing.
 use Prim.Native.Nat.{ℕ, _+_, _≤_}
 use mathlib.Core.List.{List}
 use mathlib.Core.Path.{ap, _∙_}

@@ -1,4 +1,4 @@
--- `listing_column::column_of` meets its contract: a wake-up, or the outline. Assumes nothing.
+-- `run_listing::column_of` meets its contract: a wake-up, or the outline. Assumes nothing.
 use borrow.Author.Needs.{needs}
 use mathlib.Core.Path.{sym, ap, _∙_}
 use Rattle.run_listing.specs.declared.line_column.Column.the-variants.{Reads}

@@ -1,4 +1,4 @@
--- `listing_text::lines::line_of` meets its contract: the columns are put together from the left. Assumes nothing.
+-- `run_listing::lines::line_of` meets its contract: the columns are put together from the left. Assumes nothing.
 use mathlib.Core.Path.{_≡_, sym}
 use native.Mathlib.Omega.{arith}
 use borrow.Author.Needs.{needs}

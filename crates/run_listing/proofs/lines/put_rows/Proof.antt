@@ -1,4 +1,4 @@
--- `listing_text::lines::put_rows` meets its contract: the loop writes the lines one behind the other. Assumes nothing.
+-- `run_listing::lines::put_rows` meets its contract: the loop writes the lines one behind the other. Assumes nothing.
 use Rattle.run_listing.specs.Writing.{Holds}
 use Rattle.run_listing.specs.Listings.{lineFor}
 use lib.ListN.{getD}

@@ -1,4 +1,4 @@
--- `listing_text::lines::refused` meets its contract. Assumes nothing.
+-- `run_listing::lines::refused` meets its contract. Assumes nothing.
 use native.Mathlib.Omega.{arith}
 use borrow.Author.Needs.{needs}
 use Rattle.run_listing.proofs.lines.refused.Statement.{statement}

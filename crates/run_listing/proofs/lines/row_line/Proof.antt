@@ -1,4 +1,4 @@
--- `listing_text::lines::row_line` meets its contract. Assumes nothing.
+-- `run_listing::lines::row_line` meets its contract. Assumes nothing.
 use Rattle.run_listing.specs.Listings.{lineFor, wordOf, rowText}
 use Rattle.base_characters.specs.Characters.{chars}
 use Prim.Native.Nat.{ℕ}

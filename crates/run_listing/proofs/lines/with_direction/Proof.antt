@@ -1,4 +1,4 @@
--- `listing_text::lines::with_direction` meets its contract, by cases on the direction. Assumes nothing.
+-- `run_listing::lines::with_direction` meets its contract, by cases on the direction. Assumes nothing.
 use native.Mathlib.Omega.{arith}
 use borrow.Author.Needs.{needs}
 use Rattle.run_listing.proofs.lines.with_direction.Statement.{statement}

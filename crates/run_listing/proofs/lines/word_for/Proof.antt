@@ -1,4 +1,4 @@
--- `listing_text::lines::word_for` meets its contract, case by case. Assumes nothing.
+-- `run_listing::lines::word_for` meets its contract, case by case. Assumes nothing.
 use native.Mathlib.Omega.{arith}
 use borrow.Author.Needs.{needs}
 use Rattle.run_listing.proofs.lines.word_for.Statement.{statement}

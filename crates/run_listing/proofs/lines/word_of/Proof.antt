@@ -1,4 +1,4 @@
--- `listing_text::lines::word_of` meets its contract, case by case. Assumes nothing.
+-- `run_listing::lines::word_of` meets its contract, case by case. Assumes nothing.
 use mathlib.Core.Path.{sym, _∙_}
 use native.Mathlib.Omega.{arith}
 use borrow.Author.Needs.{needs}

@@ -1,4 +1,4 @@
--- `listing_text::texts::begin` meets its contract. Assumes nothing.
+-- `run_listing::texts::begin` meets its contract. Assumes nothing.
 use mathlib.Core.Path.{_≡_, _∙_}
 use native.Mathlib.Omega.{arith}
 use borrow.Author.Needs.{needs}

@@ -1,4 +1,4 @@
--- `listing_text::texts::with` meets its contract: the bytes are put behind the text. Assumes nothing.
+-- `run_listing::texts::with` meets its contract: the bytes are put behind the text. Assumes nothing.
 use Prim.Native.Nat.{_≤_}
 use native.Mathlib.Omega.{arith}
 use borrow.Author.Needs.{needs}

@@ -1,4 +1,4 @@
--- `listing_text::texts::with_number` meets its contract: the digits stand behind the text. Assumes nothing.
+-- `run_listing::texts::with_number` meets its contract: the digits stand behind the text. Assumes nothing.
 use Rattle.text_filling.proofs.Laws.WritingLaws.{put-front, writes-length}
 use Rattle.text_filling.proofs.Laws.DecimalLaws.{decimal-few}
 use Rattle.text_filling.specs.Decimals.{decimal}

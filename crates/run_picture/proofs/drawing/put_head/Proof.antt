@@ -1,4 +1,4 @@
--- `picture_text::drawing::put_head` meets its contract: four texts. Assumes nothing.
+-- `run_picture::drawing::put_head` meets its contract: four texts. Assumes nothing.
 use Rattle.text_filling.proofs.Laws.WritingLaws.{four}
 use native.Mathlib.Omega.{arith}
 use borrow.Author.Needs.{needs}

@@ -1,4 +1,4 @@
--- `picture_text::drawing::put_lanes` meets its contract: a lane for each position that has rows, one after the other. Assumes nothing.
+-- `run_picture::drawing::put_lanes` meets its contract: a lane for each position that has rows, one after the other. Assumes nothing.
 use borrow.Author.Needs.{needs}
 use Rattle.run_picture.proofs.Laws.DrawingLaws.{lanes-next, lanes-none}
 use Rattle.run_picture.proofs.Laws.PageLaws.{used-own, used-other, used-none}

@@ -1,4 +1,4 @@
--- `picture_text::drawing::put_marks` meets its contract: one mark after the other. Assumes nothing.
+-- `run_picture::drawing::put_marks` meets its contract: one mark after the other. Assumes nothing.
 use borrow.Author.Needs.{needs}
 use Rattle.run_picture.proofs.Laws.DrawingLaws.{marks-next, marks-none}
 use Rattle.run_picture.specs.Pictures.{marksDrawn}

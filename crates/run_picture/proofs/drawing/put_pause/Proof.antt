@@ -1,4 +1,4 @@
--- `picture_text::drawing::put_pause` meets its contract, by cases. Assumes nothing.
+-- `run_picture::drawing::put_pause` meets its contract, by cases. Assumes nothing.
 use Rattle.text_filling.proofs.Laws.WritingLaws.{nothing}
 use native.Mathlib.Omega.{arith}
 use borrow.Author.Needs.{needs}

@@ -1,4 +1,4 @@
--- `picture_text::drawing::put_pauses` meets its contract: one pause after the other. Assumes nothing.
+-- `run_picture::drawing::put_pauses` meets its contract: one pause after the other. Assumes nothing.
 use borrow.Author.Needs.{needs}
 use Rattle.run_picture.proofs.Laws.DrawingLaws.{pauses-next, pauses-none}
 use Rattle.run_picture.specs.Pictures.{pausesDrawn}

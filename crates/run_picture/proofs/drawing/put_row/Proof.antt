@@ -1,4 +1,4 @@
--- `picture_text::drawing::put_row` meets its contract: four texts, of the row as it stands in the bundle. Assumes nothing.
+-- `run_picture::drawing::put_row` meets its contract: four texts, of the row as it stands in the bundle. Assumes nothing.
 use Rattle.run_picture.specs.Elements.{rowDrawn}
 use Rattle.text_filling.proofs.Laws.WritingLaws.{four}
 use Rattle.bundle_check.proofs.Laws.BodyLaws.{unchecked-inside}

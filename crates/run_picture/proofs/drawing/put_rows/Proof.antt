@@ -1,4 +1,4 @@
--- `picture_text::drawing::put_rows` meets its contract: the rows of the position, one after the other. Assumes nothing.
+-- `run_picture::drawing::put_rows` meets its contract: the rows of the position, one after the other. Assumes nothing.
 use borrow.Author.Needs.{needs}
 use Rattle.run_picture.proofs.Laws.DrawingLaws.{rows-own, rows-other, rows-none, ruled-at}
 use Rattle.run_picture.specs.Pictures.{rowsDrawn, ruled}

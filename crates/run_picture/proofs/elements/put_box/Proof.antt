@@ -1,4 +1,4 @@
--- `picture_text::elements::put_box` meets its contract, by cases on the direction. Assumes nothing.
+-- `run_picture::elements::put_box` meets its contract, by cases on the direction. Assumes nothing.
 use borrow.Author.Needs.{needs}
 use Rattle.run_picture.proofs.elements.put_box.Statement.{statement}
 use Rattle.run_picture.proofs.elements.put_box.Tie as tie

@@ -1,4 +1,4 @@
--- `picture_text::elements::put_pauses_open` meets its contract. Assumes nothing.
+-- `run_picture::elements::put_pauses_open` meets its contract. Assumes nothing.
 use borrow.Author.Needs.{needs}
 use Rattle.run_picture.proofs.elements.put_pauses_open.Statement.{statement}
 use Rattle.run_picture.proofs.elements.put_pauses_open.Tie as tie

@@ -1,4 +1,4 @@
--- `picture_text::elements::put_style` meets its contract. Assumes nothing.
+-- `run_picture::elements::put_style` meets its contract. Assumes nothing.
 use Rattle.run_picture.specs.Elements.{styleText}
 use borrow.Author.Needs.{needs}
 use Rattle.run_picture.proofs.elements.put_style.Statement.{statement}

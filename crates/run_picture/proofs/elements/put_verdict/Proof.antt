@@ -1,4 +1,4 @@
--- `picture_text::elements::put_verdict` meets its contract, case by case. Assumes nothing.
+-- `run_picture::elements::put_verdict` meets its contract, case by case. Assumes nothing.
 use borrow.Author.Needs.{needs}
 use Rattle.run_picture.proofs.elements.put_verdict.Statement.{statement}
 use Rattle.run_picture.proofs.elements.put_verdict.Tie as tie

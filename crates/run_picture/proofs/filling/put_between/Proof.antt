@@ -1,4 +1,4 @@
--- `picture_text::filling::put_between` meets its contract: three texts. Assumes nothing.
+-- `run_picture::filling::put_between` meets its contract: three texts. Assumes nothing.
 use Rattle.text_filling.proofs.Laws.WritingLaws.{three}
 use borrow.Author.Needs.{needs}
 use Rattle.run_picture.proofs.filling.put_between.Statement.{statement}

@@ -1,4 +1,4 @@
--- `picture_text::filling::put_decimal` meets its contract, where there is no room and where there is some. Assumes nothing.
+-- `run_picture::filling::put_decimal` meets its contract, where there is no room and where there is some. Assumes nothing.
 use Prim.Native.Nat.{ℕ, _+_}
 use mathlib.Core.Path.{ap, _∙_}
 use Rattle.text_filling.specs.Putting.{tallied}

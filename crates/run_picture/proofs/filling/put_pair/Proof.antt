@@ -1,4 +1,4 @@
--- `picture_text::filling::put_pair` meets its contract: two texts. Assumes nothing.
+-- `run_picture::filling::put_pair` meets its contract: two texts. Assumes nothing.
 use mathlib.Core.List.{_++_}
 use Rattle.text_filling.specs.Decimals.{decimal}
 use Rattle.text_filling.proofs.Laws.WritingLaws.{two}

@@ -1,4 +1,4 @@
--- `picture_text::filling::put_text` meets its contract: no room, room enough, or both. Assumes nothing.
+-- `run_picture::filling::put_text` meets its contract: no room, room enough, or both. Assumes nothing.
 use native.Mathlib.Omega.{arith}
 use Rattle.run_picture.proofs.Laws.Filling.{text-past, text-laid}
 use borrow.Author.Needs.{needs}

@@ -1,4 +1,4 @@
--- `picture_text::filling::width_of` meets its contract: a digit is taken off in each turn. Assumes nothing.
+-- `run_picture::filling::width_of` meets its contract: a digit is taken off in each turn. Assumes nothing.
 use native.Mathlib.Omega.{arith}
 use mathlib.Core.Path.{_≡_, ap, _∙_}
 use Prim.Native.Nat.{_+_, _/_, _≤_}

@@ -1,4 +1,4 @@
--- `picture_text::pace::line_time` meets its contract: a row says how many bytes its body has. Assumes nothing.
+-- `run_picture::pace::line_time` meets its contract: a row says how many bytes its body has. Assumes nothing.
 use Rattle.run_picture.proofs.Laws.Rows.{body-characters}
 use lib.ListN.{length}
 use native.Mathlib.Omega.{arith}

@@ -1,4 +1,4 @@
--- `picture_text::pace::paced` meets its contract: the row lies in the bundle. Assumes nothing.
+-- `run_picture::pace::paced` meets its contract: the row lies in the bundle. Assumes nothing.
 use Rattle.bundle_check.proofs.Laws.BodyLaws.{few-rows, unchecked-inside}
 use native.Mathlib.Omega.{arith}
 use borrow.Author.Needs.{needs}

@@ -1,4 +1,4 @@
--- `picture_text::pace::paced_by` meets its contract. Assumes nothing.
+-- `run_picture::pace::paced_by` meets its contract. Assumes nothing.
 use native.Mathlib.Omega.{arith}
 use borrow.Author.Needs.{needs}
 use Rattle.run_picture.proofs.pace.paced_by.Statement.{statement}

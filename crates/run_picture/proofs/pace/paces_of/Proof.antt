@@ -1,4 +1,4 @@
--- `picture_text::pace::paces_of` meets its contract: the walk along the rows. Assumes nothing.
+-- `run_picture::pace::paces_of` meets its contract: the walk along the rows. Assumes nothing.
 use borrow.Author.Needs.{needs}
 use Rattle.run_picture.proofs.Laws.TimingLaws.{Placing, placing-next, placing-all}
 use Rattle.run_picture.proofs.Laws.Rows.{rest-rows}

@@ -1,4 +1,4 @@
--- `picture_text::pace::reach` meets its contract: the walk along the rows up to a place. Assumes nothing.
+-- `run_picture::pace::reach` meets its contract: the walk along the rows up to a place. Assumes nothing.
 use borrow.Author.Needs.{needs}
 use borrow.Author.Tests.{ltb-false, le-ltb}
 use Rattle.run_picture.proofs.Laws.TimingLaws.{cut-past, cut-on, cut-all}

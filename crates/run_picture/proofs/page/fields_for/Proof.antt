@@ -1,4 +1,4 @@
--- `picture_text::page::fields_for` meets its contract. Assumes nothing.
+-- `run_picture::page::fields_for` meets its contract. Assumes nothing.
 use Prim.Native.Nat.{_*_}
 use native.Mathlib.Nat.{div-le-self}
 use native.Mathlib.Omega.{arith}

@@ -1,4 +1,4 @@
--- `picture_text::page::page_for` meets its contract. Assumes nothing.
+-- `run_picture::page::page_for` meets its contract. Assumes nothing.
 use native.Mathlib.Omega.{arith}
 use native.Mathlib.Nat.{mul-le-mul}
 use Prim.Native.Nat.{_*_, _≤_}

@@ -1,4 +1,4 @@
--- `picture_text::page::plan_of` meets its contract: the walks are put together. Assumes nothing.
+-- `run_picture::page::plan_of` meets its contract: the walks are put together. Assumes nothing.
 use Rattle.bundle_check.specs.Records.{recordsOf}
 use Rattle.run_picture.specs.Pages.{pageOf}
 use Rattle.run_counting.proofs.Laws.Walking.{length-records}

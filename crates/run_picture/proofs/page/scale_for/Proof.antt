@@ -1,4 +1,4 @@
--- `picture_text::page::scale_for` meets its contract. Assumes nothing.
+-- `run_picture::page::scale_for` meets its contract. Assumes nothing.
 use borrow.Author.Needs.{needs}
 use borrow.Author.Tests.{le-ltb, lt-ltb}
 use native.Mathlib.Omega.{arith}

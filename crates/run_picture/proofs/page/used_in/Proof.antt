@@ -1,4 +1,4 @@
--- `picture_text::page::used_in` meets its contract: each row marks its position. Assumes nothing.
+-- `run_picture::page::used_in` meets its contract: each row marks its position. Assumes nothing.
 use borrow.Author.Needs.{needs}
 use Rattle.run_picture.proofs.Laws.PageLaws.{Using, using-none, using-next, using-all}
 use Rattle.run_picture.proofs.Laws.Rows.{rest-rows, no-rows, near-position}

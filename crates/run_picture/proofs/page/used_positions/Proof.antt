@@ -1,4 +1,4 @@
--- `picture_text::page::used_positions` meets its contract: the positions are tried one by one. Assumes nothing.
+-- `run_picture::page::used_positions` meets its contract: the positions are tried one by one. Assumes nothing.
 use borrow.Author.Needs.{needs}
 use Rattle.run_picture.proofs.Laws.PageLaws.{used-own, used-other, used-none}
 use Rattle.run_picture.specs.Pages.{usedFrom, usedPositions, Used}

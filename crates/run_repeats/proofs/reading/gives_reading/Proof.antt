@@ -1,4 +1,4 @@
--- `verdict_repeats::reading::gives_reading` meets its contract. Assumes nothing.
+-- `run_repeats::reading::gives_reading` meets its contract. Assumes nothing.
 use borrow.Author.Needs.{needs}
 use Rattle.run_repeats.proofs.reading.gives_reading.Statement.{statement}
 use Rattle.run_repeats.proofs.reading.gives_reading.Tie as tie

@@ -1,4 +1,4 @@
--- `verdict_repeats::reading::mark_of` meets its contract: a row that gives a reading is long enough for its entries. Assumes nothing.
+-- `run_repeats::reading::mark_of` meets its contract: a row that gives a reading is long enough for its entries. Assumes nothing.
 use mathlib.Core.Path.{sym, _∙_}
 use native.Mathlib.Omega.{arith}
 use borrow.Author.Tests.{not-true, not-false}

@@ -1,4 +1,4 @@
--- `verdict_repeats::reading::same_at` meets its contract: the bodies of the rows are those stretches of the bundle. Assumes nothing.
+-- `run_repeats::reading::same_at` meets its contract: the bodies of the rows are those stretches of the bundle. Assumes nothing.
 use Prim.Native.Nat.{ℕ, _+_, _≤_}
 use mathlib.Core.List.{List}
 use mathlib.Core.Path.{ap₂, _∙_}

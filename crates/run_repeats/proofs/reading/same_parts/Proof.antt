@@ -1,4 +1,4 @@
--- `verdict_repeats::reading::same_parts` meets its contract. Assumes nothing.
+-- `run_repeats::reading::same_parts` meets its contract. Assumes nothing.
 use borrow.Author.Tests.{not-true, not-false}
 use mathlib.Core.Path.{sym, _∙_}
 use Rattle.run_repeats.specs.Repeats.{sameParts}

@@ -1,4 +1,4 @@
--- `verdict_repeats::reading::sum_of` meets its contract: the loop sums one byte after the other. Assumes nothing.
+-- `run_repeats::reading::sum_of` meets its contract: the loop sums one byte after the other. Assumes nothing.
 use Prim.Native.Nat.{_-_}
 use native.Mathlib.Omega.{arith}
 use lib.ListN.{length}

@@ -1,4 +1,4 @@
--- `replay_error::figures::digit_of` meets its contract: the power of the unit byte and that of a cubic metre. Assumes nothing.
+-- `run_replay::figures::digit_of` meets its contract: the power of the unit byte and that of a cubic metre. Assumes nothing.
 use Prim.Native.Nat.{_*_, _%_, _-_, _^_}
 use mathlib.Core.Path.{_≡_, sym, _∙_}
 use lib.Pow.{pow-add}

@@ -1,4 +1,4 @@
--- `replay_error::figures::entry_with` meets its contract: what is left has the entry. Assumes nothing.
+-- `run_replay::figures::entry_with` meets its contract: what is left has the entry. Assumes nothing.
 use Prim.Native.Nat.{ℕ, _-_}
 use mathlib.Core.Path.{_≡_, refl, sym, ap, _∙_}
 use native.Mathlib.Omega.{arith}

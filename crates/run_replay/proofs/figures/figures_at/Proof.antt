@@ -1,4 +1,4 @@
--- `replay_error::figures::figures_at` meets its contract. Assumes nothing.
+-- `run_replay::figures::figures_at` meets its contract. Assumes nothing.
 use Prim.Native.Nat.{ℕ}
 use mathlib.Core.List.{List}
 use mathlib.Core.Path.{sym, ap, _∙_}

@@ -1,4 +1,4 @@
--- `replay_error::figures::moment_in` meets its contract. Assumes nothing.
+-- `run_replay::figures::moment_in` meets its contract. Assumes nothing.
 use borrow.Author.Needs.{needs}
 use Rattle.run_replay.proofs.figures.moment_in.Statement.{statement}
 use Rattle.run_replay.proofs.figures.moment_in.Tie as tie

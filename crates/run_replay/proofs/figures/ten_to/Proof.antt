@@ -1,4 +1,4 @@
--- `replay_error::figures::ten_to` meets its contract: each power by its number. Assumes nothing.
+-- `run_replay::figures::ten_to` meets its contract: each power by its number. Assumes nothing.
 use Rattle.run_replay.proofs.Laws.Telling.{last-of-eight}
 use Rattle.run_replay.proofs.figures.ten_to.Statement.{statement}
 use Rattle.run_replay.proofs.figures.ten_to.Tie as tie

@@ -1,4 +1,4 @@
--- `replay_error::figures::told_by` meets its contract. Assumes nothing.
+-- `run_replay::figures::told_by` meets its contract. Assumes nothing.
 use borrow.Author.Needs.{needs}
 use Rattle.run_replay.proofs.figures.told_by.Statement.{statement}
 use Rattle.run_replay.proofs.figures.told_by.Tie as tie

@@ -1,4 +1,4 @@
--- `replay_error::figures::volume_count` meets its contract. Assumes nothing.
+-- `run_replay::figures::volume_count` meets its contract. Assumes nothing.
 use borrow.Author.Needs.{needs}
 use mathlib.Core.Path.{ap, _∙_}
 use native.Mathlib.Omega.{arith}

@@ -1,4 +1,4 @@
--- `replay_error::figures::volume_of` meets its contract. Assumes nothing.
+-- `run_replay::figures::volume_of` meets its contract. Assumes nothing.
 use native.Mathlib.Omega.{arith}
 use Rattle.run_replay.proofs.Laws.Telling.{unit-above, volume-over, volume-small, volume-told}
 use borrow.Author.Needs.{needs}

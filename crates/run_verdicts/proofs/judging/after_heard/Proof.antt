@@ -1,4 +1,4 @@
--- `verdict_rows::judging::after_heard` meets its contract: the step is taken, or refused. Assumes nothing.
+-- `run_verdicts::judging::after_heard` meets its contract: the step is taken, or refused. Assumes nothing.
 use Rattle.exchange_steps.specs.Steps.{heardOn}
 use Rattle.run_verdicts.proofs.Laws.Judging.{stands-on, stands-still}
 use borrow.Author.Needs.{needs}

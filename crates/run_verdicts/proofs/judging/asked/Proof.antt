@@ -1,4 +1,4 @@
--- `verdict_rows::judging::asked` meets its contract: there is no exchange, or it takes the send, or refuses it. Assumes nothing.
+-- `run_verdicts::judging::asked` meets its contract: there is no exchange, or it takes the send, or refuses it. Assumes nothing.
 use mathlib.Core.Path.{_∙_}
 use Rattle.run_verdicts.proofs.Laws.Judging.{sent-again, sent-first}
 use borrow.Author.Needs.{needs}

@@ -1,4 +1,4 @@
--- `verdict_rows::judging::decided_by` meets its contract: each way out by the tests that led there. Assumes nothing.
+-- `run_verdicts::judging::decided_by` meets its contract: each way out by the tests that led there. Assumes nothing.
 use mathlib.Core.Path.{sym, _∙_}
 use borrow.Author.Needs.{needs}
 use Rattle.run_verdicts.proofs.judging.decided_by.Statement.{statement}

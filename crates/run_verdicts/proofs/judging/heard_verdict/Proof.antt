@@ -1,4 +1,4 @@
--- `verdict_rows::judging::heard_verdict` meets its contract: each way out by the tests and the state that led there. Assumes nothing.
+-- `run_verdicts::judging::heard_verdict` meets its contract: each way out by the tests and the state that led there. Assumes nothing.
 use mathlib.Core.Path.{sym, _∙_}
 use borrow.Author.Needs.{needs}
 use Rattle.run_verdicts.proofs.judging.heard_verdict.Statement.{statement}

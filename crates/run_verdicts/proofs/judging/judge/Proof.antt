@@ -1,4 +1,4 @@
--- `verdict_rows::judging::judge` meets its contract: a wake-up, a row sent, or a row heard. Assumes nothing.
+-- `run_verdicts::judging::judge` meets its contract: a wake-up, a row sent, or a row heard. Assumes nothing.
 use mathlib.Core.Path.{sym, _∙_}
 use Rattle.base_characters.proofs.Laws.PairLaws.{length-characters}
 use Rattle.run_verdicts.specs.Verdicts.{verdictAfter, slotAfter}

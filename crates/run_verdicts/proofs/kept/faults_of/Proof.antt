@@ -1,4 +1,4 @@
--- `verdict_rows::kept::faults_of` meets its contract: each turn tries one row. Assumes nothing.
+-- `run_verdicts::kept::faults_of` meets its contract: each turn tries one row. Assumes nothing.
 use Prim.Native.Nat.{_-_}
 use borrow.Author.Needs.{needs}
 use Rattle.run_verdicts.specs.Walking.{Tried}

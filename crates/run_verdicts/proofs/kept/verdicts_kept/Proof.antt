@@ -1,4 +1,4 @@
--- `verdict_rows::kept::verdicts_kept` meets its contract: each way out by what was tried of the columns. Assumes nothing.
+-- `run_verdicts::kept::verdicts_kept` meets its contract: each way out by what was tried of the columns. Assumes nothing.
 use mathlib.Core.Path.{ap, _∙_}
 use denote.Ref.{now}
 use Rattle.bundle_columns.proofs.Laws.Looking.{taken, not-taken}

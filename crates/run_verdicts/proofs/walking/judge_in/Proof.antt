@@ -1,4 +1,4 @@
--- `verdict_rows::walking::judge_in` meets its contract: the body of the row is that stretch of the bundle. Assumes nothing.
+-- `run_verdicts::walking::judge_in` meets its contract: the body of the row is that stretch of the bundle. Assumes nothing.
 use Prim.Native.Nat.{ℕ}
 use mathlib.Core.List.{List}
 use mathlib.Core.Path.{ap, _∙_}

@@ -1,4 +1,4 @@
--- `verdict_rows::walking::row_from` meets its contract: a row of columns, none, or a row of a bundle. Assumes nothing.
+-- `run_verdicts::walking::row_from` meets its contract: a row of columns, none, or a row of a bundle. Assumes nothing.
 use mathlib.Core.Path.{sym, ap, _∙_}
 use Rattle.base_rules.specs.Answers.{reads, refusal}
 use Rattle.bundle_rows.specs.Rows.{uncheckedRow}

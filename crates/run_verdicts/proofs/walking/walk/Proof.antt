@@ -1,4 +1,4 @@
--- `verdict_rows::walking::walk` meets its contract: each turn judges one row. Assumes nothing.
+-- `run_verdicts::walking::walk` meets its contract: each turn judges one row. Assumes nothing.
 use Prim.Native.Nat.{_-_}
 use native.Mathlib.Omega.{arith}
 use borrow.Author.Needs.{needs}
