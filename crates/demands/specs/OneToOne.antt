@@ -17,7 +17,7 @@ use Rattle.base_rules.specs.Answers.{Answer, reads, refusal}
 use Rattle.mbus_rules.specs.Telegrams.{blankEntry, shown}
 use Rattle.mbus_entries.specs.declared.Entries.{Entries}
 use Rattle.mbus_entries.specs.Walking.{entriesShown}
-use Rattle.mbus_writing.specs.Answering as writing
+use Rattle.base_characters.specs.Carrying as writing
 use Rattle.bench_indication.specs.Errors.{shownIndication}
 use Rattle.bench_indication.proofs.Laws.Errors as errors
 use Rattle.mbus_search.specs.Searching.{foundShown}
