@@ -6,4 +6,5 @@ pub mod PageLaws
 pub mod DrawingLaws
 pub mod Drawn
 pub mod Shown
+pub mod Words
 pub mod Meaning

@@ -2,5 +2,6 @@
 pub mod Timing
 pub mod Pages
 pub mod Elements
+pub mod Words
 pub mod Pictures
 pub mod Shown

@@ -3,14 +3,17 @@ ghost use mathlib.Core.Path.{_≡_};
 ghost use mathlib.Core.List.{_++_};
 ghost use Prim.Native.Nat.{_+_, _≤_, _<_};
 ghost use Rattle.base_rules.specs.Answers.{reads};
+ghost use Rattle.base_characters.specs.Characters.{chars};
 ghost use Rattle.text_filling.specs.Putting.{PutAt};
 ghost use Rattle.text_filling.specs.Texts.{text};
 ghost use Rattle.bundle_check.specs.Bundles.{checkOf};
 ghost use Rattle.bundle_check.specs.Records.{recordsOf};
 ghost use Rattle.run_counting.specs.Ears.{rowIn};
+ghost use Rattle.run_listing.specs.Listings.{wordOf};
 ghost use Rattle.run_picture.specs.Timing.{unpaced, Placed};
 ghost use Rattle.run_picture.specs.Pages.{usedPositions, Bounded, Used};
 ghost use Rattle.run_picture.specs.Elements.{pauseText, pausesOpenText, laneText, rowDrawn};
+ghost use Rattle.run_picture.specs.Words.{numberedWord, Worded};
 ghost use Rattle.run_picture.specs.Pictures.{headText, pausesDrawn, marksDrawn, ruled, rowsDrawn, laneDrawn, lanesDrawn, pictureWith};
 use crate::elements::put_box;
 use crate::elements::put_lane_open;
@@ -31,9 +34,9 @@ use crate::pace::paced;
 use crate::pace::reach;
 use crate::pace::unpaced;
 use crate::page::Page;
+use crate::words::put_numbered;
 use bundle_rows::MOST_ROWS;
 use bundle_rows::unchecked_row;
-use run_listing::put_word;
 use run_verdicts::Ruling;
 use run_verdicts::Verdict;
 use text_filling::fill;
@@ -119,7 +122,7 @@ fn put_marks(out: &mut [u8], at: usize, bundle: &[u8], count: usize, page: Page)
     next
 }
 
-// Row i with its verdict, at a place.
+// Row i with its verdict and its word, at a place.
 fn put_row(
     out: &mut [u8],
     at: usize,
@@ -127,18 +130,18 @@ fn put_row(
     count: usize,
     i: usize,
     verdict: Verdict,
+    word: u32,
     x: u64,
 ) -> usize
-    requires { ⌜ (checkOf (now bundle) ≡ reads count) × (i < count) × (x ≤ 4294967296) ⌝ }
+    requires { ⌜ (checkOf (now bundle) ≡ reads count) × (i < count) × (x ≤ 4294967296)
+        × (numberedWord word ≡ wordOf (chars (rowIn (now bundle) i .body))) ⌝ }
     ensures { λ r. ⌜ PutAt (rowDrawn (rowIn (now (bundle .entry)) i) verdict x) (now (out .entry)) at r (now (out .exit)) ⌝ }
 {
     let row = unchecked_row(bundle, i);
     let width = line_time(bundle, i);
-    let from = row.offset as usize;
-    let to = from + row.length as usize;
     let coloured = put_verdict(out, at, verdict, x + width);
     let placed = put_place(out, coloured, row.direction, row.position, row.time);
-    let named = put_word(out, placed, &bundle[from..to]);
+    let named = put_numbered(out, placed, word);
     put_box(out, named, row.direction, x, width)
 }
 
@@ -150,9 +153,10 @@ fn put_rows(
     count: usize,
     position: u8,
     starts: &[u64],
+    words: &[u32],
     rulings: [Ruling; MOST_ROWS],
 ) -> usize
-    requires { ⌜ (checkOf (now bundle) ≡ reads count) × Placed (recordsOf (now bundle)) (now starts) ⌝ }
+    requires { ⌜ (checkOf (now bundle) ≡ reads count) × Placed (recordsOf (now bundle)) (now starts) × Worded (now bundle) count (now words) ⌝ }
     ensures { λ r. ⌜ PutAt (rowsDrawn position (ruled rulings) unpaced 0 (recordsOf (now (bundle .entry)))) (now (out .entry)) at r (now (out .exit)) ⌝ }
 {
     let mut next = at;
@@ -165,7 +169,16 @@ fn put_rows(
         if own {
             let ruling = rulings[here];
             let verdict = ruling.verdict;
-            next = put_row(out, next, bundle, count, here, verdict, starts[here]);
+            next = put_row(
+                out,
+                next,
+                bundle,
+                count,
+                here,
+                verdict,
+                words[here],
+                starts[here],
+            );
             continue;
         }
     }
@@ -180,15 +193,16 @@ fn put_lane(
     count: usize,
     page: Page,
     starts: &[u64],
+    words: &[u32],
     rulings: [Ruling; MOST_ROWS],
     y: u64,
     position: u8,
 ) -> usize
-    requires { ⌜ (checkOf (now bundle) ≡ reads count) × Placed (recordsOf (now bundle)) (now starts) × (y ≤ 4096) ⌝ }
+    requires { ⌜ (checkOf (now bundle) ≡ reads count) × Placed (recordsOf (now bundle)) (now starts) × (y ≤ 4096) × Worded (now bundle) count (now words) ⌝ }
     ensures { λ r. ⌜ PutAt (laneDrawn page (ruled rulings) (recordsOf (now (bundle .entry))) y position) (now (out .entry)) at r (now (out .exit)) ⌝ }
 {
     let opened = put_lane_open(out, at, page, y, position);
-    let drawn = put_rows(out, opened, bundle, count, position, starts, rulings);
+    let drawn = put_rows(out, opened, bundle, count, position, starts, words, rulings);
     put_text(out, drawn, b"</svg>\n")
 }
 
@@ -201,9 +215,11 @@ fn put_lanes(
     page: Page,
     used: [bool; 49],
     starts: &[u64],
+    words: &[u32],
     rulings: [Ruling; MOST_ROWS],
 ) -> usize
-    requires { ⌜ (checkOf (now bundle) ≡ reads count) × Used (recordsOf (now bundle)) used × Placed (recordsOf (now bundle)) (now starts) ⌝ }
+    requires { ⌜ (checkOf (now bundle) ≡ reads count) × Used (recordsOf (now bundle)) used × Placed (recordsOf (now bundle)) (now starts)
+        × Worded (now bundle) count (now words) ⌝ }
     ensures { λ r. ⌜ PutAt (lanesDrawn page (ruled rulings) (recordsOf (now (bundle .entry))) 96 (usedPositions (recordsOf (now (bundle .entry)))))
         (now (out .entry)) at r (now (out .exit)) ⌝ }
 {
@@ -217,7 +233,18 @@ fn put_lanes(
         position += 1;
         left -= 1;
         if own {
-            next = put_lane(out, next, bundle, count, page, starts, rulings, y, here);
+            next = put_lane(
+                out,
+                next,
+                bundle,
+                count,
+                page,
+                starts,
+                words,
+                rulings,
+                y,
+                here,
+            );
             y += 24;
             continue;
         }
@@ -234,15 +261,27 @@ fn put_front(
     page: Page,
     used: [bool; 49],
     starts: &[u64],
+    words: &[u32],
     rulings: [Ruling; MOST_ROWS],
 ) -> usize
-    requires { ⌜ (checkOf (now bundle) ≡ reads count) × Bounded page × Used (recordsOf (now bundle)) used × Placed (recordsOf (now bundle)) (now starts) ⌝ }
+    requires { ⌜ (checkOf (now bundle) ≡ reads count) × Bounded page × Used (recordsOf (now bundle)) used × Placed (recordsOf (now bundle)) (now starts)
+        × Worded (now bundle) count (now words) ⌝ }
     ensures { λ r. ⌜ PutAt (marksDrawn page (recordsOf (now (bundle .entry))) (page .fields + 1) 60 0
         ++ (lanesDrawn page (ruled rulings) (recordsOf (now (bundle .entry))) 96 (usedPositions (recordsOf (now (bundle .entry)))) ++ text "</svg>\n"))
         (now (out .entry)) at r (now (out .exit)) ⌝ }
 {
     let marked = put_marks(out, at, bundle, count, page);
-    let drawn = put_lanes(out, marked, bundle, count, page, used, starts, rulings);
+    let drawn = put_lanes(
+        out,
+        marked,
+        bundle,
+        count,
+        page,
+        used,
+        starts,
+        words,
+        rulings,
+    );
     put_text(out, drawn, b"</svg>\n")
 }
 
@@ -254,12 +293,24 @@ pub(crate) fn put_picture(
     page: Page,
     used: [bool; 49],
     starts: &[u64],
+    words: &[u32],
     rulings: [Ruling; MOST_ROWS],
 ) -> usize
-    requires { ⌜ (checkOf (now bundle) ≡ reads count) × Bounded page × Used (recordsOf (now bundle)) used × Placed (recordsOf (now bundle)) (now starts) ⌝ }
+    requires { ⌜ (checkOf (now bundle) ≡ reads count) × Bounded page × Used (recordsOf (now bundle)) used × Placed (recordsOf (now bundle)) (now starts)
+        × Worded (now bundle) count (now words) ⌝ }
     ensures { λ r. ⌜ PutAt (pictureWith page (ruled rulings) (recordsOf (now (bundle .entry)))) (now (out .entry)) 0 r (now (out .exit)) ⌝ }
 {
     let headed = put_head(out, 0, page);
     let behind = put_behind(out, headed, bundle, count, page);
-    put_front(out, behind, bundle, count, page, used, starts, rulings)
+    put_front(
+        out,
+        behind,
+        bundle,
+        count,
+        page,
+        used,
+        starts,
+        words,
+        rulings,
+    )
 }

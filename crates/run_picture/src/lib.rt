@@ -12,12 +12,14 @@ use drawing::put_picture;
 use page::plan_of;
 use run_verdicts::Ruling;
 use run_verdicts::verdicts_in;
+use words::words_of;
 
 mod drawing;
 mod elements;
 mod filling;
 mod pace;
 mod page;
+mod words;
 
 // What became of drawing a bundle: the bytes written, or refused by 30 to 37 or 21.
 pub enum Drawn {
@@ -34,13 +36,23 @@ fn draw_rows(bundle: &[u8], count: usize, rulings: [Ruling; MOST_ROWS], out: &mu
     let page = plan.page;
     let used = plan.used;
     let starts = plan.starts;
+    let words = words_of(bundle, count);
     let mut none = [0u8; 1];
-    let size = put_picture(&mut none, bundle, count, page, used, &starts, rulings);
+    let size = put_picture(
+        &mut none,
+        bundle,
+        count,
+        page,
+        used,
+        &starts,
+        &words,
+        rulings,
+    );
     let short = out.len() < size;
     if short {
         return Drawn::Refused(21);
     }
-    put_picture(out, bundle, count, page, used, &starts, rulings);
+    put_picture(out, bundle, count, page, used, &starts, &words, rulings);
     Drawn::Written(size)
 }
 

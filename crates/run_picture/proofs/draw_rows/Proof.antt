@@ -7,14 +7,15 @@ use Rattle.run_picture.proofs.draw_rows.Tie as tie
 
 put-picture-requires : tie.Need-put-picture-requires
 put-picture-requires c κs =
-    let at-plan = c .before .before .before .before .before in
+    let at-words = c .before .before .before in
+    let at-plan = at-words .before .before .before .before in
     let plan = at-plan .plan-of .ensures in
-    (at-plan .before .before .before .pre .0, plan .bounded, plan .used, plan .starts)
+    (at-plan .before .before .before .pre .0, plan .bounded, plan .used, plan .starts, at-words .words-of .ensures)
 
 returns : tie.Need-returns
 returns c =
     let back2 = c .before .before in
-    let at-plan = back2 .before .before .before .before .before .before in
+    let at-plan = back2 .before .before .before .before .before .before .before .before in
     let s = at-plan .before .before .before in
     let b = s .args .bundle .now in
     let same = picture-drawn b (s .pre .0) (s .pre .1) (at-plan .plan-of .ensures .page) in
@@ -22,20 +23,21 @@ returns c =
 
 put-picture-requires-2 : tie.Need-put-picture-requires-2
 put-picture-requires-2 c κs =
-    let at-plan = c .before .before .before .before .before .before .before .before .before .before in
+    let at-words = c .before .before .before .before .before .before .before .before .before in
+    let at-plan = at-words .before .before .before .before in
     let plan = at-plan .plan-of .ensures in
-    (at-plan .before .before .before .pre .0, plan .bounded, plan .used, plan .starts)
+    (at-plan .before .before .before .pre .0, plan .bounded, plan .used, plan .starts, at-words .words-of .ensures)
 
 returns-2 : tie.Need-returns-2
 returns-2 c =
     let back2 = c .before .before in
-    let back5 = back2 .before .before .before in
-    let back7 = back5 .before .before in
-    let at-plan = back7 .before .before .before .before .before .before in
+    let back6 = back2 .before .before .before .before in
+    let back8 = back6 .before .before in
+    let at-plan = back8 .before .before .before .before .before .before .before .before in
     let s = at-plan .before .before .before in
     let b = s .args .bundle .now in
     let same = picture-drawn b (s .pre .0) (s .pre .1) (at-plan .plan-of .ensures .page) in
-    draws-all b (s .pre .0) (s .args .out .now) (rw same at (back7 .put-picture .ensures .count)) (omega arith) (back5 .if1 .left)
+    draws-all b (s .pre .0) (s .args .out .now) (rw same at (back8 .put-picture .ensures .count)) (omega (arith, s .good)) (back6 .if1 .left)
     (rw same at (back2 .put-picture2 .ensures))
 
 pub draw-rows-spec : {M : Type 1} → statement M
@@ -43,10 +45,13 @@ draw-rows-spec =
     tie.close
     (tie.spec
     (λ c κs. search needs)
+    (λ c κs. search needs)
+    (λ c. search needs)
     (λ c. search needs)
     (λ c. search needs)
     put-picture-requires
     returns
+    (λ c. search needs)
     (λ c. search needs)
     put-picture-requires-2
     (λ c. search needs)

@@ -13,13 +13,13 @@ use Rattle.run_picture.proofs.drawing.put_lanes.Statement.{statement}
 use Rattle.run_picture.proofs.drawing.put_lanes.Tie as tie
 
 abbrev Inv-loop : tie.InvT-loop
-Inv-loop out₀ at bundle count page starts rulings used next₀ y₀ position₀ left₀ out next y position left =
+Inv-loop out₀ at bundle count page starts words rulings used next₀ y₀ position₀ left₀ out next y position left =
     (position + left ≡ 49) × (y + 24 * left ≤ 96 + 24 * 48)
     × Left (lanesDrawn page (ruled rulings) (recordsOf bundle) 96 (usedPositions (recordsOf bundle))) out₀ at
     (lanesDrawn page (ruled rulings) (recordsOf bundle) y (usedFrom (recordsOf bundle) left position)) next out
 
 abbrev μ-loop : tie.MeasureT-loop
-μ-loop out₀ at bundle count page starts rulings used next₀ y₀ position₀ left₀ out next y position left = left
+μ-loop out₀ at bundle count page starts words rulings used next₀ y₀ position₀ left₀ out next y position left = left
 
 loop-holds : tie.Need-loop-holds Inv-loop μ-loop
 loop-holds c = (refl, omega arith, left-all (search needs) (search needs))
@@ -30,8 +30,8 @@ array-read-own c = omega (arith, c .before .loop .inv .0, c .loop-test .taken)
 put-lane-requires : tie.Need-put-lane-requires Inv-loop μ-loop
 put-lane-requires c κs =
     let at-loop = c .before .before .before in
-    let pre = at-loop .before .before .before .before .pre in
-    (pre .0, pre .2, omega (arith, at-loop .loop .inv .1))
+    let pre = at-loop .before .before .before .before .before .pre in
+    (pre .0, pre .2, omega (arith, at-loop .loop .inv .1), pre .3)
 
 loop-again : tie.Need-loop-again Inv-loop μ-loop
 loop-again c =
@@ -39,7 +39,7 @@ loop-again c =
     let back4 = back2 .before .before in
     let back5 = back4 .before in
     let at-loop = back5 .before in
-    let s = at-loop .before .before .before .before in
+    let s = at-loop .before .before .before .before .before in
     let ks = recordsOf (s .args .bundle .now) in
     let l = at-loop .loop in
     let inv = l .inv in
@@ -51,7 +51,7 @@ loop-again c =
 loop-again-2 : tie.Need-loop-again-2 Inv-loop μ-loop
 loop-again-2 c =
     let at-loop = c .before .before in
-    let s = at-loop .before .before .before .before in
+    let s = at-loop .before .before .before .before .before in
     let ks = recordsOf (s .args .bundle .now) in
     let l = at-loop .loop in
     let inv = l .inv in
@@ -65,7 +65,7 @@ same-length c = c .before .loop .inv .2 .same
 returns : tie.Need-returns Inv-loop μ-loop
 returns c =
     let at-loop = c .before in
-    let a = at-loop .before .before .before .before .args in
+    let a = at-loop .before .before .before .before .before .args in
     let ks = recordsOf (a .bundle .now) in
     let l = at-loop .loop in
     let none = lanes-none (a .page) (ruled (a .rulings)) ks (l .y) (used-none ks (l .position) (c .loop-test .left)) in
