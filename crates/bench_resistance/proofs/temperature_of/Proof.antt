@@ -45,7 +45,7 @@ returns-3 c =
     let low : degree .result < 200 = omega arith in
     ap shownTemperature
     (sym
-    (temperature-read m (inside (earlier)) read (degree .result) (rest .result) low (rest .ensures .0)
+    (temperature-read m (inside earlier) read (degree .result) (rest .result) low (rest .ensures .0)
     (rest .ensures .1) (rest .ensures .2)))
 
 pub temperature-of-spec : {M : Type 1} → statement M

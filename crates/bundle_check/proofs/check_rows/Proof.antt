@@ -44,7 +44,7 @@ returns-2 c = rw (chain (c .before .before), c .before .if1 .left, c .if2 .taken
 returns-3 : tie.Need-returns-3
 returns-3 c =
     let earlier = c .before .before .before .before in
-    rw (chain (earlier), c .before .before .before .if1 .left, c .before .before .if2 .left, c .if3 .taken)
+    rw (chain earlier, c .before .before .before .if1 .left, c .before .before .if2 .left, c .if3 .taken)
 
 returns-4 : tie.Need-returns-4
 returns-4 c =

@@ -22,6 +22,10 @@ live c q =
     let start = c .before .before .before .before in
     live-on (findEither (now (start .args .mbus)) (now (start .args .optical))) (start .pre) (c .found .given .1) q
 
+-- by its name, since a wrong answer falls on it
+part-of-requires : tie.Need-part-of-requires
+part-of-requires c κs = search needs
+
 part-of-requires-2 : tie.Need-part-of-requires-2
 part-of-requires-2 c κs =
     let args = c .before .before .before .before .before .before .before .args in
@@ -42,19 +46,19 @@ returns c =
 returns-2 : tie.Need-returns-2
 returns-2 c =
     let earlier = c .before .before .before .before in
-    rw (live (earlier) (c .before .enum-told2 .given .1)) (c .part-of2 .ensures)
+    rw (live earlier (c .before .enum-told2 .given .1)) (c .part-of2 .ensures)
 
 returns-3 : tie.Need-returns-3
 returns-3 c =
     let earlier = c .before .before .before .before in
-    rw (live (earlier) (c .before .enum-told3 .given .1)) (c .part-of3 .ensures)
+    rw (live earlier (c .before .enum-told3 .given .1)) (c .part-of3 .ensures)
 
 pub stretch-at-spec : {M : Type 1} → statement M
 stretch-at-spec =
     tie.close
     (tie.spec
     (λ c. search needs)
-    (λ c κs. search needs)
+    part-of-requires
     (λ c. search needs)
     (λ c. search needs)
     part-of-requires-2

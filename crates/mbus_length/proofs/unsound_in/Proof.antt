@@ -28,14 +28,14 @@ returns : tie.Need-returns
 returns c =
     let at-if1 = c .before .before .before .before in
     let start = c .before .before .before .before .before .before .args in
-    told-unsound (now (start .first)) (start .count) (at-if1 .if1 .there) (cut (at-if1))
+    told-unsound (now (start .first)) (start .count) (at-if1 .if1 .there) (cut at-if1)
     (c .before .before .soundness-of .ensures) (c .enum-told .given .1)
 
 returns-2 : tie.Need-returns-2
 returns-2 c =
     let at-if1 = c .before .before .before .before in
     let start = c .before .before .before .before .before .before .args in
-    told-unsound (now (start .first)) (start .count) (at-if1 .if1 .there) (cut (at-if1))
+    told-unsound (now (start .first)) (start .count) (at-if1 .if1 .there) (cut at-if1)
     (c .before .before .soundness-of .ensures) (c .enum-told2 .given .1)
 
 pub unsound-in-spec : {M : Type 1} → statement M

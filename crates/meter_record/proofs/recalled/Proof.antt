@@ -31,7 +31,7 @@ returns c =
     let start = at-meter-in .before .before in
     let b = now (start .args .b) in
     c .no-meter .ensures ∙ sym (ap shownSetup (recalled-other b (at-meter-in .meter-in .result)
-    (behind (at-meter-in))
+    (behind at-meter-in)
     (at-front-bytes .front-bytes .ensures) (c .before .before .is-same .ensures) (c .before .if1 .taken)))
     ∙ ap (λ (m : Meter). shownSetup (recalled b m)) (at-meter-in .meter-in .ensures)
 
@@ -43,7 +43,7 @@ returns-2 c =
     let start = at-meter-in .before .before in
     let b = now (start .args .b) in
     c .no-meter2 .ensures ∙ sym (ap shownSetup (recalled-unreached b (at-meter-in .meter-in .result)
-    (behind (at-meter-in))
+    (behind at-meter-in)
     (at-front-bytes .front-bytes .ensures) (at-is-same .is-same .ensures)
     (c .before .before .is-unreached .ensures) (c .before .before .before .if1 .left) (c .before .if2 .taken)))
     ∙ ap (λ (m : Meter). shownSetup (recalled b m)) (at-meter-in .meter-in .ensures)
@@ -55,7 +55,7 @@ returns-3 c =
     let start = at-meter-in .before .before in
     let b = now (start .args .b) in
     sym (ap shownSetup (recalled-same b (at-meter-in .meter-in .result)
-    (behind (at-meter-in))
+    (behind at-meter-in)
     (at-front-bytes .front-bytes .ensures) (c .before .before .before .is-same .ensures) (c .before .is-unreached .ensures)
     (c .before .before .if1 .left) (c .if2 .left)))
     ∙ ap (λ (m : Meter). shownSetup (recalled b m)) (at-meter-in .meter-in .ensures)

@@ -29,7 +29,7 @@ returns-2 : tie.Need-returns-2
 returns-2 c =
     let at-if1 = c .before .before .before .before .before in
     let earlier = at-if1 .before in
-    row-said (located (earlier)) (at-if1 .if1 .left)
+    row-said (located earlier) (at-if1 .if1 .left)
     (c .before .before .say .ensures)
 
 pub say-row-spec : {M : Type 1} → statement M

@@ -63,7 +63,7 @@ returns-3 : tie.Need-returns-3
 returns-3 c =
     let earlier = c .before .before .before .before in
     let a = c .before .before .before .before .before .before .before .before .args in
-    sym (rule-place (now (a .damaged)) (a .before) (a .at) (a .row) (field-is (earlier) ∙ c .before .before .if1 .left)
+    sym (rule-place (now (a .damaged)) (a .before) (a .at) (a .row) (field-is earlier ∙ c .before .before .if1 .left)
     (rw (eq-eqb (a .row .offset) (a .at) (c .before .if2 .left), lt-ltb (length (now (a .damaged))) (a .at + a .row .length) (c .if3 .taken))))
 
 returns-4 : tie.Need-returns-4

@@ -39,7 +39,7 @@ returns-2 : tie.Need-returns-2
 returns-2 c =
     let earlier = c .before .before .before .before in
     c .entry-with .ensures
-    ∙ told-tried (told (earlier)) (c .before .before .before .if1 .left) (c .before .low-value .ensures)
+    ∙ told-tried (told earlier) (c .before .before .before .if1 .left) (c .before .low-value .ensures)
 
 pub try-low-spec : {M : Type 1} → statement M
 try-low-spec =

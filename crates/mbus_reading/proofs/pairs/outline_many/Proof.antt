@@ -30,7 +30,7 @@ returns : tie.Need-returns
 returns c =
     let at-gather = c .before .before .before .before in
     let g = at-gather .gather in
-    ap outlined (sym (taken-as _ (g .last .1 .0) (g .result .sum) (c .before .outcome .given .1) (taken (at-gather))))
+    ap outlined (sym (taken-as _ (g .last .1 .0) (g .result .sum) (c .before .outcome .given .1) (taken at-gather)))
 
 slice-aggregate-outline-in : tie.Need-slice-aggregate-outline-in
 slice-aggregate-outline-in c =
@@ -39,7 +39,7 @@ slice-aggregate-outline-in c =
     let b = now (start .args .bytes) in
     let g = at-gather .gather in
     let size = length-characters b in
-    let t = taken-as (chars b) (g .last .1 .0) (g .result .sum) (c .before .enum-told .given .1) (taken (at-gather)) in
+    let t = taken-as (chars b) (g .last .1 .0) (g .result .sum) (c .before .enum-told .given .1) (taken at-gather) in
     cut-count (chars b) (g .last .1 .0) (sym size) (ap (λ (n : ℕ). take n (g .last .1 .0)) (sym size) ∙ t .1)
 
 returns-2 : tie.Need-returns-2
@@ -48,7 +48,7 @@ returns-2 c =
     let start = at-gather .before .before .before .before .before .before in
     let b = now (start .args .bytes) in
     let g = at-gather .gather in
-    let t = taken-as (chars b) (g .last .1 .0) (g .result .sum) (c .before .before .enum-told .given .1) (taken (at-gather)) in
+    let t = taken-as (chars b) (g .last .1 .0) (g .result .sum) (c .before .before .enum-told .given .1) (taken at-gather) in
     c .outline-in .ensures ∙ ap outlined (taken-frame (chars b) (g .last .1 .0) (g .result .sum) (sym (length-characters b)) t)
 
 pub outline-many-spec : {M : Type 1} → statement M

@@ -23,17 +23,17 @@ add-hour c = let x = there (c .before .before) in let w = weekday-below (c .befo
 add-day : tie.Need-add-day
 add-day c =
     let earlier = c .before .before .before .before in
-    let x = there (earlier) in omega arith
+    let x = there earlier in omega arith
 
 mul-month : tie.Need-mul-month
 mul-month c =
     let earlier = c .before .before .before .before .before in
-    let x = there (earlier) in omega arith
+    let x = there earlier in omega arith
 
 add-month : tie.Need-add-month
 add-month c =
     let earlier = c .before .before .before .before .before .before in
-    let x = there (earlier) in omega arith
+    let x = there earlier in omega arith
 
 pub moment-bytes-spec : {M : Type 1} → statement M
 moment-bytes-spec = tie.close (tie.spec mul-hour add-hour (λ c. search needs) add-day mul-month add-month (λ c. search needs))

@@ -42,7 +42,7 @@ slice-aggregate-lay c =
 add-result : tie.Need-add-result
 add-result c =
     let earlier = c .before .before .before .before .before in
-    let s : Sized (earlier) = sized (earlier) in omega arith
+    let s : Sized earlier = sized earlier in omega arith
 
 returns : tie.Need-returns
 returns c =

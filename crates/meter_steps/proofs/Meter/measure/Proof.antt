@@ -33,7 +33,7 @@ returns-2 c =
       sym (at-earlier .earlier .ensures)
           ∙ at-if1 .if1 .left,
       measured-sum,
-      total (earlier) (refusal n)
+      total earlier (refusal n)
           (c .before .before .sum .given .1),
     ) (c .replies2 .ensures)
 
@@ -48,7 +48,7 @@ returns-3 c =
       sym (at-earlier .earlier .ensures)
           ∙ at-if1 .if1 .left,
       measured-sum,
-      total (earlier) (reads p)
+      total earlier (reads p)
           (c .before .before .sum2 .given .1),
     ) (rw (c .measured .ensures, at-returned .returned .ensures))
 

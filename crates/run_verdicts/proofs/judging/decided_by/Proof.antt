@@ -4,6 +4,10 @@ use borrow.Author.Needs.{needs}
 use Rattle.run_verdicts.proofs.judging.decided_by.Statement.{statement}
 use Rattle.run_verdicts.proofs.judging.decided_by.Tie as tie
 
+-- by its name, since a wrong answer falls on it
+returns : tie.Need-returns
+returns c = search needs
+
 returns-2 : tie.Need-returns-2
 returns-2 c = rw (c .before .before .if1 .left, sym (c .before .fits2 .ensures) ∙ c .if2 .taken)
 
@@ -11,4 +15,4 @@ returns-3 : tie.Need-returns-3
 returns-3 c = rw (c .before .before .before .if1 .left, sym (c .before .before .fits2 .ensures) ∙ c .before .if2 .left) (c .unfitting .ensures)
 
 pub decided-by-spec : {M : Type 1} → statement M
-decided-by-spec = tie.close (tie.spec (λ c. search needs) (λ c κs. search needs) returns-2 (λ c κs. search needs) returns-3)
+decided-by-spec = tie.close (tie.spec returns (λ c κs. search needs) returns-2 (λ c κs. search needs) returns-3)
