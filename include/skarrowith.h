@@ -25,8 +25,8 @@
  * not be null. Memory for uint16_t, uint32_t, uint64_t, int64_t and size_t is aligned as C aligns these types; bytes and records
  * may stand at any address.
  *
- * Stack, as measured. skarrowith_bundle_list takes 28,000 bytes, skarrowith_picture 25,000, those on verdicts 11,000,
- * skarrowith_replay_error 5,800, the simulated meter up to 4,300, every other function fewer than 1,600.
+ * Stack, as measured. skarrowith_bundle_list takes 28,000 bytes, skarrowith_picture 27,000, those on verdicts 11,000,
+ * skarrowith_replay_error 5,900, the simulated meter up to 4,300, every other function fewer than 1,600.
  *
  * Lines. But for the two checks of a line and the bodies of a bundle, which are bytes, a line is its characters: each a
  * uint16_t with the byte received in the low eight bits and the parity bit received as bit 8. Lengths and places count
@@ -868,7 +868,7 @@ uint32_t skarrowith_repeats(const uint8_t *bundle, size_t len, uint16_t *rows, s
  * out, out_len: takes the text in its first bytes, and nothing beyond. SKARROWITH_PICTURE_MOST bytes are always enough.
  * written:      takes how many bytes the text has, and is not null; no zero byte ends it.
  *
- * Refuses by 30 to 37 as the check does, then by 21 if there are fewer bytes than the text has. It takes 25,000 bytes of
+ * Refuses by 30 to 37 as the check does, then by 21 if there are fewer bytes than the text has. It takes 27,000 bytes of
  * stack.
  */
 uint32_t skarrowith_picture(const uint8_t *bundle, size_t len, uint8_t *out, size_t out_len, size_t *written);
