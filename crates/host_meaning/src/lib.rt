@@ -1,4 +1,5 @@
-// What a bench host would otherwise look up, for C: the words for a refusal number, the meaning of a unit byte, and the library's version. include/skarrowith.h says how.
+// What a bench host would otherwise look up, for C: the words for a refusal number, the meaning of a unit byte, and the library's version.
+// include/skarrowith.h says how.
 ghost use mathlib.Core.Path.{_≡_};
 ghost use mathlib.Core.List.{[], _∷_};
 ghost use lib.IntN.{subℕ};
