@@ -5,7 +5,7 @@ ghost use Rattle.base_lent.specs.Copying.{laid};
 ghost use Rattle.base_characters.specs.Carrying.{Writes, carried_in};
 
 // The characters written, or the number of a refusal.
-#[derive(Drop)]
+#[derive(Clone, Copy)]
 pub enum Written {
     Length(usize),
     Refused(u16),

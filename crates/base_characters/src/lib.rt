@@ -14,14 +14,14 @@ pub mod line;
 pub mod pairs;
 
 // What one walk over characters gathers: 2 or 3, and the sum of their bytes, modulo 256.
-#[derive(Drop)]
+#[derive(Clone, Copy)]
 pub struct Gathering {
     pub outcome: Outcome,
     pub sum: u8,
 }
 
 // What is gathered of a part of them: all their tests in one number, and their sum.
-#[derive(Drop)]
+#[derive(Clone, Copy)]
 pub struct Part {
     pub flags: u16,
     pub sum: u16,

@@ -5,7 +5,7 @@ ghost use Rattle.base_digits.specs.Digits.{over_nine, digits_of, packed_of};
 ghost use Rattle.base_numbers.specs.Numbers.{bytes_of};
 
 // What packed digits hold: a digit is over nine, and the number that they are.
-#[derive(Drop)]
+#[derive(Clone, Copy)]
 pub struct Packed {
     pub wrong: bool,
     pub count: u64,

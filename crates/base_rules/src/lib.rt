@@ -1,7 +1,7 @@
 // What all rules are written with: in specs/ lists, answers and refusals, and bytes; here the answer of a program.
 
 // What became of what was asked: accepted, or refused by a number.
-#[derive(Drop)]
+#[derive(Clone, Copy)]
 pub enum Outcome {
     Accepted,
     Refused(u16),

@@ -9,18 +9,18 @@ ghost use Rattle.bench_clock.specs.Wakes.{is_wake, wake_of, shown_wake, wake_lin
 use base_characters::pairs::character_at;
 
 // A time on the line clock, counted in bit times of 1/2400 s.
-#[derive(Drop)]
+#[derive(Clone, Copy)]
 pub struct Clock(pub u64);
 
 // What the gap between a wake-up and the command after it is: fine, or refused by 50 or 51.
-#[derive(Drop)]
+#[derive(Clone, Copy)]
 pub enum Gap {
     Fine,
     Refused(u16),
 }
 
 // What became of writing a wake-up: the characters written, or refused by 52 or 21.
-#[derive(Drop)]
+#[derive(Clone, Copy)]
 pub enum Wake {
     Written(usize),
     Refused(u16),

@@ -6,7 +6,7 @@ ghost use Rattle.bench_indication.specs.Errors.{tenths, indication_of, rise_most
 pub mod rises;
 
 // An error in tenths of a percent, or refused by 60, 61 or 62.
-#[derive(Drop)]
+#[derive(Clone, Copy)]
 pub enum Indication {
     Error(i64),
     Refused(u16),

@@ -7,14 +7,14 @@ use crate::table::CARD;
 mod table;
 
 // A resistance in milliohm, or refused by 90.
-#[derive(Drop)]
+#[derive(Clone, Copy)]
 pub enum Resistance {
     Milliohm(u32),
     Refused(u16),
 }
 
 // A temperature in hundredths of a degree, or refused by 91.
-#[derive(Drop)]
+#[derive(Clone, Copy)]
 pub enum Temperature {
     Hundredths(u32),
     Refused(u16),

@@ -22,7 +22,7 @@ mod growing;
 mod placing;
 
 // What became of adding: the bytes that the bundle then fills, or refused by 30 to 38.
-#[derive(Drop)]
+#[derive(Clone, Copy)]
 pub enum Added {
     Filled(usize),
     Refused(u16),

@@ -17,7 +17,7 @@ mod walk;
 pub const MOST_BYTES: usize = 65_536;
 
 // What became of checking a bundle: its number of rows, or refused by 30 to 37.
-#[derive(Drop)]
+#[derive(Clone, Copy)]
 pub enum Checked {
     Rows(usize),
     Refused(u16),

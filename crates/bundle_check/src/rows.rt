@@ -8,14 +8,14 @@ use crate::{Checked, check};
 use bundle_rows::{Row, unchecked_row};
 
 // The row that was asked for, or refused by 30 to 37 or 39.
-#[derive(Drop)]
+#[derive(Clone, Copy)]
 pub enum RowFound {
     Fields(Row),
     Refused(u16),
 }
 
 // Where a row's body lies in the bundle, or refused by 30 to 37 or 39.
-#[derive(Drop)]
+#[derive(Clone, Copy)]
 pub enum BodyFound {
     At { offset: usize, length: usize },
     Refused(u16),

@@ -6,7 +6,7 @@ ghost use Rattle.bundle_check.specs.Walking.{walk_of};
 use bundle_rows::{unchecked_row, wrong_field};
 
 // Whether 34 applies, whether 35 does, and where the last body ends.
-#[derive(Drop)]
+#[derive(Clone, Copy)]
 pub(crate) struct Walk {
     pub(crate) field: bool,
     pub(crate) place: bool,

@@ -32,7 +32,7 @@ pub(crate) const OFFSETS: usize = 3_080;
 pub(crate) const LENGTHS: usize = 5_128;
 
 // The next row of a position, or refused by 39 or 101.
-#[derive(Drop)]
+#[derive(Clone, Copy)]
 pub enum NextFound {
     At(usize),
     Refused(u16),

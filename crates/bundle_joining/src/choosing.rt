@@ -11,7 +11,7 @@ use base_numbers::put_number;
 use bundle_rows::unchecked_row;
 
 // How many rows there are, and how many bytes their bodies have.
-#[derive(Drop)]
+#[derive(Clone, Copy)]
 pub(crate) struct Size {
     pub(crate) rows: usize,
     pub(crate) bytes: usize,

@@ -14,7 +14,7 @@ pub mod position;
 mod writing;
 
 // What became of joining: the bytes that the new bundle fills, or refused by 30 to 38.
-#[derive(Drop)]
+#[derive(Clone, Copy)]
 pub enum Joined {
     Filled(usize),
     Refused(u16),

@@ -10,7 +10,7 @@ use bundle_check::{Checked, check};
 use bundle_rows::wrong_position;
 
 // What became of choosing: the bytes that the new bundle fills, or refused by 30 to 38.
-#[derive(Drop)]
+#[derive(Clone, Copy)]
 pub enum Chosen {
     Filled(usize),
     Refused(u16),

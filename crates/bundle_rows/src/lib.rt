@@ -11,7 +11,7 @@ use base_numbers::{bytes_of, number_at};
 pub const MOST_ROWS: usize = 512;
 
 // The five fields of a contents row.
-#[derive(Drop)]
+#[derive(Clone, Copy)]
 pub struct Row {
     pub position: u8,
     pub direction: u8,

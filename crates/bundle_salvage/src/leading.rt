@@ -8,7 +8,7 @@ use base_characters::pairs::any_over;
 use bundle_rows::{Row, unchecked_row, wrong_field};
 
 // How many rows, the rule that the next one breaks or 0, and where their bodies end.
-#[derive(Drop)]
+#[derive(Clone, Copy)]
 pub(crate) struct Leading {
     pub(crate) kept: usize,
     pub(crate) rule: u16,

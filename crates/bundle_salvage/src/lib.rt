@@ -13,7 +13,7 @@ mod leading;
 mod writing;
 
 // How many rows were kept, how many were dropped, the rule broken or 0, and the bytes of the new bundle.
-#[derive(Drop)]
+#[derive(Clone, Copy)]
 pub struct Salvaged {
     pub kept: usize,
     pub dropped: usize,
@@ -22,7 +22,7 @@ pub struct Salvaged {
 }
 
 // What became of salvaging, or refused by 30 to 33 or 38.
-#[derive(Drop)]
+#[derive(Clone, Copy)]
 pub enum SalvageTold {
     Told(Salvaged),
     Refused(u16),

@@ -16,7 +16,7 @@ mod moving;
 mod placing;
 
 // What became of a sweep: the bytes that the bundle then fills, or refused by 30 to 37.
-#[derive(Drop)]
+#[derive(Clone, Copy)]
 pub enum Swept {
     Filled(usize),
     Refused(u16),

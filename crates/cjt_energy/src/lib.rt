@@ -8,7 +8,7 @@ use mbus_rules::{Decimal, Entry, Value};
 use mbus_telegrams::table::TWELVE_DIGITS;
 
 // An entry, or refused by 84, 85 or 86.
-#[derive(Drop)]
+#[derive(Clone, Copy)]
 pub enum Converted {
     To(Entry),
     Refused(u16),

@@ -1,14 +1,14 @@
 // What 02, 2026-08, with documents 001 and 002, says of a CJ/T 188 line: here the types, in specs/ the definitions.
 
 // The address that a request names: one meter, fourteen digits as a number, or every meter.
-#[derive(Drop)]
+#[derive(Clone, Copy)]
 pub enum CjtAddress {
     Meter(u64),
     Broadcast,
 }
 
 // A read request.
-#[derive(Drop)]
+#[derive(Clone, Copy)]
 pub struct CjtRequest {
     pub meter_type: u8,
     pub address: CjtAddress,
@@ -16,14 +16,14 @@ pub struct CjtRequest {
 }
 
 // A value of eight digits, as a count of its last one, and the code of its unit.
-#[derive(Drop)]
+#[derive(Clone, Copy)]
 pub struct CjtQuantity {
     pub count: u32,
     pub code: u8,
 }
 
 // The meter's clock, years 0 to 9999.
-#[derive(Drop)]
+#[derive(Clone, Copy)]
 pub struct CjtClock {
     pub year: u16,
     pub month: u8,
@@ -34,7 +34,7 @@ pub struct CjtClock {
 }
 
 // An answer. Temperatures are counts of hundredths of a degree; the two state bytes are kept as sent.
-#[derive(Drop)]
+#[derive(Clone, Copy)]
 pub struct CjtAnswer {
     pub meter_type: u8,
     pub address: u64,
@@ -53,21 +53,21 @@ pub struct CjtAnswer {
 }
 
 // The two telegrams.
-#[derive(Drop)]
+#[derive(Clone, Copy)]
 pub enum CjtTelegram {
     Request(CjtRequest),
     Answer(CjtAnswer),
 }
 
 // The answer of reading: the number of a refusal, or the telegram.
-#[derive(Drop)]
+#[derive(Clone, Copy)]
 pub enum CjtReading {
     Refused(u16),
     Read(CjtTelegram),
 }
 
 // Which of the two a line is, or the number of its refusal.
-#[derive(Drop)]
+#[derive(Clone, Copy)]
 pub enum CjtOutline {
     Refused(u16),
     Request,

@@ -14,7 +14,7 @@ use mbus_rules::Request;
 pub const SIZE: usize = 24;
 
 // None or the exchange whose record the bytes are, or the number by which they are refused.
-#[derive(Drop)]
+#[derive(Clone, Copy)]
 pub enum Taken {
     Is(Slot),
     Refused(u16),

@@ -21,7 +21,7 @@ mod requests;
 mod states;
 
 // Why a send failed: no line in time, a refused line, or an accepted line that does not fit.
-#[derive(Drop)]
+#[derive(Clone, Copy)]
 pub enum Cause {
     Silent,
     Damaged,
@@ -29,7 +29,7 @@ pub enum Cause {
 }
 
 // What an exchange waits for, or how it ended.
-#[derive(Drop)]
+#[derive(Clone, Copy)]
 pub enum State {
     // for the reply to its last send
     Waiting,
@@ -41,7 +41,7 @@ pub enum State {
     Failed(Cause),
 }
 
-#[derive(Drop)]
+#[derive(Clone, Copy)]
 pub struct Exchange {
     pub request: Request,
     pub state: State,
@@ -54,21 +54,21 @@ pub struct Exchange {
 }
 
 // Whether there is an exchange, in progress or ended: at first there is none.
-#[derive(Drop)]
+#[derive(Clone, Copy)]
 pub enum Slot {
     Idle,
     Busy(Exchange),
 }
 
 // The exchange as it then stands, or the number by which the step is refused; what there was is then as it was.
-#[derive(Drop)]
+#[derive(Clone, Copy)]
 pub enum Stepped {
     To(Exchange),
     Refused(u16),
 }
 
 // What a line heard answers. The reply is the line's telegram where the line ended the exchange well, and blank in every other case.
-#[derive(Drop)]
+#[derive(Clone, Copy)]
 pub struct Heard {
     pub stepped: Stepped,
     pub reply: Telegram,

@@ -16,7 +16,7 @@ mod record;
 pub mod repeats;
 
 // The verdict of a row, or refused by 30 to 37 or 39.
-#[derive(Drop)]
+#[derive(Clone, Copy)]
 pub(crate) enum VerdictFound {
     Is(Verdict),
     Refused(u16),

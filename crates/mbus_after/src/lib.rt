@@ -6,7 +6,7 @@ ghost use Rattle.mbus_after.specs.After.{early_first, began_since, find_from, fi
 use mbus_search::{Found, find_line};
 
 // Where the first accepted line begins that began at or after a time, its length, and when it began.
-#[derive(Drop)]
+#[derive(Clone, Copy)]
 pub enum FoundAfter {
     At {
         place: usize,

@@ -8,14 +8,14 @@ ghost use Rattle.mbus_either.specs.Stretches.{PartAt, StretchOf, HandsEither};
 use mbus_search::{Found, find_line};
 
 // The two interfaces of a position.
-#[derive(Drop)]
+#[derive(Clone, Copy)]
 pub enum Interface {
     Mbus,
     Optical,
 }
 
 // The interface whose capture has an accepted line, with the place and the length of the first one in it, or refused by 18.
-#[derive(Drop)]
+#[derive(Clone, Copy)]
 pub enum EitherFound {
     At {
         interface: Interface,
@@ -26,7 +26,7 @@ pub enum EitherFound {
 }
 
 // What was found, and the stretch of the caller's own capture that it is; an empty one where it is refused.
-#[derive(Drop)]
+#[derive(Clone, Copy)]
 pub struct Either<'a> {
     pub stretch: &'a [u16],
     pub found: EitherFound,

@@ -12,14 +12,14 @@ use mbus_rules::{Decimal, Entry, Value, Whole};
 use mbus_telegrams::table::{TIME, UNIT_OF_TIME};
 
 // The value of an entry, or what it is refused by.
-#[derive(Drop)]
+#[derive(Clone, Copy)]
 pub enum Valued {
     Holds(Value),
     Refused(u16),
 }
 
 // The quantity of an entry, the width of its value and the entry itself, or what it is refused by.
-#[derive(Drop)]
+#[derive(Clone, Copy)]
 pub enum Tried {
     Passed(usize, usize, Entry),
     Refused(u16),

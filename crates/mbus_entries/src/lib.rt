@@ -12,7 +12,7 @@ use mbus_telegrams::blank_entry;
 use mbus_telegrams::table::any_missing;
 
 // The answer of reading entries. Where the outcome is a refusal, count and entries are blank.
-#[derive(Drop)]
+#[derive(Clone, Copy)]
 pub struct Entries {
     pub outcome: Outcome,
     pub count: usize,

@@ -8,7 +8,7 @@ use base_numbers::number_at;
 use base_numbers::signed::{count_of, is_below_zero, size_of};
 
 // What the bytes hold in binary: the highest bit is set, and the number that they are.
-#[derive(Drop)]
+#[derive(Clone, Copy)]
 pub struct Coded {
     pub falls: bool,
     pub count: i64,

@@ -7,7 +7,7 @@ use base_numbers::number_at;
 use mbus_telegrams::table::structure_of;
 
 // What packed digits with a sign hold: the rule is broken, F stands in the highest place, and the number that they are.
-#[derive(Drop)]
+#[derive(Clone, Copy)]
 pub struct Signed {
     pub wrong: bool,
     pub falls: bool,
@@ -15,7 +15,7 @@ pub struct Signed {
 }
 
 // The width of a value and the word that its bytes are; of no value no width.
-#[derive(Drop)]
+#[derive(Clone, Copy)]
 pub struct Wide {
     pub width: usize,
     pub word: u64,

@@ -9,7 +9,7 @@ use base_numbers::byte_at;
 use mbus_rules::Moment;
 
 // What the bytes of a point in time hold: the rule is broken, and the fields.
-#[derive(Drop)]
+#[derive(Clone, Copy)]
 pub struct Timed {
     pub wrong: bool,
     pub moment: Moment,

@@ -8,7 +8,7 @@ use mbus_shape::first::left_by;
 use mbus_shape::{LONG, SHORT};
 
 // How many characters the accepted line has that begins so; not yet known; or no accepted line begins so.
-#[derive(Drop)]
+#[derive(Clone, Copy)]
 pub enum HowLong {
     Known(usize),
     NotYet,

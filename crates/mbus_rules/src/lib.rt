@@ -2,7 +2,7 @@
 use base_rules::Outcome;
 
 // The five telegrams.
-#[derive(Drop)]
+#[derive(Clone, Copy)]
 pub enum Kind {
     Ack,
     Read,
@@ -12,19 +12,19 @@ pub enum Kind {
 }
 
 // A decimal number: the digits of an entry as a count of its last digit, below zero where they have a minus.
-#[derive(Drop)]
+#[derive(Clone, Copy)]
 pub struct Decimal {
     pub count: i64,
 }
 
 // A number in binary.
-#[derive(Drop)]
+#[derive(Clone, Copy)]
 pub struct Whole {
     pub count: i64,
 }
 
 // A point in time. Year 0 to 99 means 2000 to 2099; weekday 1 is Monday and 7 Sunday, 0 is not said.
-#[derive(Drop)]
+#[derive(Clone, Copy)]
 pub struct Moment {
     pub year: u8,
     pub month: u8,
@@ -36,21 +36,21 @@ pub struct Moment {
 }
 
 // An entry's value: a number keeps whether it came as digits or as binary.
-#[derive(Drop)]
+#[derive(Clone, Copy)]
 pub enum Value {
     Number(Decimal),
     Time(Moment),
     Binary(Whole),
 }
 
-#[derive(Drop)]
+#[derive(Clone, Copy)]
 pub struct Entry {
     pub structure: u8,
     pub unit: u8,
     pub value: Value,
 }
 
-#[derive(Drop)]
+#[derive(Clone, Copy)]
 pub struct Header {
     pub number: u32,
     pub maker: u16,
@@ -62,7 +62,7 @@ pub struct Header {
 
 // A row of the table of quantities: its first and last unit byte; the quantity and its unit; the power of ten, which is what the unit byte
 // leaves by the one number, less the other; whether a telegram must have the quantity, and whether it may be below zero.
-#[derive(Drop)]
+#[derive(Clone, Copy)]
 pub struct UnitRow(
     pub u8,
     pub u8,
@@ -75,11 +75,11 @@ pub struct UnitRow(
 );
 
 // A row of the structures: the structure byte, the bytes of a value, and whether they are packed digits or binary.
-#[derive(Drop)]
+#[derive(Clone, Copy)]
 pub struct StructureRow(pub u8, pub usize, pub bool, pub bool);
 
 // A telegram. What its kind does not use is zero, and so are the entry places past the count.
-#[derive(Drop)]
+#[derive(Clone, Copy)]
 pub struct Telegram {
     pub kind: Kind,
     pub address: u8,
@@ -90,14 +90,14 @@ pub struct Telegram {
 }
 
 // The answer of reading. Where the outcome is a refusal, the telegram is blank.
-#[derive(Drop)]
+#[derive(Clone, Copy)]
 pub struct Reading {
     pub outcome: Outcome,
     pub telegram: Telegram,
 }
 
 // What a bench sends: a read, an enter with its method, or a leave, each to an address.
-#[derive(Drop)]
+#[derive(Clone, Copy)]
 pub enum Request {
     Read(u8),
     Enter(u8, u8),
@@ -105,7 +105,7 @@ pub enum Request {
 }
 
 // A reading as the two ends of an exchange look at it: a refused line, an ack, a request, or data from an address.
-#[derive(Drop)]
+#[derive(Clone, Copy)]
 pub enum Outline {
     Refused(u16),
     Ack,

@@ -15,7 +15,7 @@ use mbus_shape::END;
 use mbus_shape::first::left_by;
 
 // Where the first accepted line of a capture begins, and its length.
-#[derive(Drop)]
+#[derive(Clone, Copy)]
 pub enum Found {
     At { place: usize, length: usize },
     Refused(u16),

@@ -13,7 +13,7 @@ use meter_template::{Pair, Sum, is_unfit};
 mod instructions;
 
 // In use, or in verification with the method and the time of the last instruction.
-#[derive(Drop)]
+#[derive(Clone, Copy)]
 pub enum Mode {
     Use,
     Verifying(u8, Clock),
@@ -21,7 +21,7 @@ pub enum Mode {
 
 // A meter but for the time of its last step: the own address, the mode, the use pair and the verification pair of totals, and the
 // data template, which has the access number.
-#[derive(Drop)]
+#[derive(Clone, Copy)]
 pub struct Core {
     pub address: u8,
     pub mode: Mode,
@@ -31,21 +31,21 @@ pub struct Core {
 }
 
 // A simulated meter. The time of its last accepted step is 0 before the first: no time is earlier.
-#[derive(Drop)]
+#[derive(Clone, Copy)]
 pub struct Meter {
     pub last: Clock,
     pub core: Core,
 }
 
 // What set-up gives: the meter, or the number of a refusal and a meter set up with nothing.
-#[derive(Drop)]
+#[derive(Clone, Copy)]
 pub struct Setup {
     pub outcome: Outcome,
     pub meter: Meter,
 }
 
 // What a step answers: silence, a telegram, or the number of a refusal.
-#[derive(Drop)]
+#[derive(Clone, Copy)]
 pub enum Reply {
     Silence,
     Says,
@@ -53,7 +53,7 @@ pub enum Reply {
 }
 
 // What a step gives: the meter as it then stands, and its answer. The telegram is blank unless the reply says it.
-#[derive(Drop)]
+#[derive(Clone, Copy)]
 pub struct Step {
     pub meter: Meter,
     pub reply: Reply,

@@ -11,14 +11,14 @@ use mbus_telegrams::table::{EIGHT_DIGITS, ENERGY, VOLUME};
 use mbus_writable::is_unwritable;
 
 // A pair of totals, each a count of the last digit that the template gives it.
-#[derive(Drop)]
+#[derive(Clone, Copy)]
 pub struct Pair {
     pub volume: u64,
     pub energy: u64,
 }
 
 // What adding to a pair gives: the new totals, or refused by 71.
-#[derive(Drop)]
+#[derive(Clone, Copy)]
 pub enum Sum {
     Totals(Pair),
     Refused(u16),

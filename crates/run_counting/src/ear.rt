@@ -13,14 +13,14 @@ use mbus_reading::pairs::outline_of;
 use mbus_rules::{Outline, Request};
 
 // Nothing counts before the next accepted read; or the first row heard that begins at or after the end of the read's send decides.
-#[derive(Drop)]
+#[derive(Clone, Copy)]
 pub(crate) enum Ear {
     Deaf,
     Open(u8, u64),
 }
 
 // What is open after a row, and whether the row counts.
-#[derive(Drop)]
+#[derive(Clone, Copy)]
 pub(crate) struct Turn {
     pub(crate) ear: Ear,
     pub(crate) counts: bool,

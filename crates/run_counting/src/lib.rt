@@ -14,7 +14,7 @@ use ear::{Ear, turn_at};
 mod ear;
 
 // The numbers of the rows that count, in the first places, and how many there are; or refused by 30 to 37.
-#[derive(Drop)]
+#[derive(Clone, Copy)]
 pub struct Counted {
     pub outcome: Outcome,
     pub count: usize,

@@ -13,7 +13,7 @@ mod lines;
 mod texts;
 
 // What became of listing a bundle: the bytes written, or refused by 21.
-#[derive(Drop)]
+#[derive(Clone, Copy)]
 pub enum Listed {
     Written(usize),
     Refused(u16),

@@ -8,7 +8,7 @@ use mbus_reading::pairs::outline_of;
 use mbus_rules::Outline;
 
 // What the line column says: wake, or the word for what reading answers.
-#[derive(Drop)]
+#[derive(Clone, Copy)]
 pub enum Column {
     Wake,
     Reads(Outline),

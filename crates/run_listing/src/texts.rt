@@ -7,7 +7,7 @@ use base_lent::lay;
 use text_filling::put_number;
 
 // A short text, in the first places.
-#[derive(Drop)]
+#[derive(Clone, Copy)]
 pub(crate) struct Line {
     pub(crate) bytes: [u8; 48],
     pub(crate) size: usize,

@@ -146,7 +146,7 @@ pub(crate) fn put_lane_open(out: &mut [u8], at: usize, page: Page, y: u64, posit
 }
 
 // The place of a verdict's words among all of them, and the number that it has.
-#[derive(Drop)]
+#[derive(Clone, Copy)]
 pub(crate) struct Wording {
     pub(crate) place: usize,
     pub(crate) number: u64,

@@ -22,7 +22,7 @@ mod page;
 mod words;
 
 // What became of drawing a bundle: the bytes written, or refused by 30 to 37 or 21.
-#[derive(Drop)]
+#[derive(Clone, Copy)]
 pub enum Drawn {
     Written(usize),
     Refused(u16),

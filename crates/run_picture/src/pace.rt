@@ -12,7 +12,7 @@ use bench_clock::Clock;
 use bundle_rows::{MOST_ROWS, unchecked_row};
 
 // What is left out so far; until when something was sent, heard or waited for; and where the last row is drawn. All in bit times.
-#[derive(Drop)]
+#[derive(Clone, Copy)]
 pub(crate) struct Pace {
     pub(crate) cut: u64,
     pub(crate) busy: u64,
@@ -79,7 +79,7 @@ pub(crate) fn paced(pace: Pace, bundle: &[u8], count: usize, i: usize) -> Pace
 }
 
 // Where each row is drawn, and the pace after all rows.
-#[derive(Drop)]
+#[derive(Clone, Copy)]
 pub(crate) struct Paces {
     pub(crate) starts: [u64; MOST_ROWS],
     pub(crate) last: Pace,
@@ -102,7 +102,7 @@ pub(crate) fn paces_of(bundle: &[u8], count: usize) -> Paces
 }
 
 // The row that a place of the picture stands before, and the pace up to there.
-#[derive(Drop)]
+#[derive(Clone, Copy)]
 pub(crate) struct Stand {
     pub(crate) row: usize,
     pub(crate) pace: Pace,

@@ -10,7 +10,7 @@ use bundle_rows::{MOST_ROWS, unchecked_row};
 
 // How many rows and lanes there are; the bit times of a px; how many fields of 240 px, and their bit times; how wide the lanes are, where the numbers
 // on their right stand and how wide the whole is; where the lanes end and how high the whole is; and the bit times that the lanes show.
-#[derive(Drop)]
+#[derive(Clone, Copy)]
 pub(crate) struct Page {
     pub(crate) rows: u64,
     pub(crate) lanes: u64,
@@ -108,7 +108,7 @@ fn page_for(rows: u64, lanes: u64, end: u64) -> Page
 }
 
 // What the rows of an accepted bundle ask for: the sizes, the positions that have rows, and where each row is drawn.
-#[derive(Drop)]
+#[derive(Clone, Copy)]
 pub(crate) struct Plan {
     pub(crate) page: Page,
     pub(crate) used: [bool; 49],

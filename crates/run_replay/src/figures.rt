@@ -14,7 +14,7 @@ use mbus_telegrams::blank_entry;
 use mbus_telegrams::table::{TIME, VOLUME, row_of};
 
 // A volume in millilitres, 10^9 + 1 standing for every larger one, and a time.
-#[derive(Drop)]
+#[derive(Clone, Copy)]
 pub(crate) struct Figures {
     pub(crate) volume: u64,
     pub(crate) time: Moment,

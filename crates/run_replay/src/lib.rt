@@ -17,7 +17,7 @@ use run_counting::counting;
 mod figures;
 
 // The first and the last row that count, and the error in tenths of a percent; or refused by 30 to 37, 61 to 65.
-#[derive(Drop)]
+#[derive(Clone, Copy)]
 pub enum Replayed {
     Error(usize, usize, i64),
     Refused(u16),

@@ -14,7 +14,7 @@ use mbus_reading::pairs::outline_of;
 use mbus_rules::{Outline, Request};
 
 // The verdict of a row, and the exchange of its position behind it.
-#[derive(Drop)]
+#[derive(Clone, Copy)]
 pub(crate) struct Judged {
     pub(crate) verdict: Verdict,
     pub(crate) slot: Slot,

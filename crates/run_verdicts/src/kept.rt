@@ -14,7 +14,7 @@ use bundle_columns::count_in;
 use bundle_rows::wrong_field;
 
 // Whether 34 applies to a row, and whether 35 does.
-#[derive(Drop)]
+#[derive(Clone, Copy)]
 pub(crate) struct Faults {
     pub(crate) field: bool,
     pub(crate) place: bool,

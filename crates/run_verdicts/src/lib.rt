@@ -15,7 +15,7 @@ mod walking;
 
 // What became of a row. A row sent is a wake-up, the first send of an exchange, a resend, or refused by a number; a row heard is a wake-up, or it counts, is
 // left over from before, late, behind the one that decided, damaged by a number, of the wrong kind, or was not asked for.
-#[derive(Drop)]
+#[derive(Clone, Copy)]
 pub enum Verdict {
     Wake,
     First,
@@ -31,13 +31,13 @@ pub enum Verdict {
 }
 
 // A verdict in its place: arrays of plain enums cannot be part of an answer yet.
-#[derive(Drop)]
+#[derive(Clone, Copy)]
 pub struct Ruling {
     pub verdict: Verdict,
 }
 
 // The verdicts of all rows, in the first places, and how many there are; or refused. Every other place has `Unasked`.
-#[derive(Drop)]
+#[derive(Clone, Copy)]
 pub struct Verdicts {
     pub outcome: Outcome,
     pub count: usize,

@@ -6,14 +6,14 @@ ghost use Rattle.serial_marks.specs.Marks.{wronged};
 ghost use Rattle.serial_marks.specs.Unmarking.{first, after_mark, after_zero, Unmarks};
 
 // What stands first in marked bytes: a whole character and how many bytes it is, or no more than the beginning of a mark.
-#[derive(Drop)]
+#[derive(Clone, Copy)]
 pub enum First {
     Finished { size: usize, character: u16 },
     Unfinished,
 }
 
 // How many bytes were used, and how many characters made.
-#[derive(Drop)]
+#[derive(Clone, Copy)]
 pub struct Unmarked {
     pub used: usize,
     pub made: usize,

@@ -6,7 +6,7 @@ ghost use Rattle.text_filling.specs.Holes.{filled_with};
 ghost use Rattle.text_filling.specs.Putting.{tallied, PutAt};
 
 // The decimal digits of a number, in the last places.
-#[derive(Drop)]
+#[derive(Clone, Copy)]
 struct Digits {
     bytes: [u8; 20],
     start: usize,
