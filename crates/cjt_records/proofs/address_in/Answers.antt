@@ -1,0 +1,8 @@
+-- `cjt_records::address_in` meets its contract.
+use Rattle.cjt_records.proofs.address_in.Goals as goal
+
+pub returns-then-broadcast : goal.returns-then-broadcast
+returns-then-broadcast c = rw c.if-broadcast.true
+
+pub returns : goal.returns
+returns c = rw (c.if-broadcast.false, c.number_at.ensures.so)
