@@ -52,7 +52,7 @@ def blocks(text):
 
 
 def flat(name):
-    return name.replace("_", "-")
+    return re.sub(r"[-_]lem$", "", name).replace("_", "-")
 
 
 class Turn:
@@ -72,20 +72,84 @@ class Turn:
             old, new = place[2]
             if old:
                 self.steps.setdefault(flat(old), new)
-        for place in names.get("asked_at", []):
-            pass
+        self.arms, self.typed, self.laws = {}, {}, set()
+        for arm in names["arms"]:
+            if arm:
+                for field, old, path in arm[2]:
+                    self.arms[(flat(old), tuple(flat(q) for q in path))] = (arm[0], field)
+        for vs in names["typed"]:
+            for v, old in vs:
+                self.typed[flat(old)] = v
+        self.flags = self.source()
+        self.places = {flat(place[0]): new for place, new in zip(names["places"], names["places_by_name"])}
 
-    def body(self, s, var):
-        s = re.sub(rf"(?<![\w.'-]){var}((?:\.before)+)(?![\w'-])", var, s)
+    def wrapped(self, op, way, path):
+        law = {"==": {"true": "eq-eqb", "false": "ne_eqb"}, "!=": {"true": "ne_eqb", "false": "eq-eqb"}}
+        for o in ("<", ">"):
+            law[o] = {"true": "lt-ltb", "false": "le-ltb"}
+        for o in ("<=", ">="):
+            law[o] = {"true": "le-leb", "false": "lt-leb"}
+        name = law[op][way]
+        self.laws.add(name)
+        one = f"({name} _ _ {path})"
+        return f"(ap not {one})" if op == "!=" else one
 
+    def source(self):
+        """The function's own text, and its flags: names of single comparisons."""
+        name = self.fn[-1]
+        found = []
+        for d, _, fs in os.walk(os.path.join("crates", self.crate, "src")):
+            for f in sorted(fs):
+                text = open(os.path.join(d, f)).read()
+                for m in re.finditer(rf"(?m)^( *)(?:pub(?:\([^)]*\))? )?(?:unsafe )?(?:extern \"C\" )?fn {re.escape(name)}\b", text):
+                    end = text.find("\n" + m.group(1) + "}\n", m.start())
+                    found.append((f, text[m.start() : end]))
+        if len(found) > 1:
+            mine = [t for f, t in found if len(self.fn) > 1 and f == self.fn[-2] + ".rt"] or [t for f, t in found if f in ("lib.rt", "main.rt")]
+            found = [("", t) for t in mine] or found
+        flags = {}
+        for _, text in found[:1]:
+            for m in re.finditer(r"let (\w+) = ([^;]*?) (==|!=|<=|>=|<|>) ([^;]*);", text):
+                if not re.search(r"[&|]{1,2} | [&|] |\bas bool", m.group(2) + m.group(4)) and "|" not in m.group(2) + m.group(4) and " & " not in m.group(2) + " " + m.group(4):
+                    flags[m.group(1)] = m.group(3)
+        return flags
+
+    def body(self, s, var, goal=None):
         def step(m):
-            name = m.group(2)
-            new = self.steps.get(flat(name))
-            return m.group(1) + "." + (new if new else name)
+            parts = m.group(2)[1:].split(".")
+            while parts and parts[0] == "before":
+                parts = parts[1:]
+            if not parts:
+                return m.group(1)
+            key = flat(parts[0])
+            for k in range(len(parts), 0, -1):
+                hit = self.arms.get((key, tuple(flat(q) for q in parts[1:k])))
+                if hit and k > 1:
+                    return m.group(1) + "." + ".".join(list(hit) + parts[k:])
+            if len(parts) > 1 and parts[1] == "given" and key in self.typed:
+                return m.group(1) + "." + ".".join(["type_inv", self.typed[key]] + parts[2:])
+            new = self.steps.get(key, parts[0])
+            path = m.group(1) + "." + ".".join([new] + parts[1:])
+            if len(parts) == 2 and parts[1] in ("true", "false") and new.startswith("if-"):
+                for flag in sorted(self.flags, key=len, reverse=True):
+                    if new == "if-" + flag or re.match(rf"if-{re.escape(flag)}-", new):
+                        return self.wrapped(self.flags[flag], parts[1], path)
+            return path
 
-        aliases = [var] + re.findall(rf"let ([\w'₀-₉-]+)(?: : [^=]*)? = {var} in", s)
-        for a in dict.fromkeys(aliases):
-            s = re.sub(rf"(?<![\w.'-])({re.escape(a)})(?:\.before)*\.({WORD})", step, s)
+        s = re.sub(rf"(?<![\w.'-]){var}((?:\.before)+)(?![\w'-])", var, s)
+        # a name for what is known at an earlier place is what is known
+        while True:
+            m = re.search(rf"let ([\w'₀-₉-]+) = {var}(?:\.before)* in\s*", s)
+            if not m:
+                break
+            s = s[: m.start()] + s[m.end() :]
+            s = s[: m.start()] + re.sub(rf"(?<![\w.'₀-₉-]){re.escape(m.group(1))}(?![\w'₀-₉-])(?! *[:=] )", var, s[m.start() :])
+        s = re.sub(rf"(?<![\w.'-]){var}((?:\.before)+)(?![\w'-])", var, s)
+        s = re.sub(rf"(?<![\w.'-])({re.escape(var)})((?:\.{WORD})+)", step, s)
+        s = s.replace(".type-inv", ".type_inv")
+        if goal:
+            for lemma, place in self.over.items():
+                s = re.sub(rf"(?<![\w.'-]){re.escape(lemma)} {var}(?![\w.'-])", f"{lemma} (goal.at.{goal} {var}).{place}", s)
         return s
 
     def turn(self):
@@ -128,6 +192,11 @@ class Turn:
             raise ValueError("closing is not tie.close (tie.spec ..)")
         args = split_args(m.group(1))
         nl = len(self.names["loops"])
+        self.over = {}
+        for n in order:
+            m = re.search(r"(?:\(\w+ : |: )tie\.([\w'-]+)", decls[n]["sig"])
+            if m and not re.match(r"tie\.(Need|invariant|decreases)-", decls[n]["type"]) and flat(m.group(1)) in self.places:
+                self.over[n] = self.places[flat(m.group(1))]
         inv, ans = [], []
         given = args[2 * nl :]
         answered = set()
@@ -174,7 +243,7 @@ class Turn:
                     if [r for r in rest if r not in ("κs", "_")]:
                         self.left.append(f"{new} has more arguments: {rest}")
                     v = e.group(2)
-                    eqs.append(f"{e.group(1)}{new} {v} ={e.group(4)}" + self.body(eq[e.end() :], v))
+                    eqs.append(f"{e.group(1)}{new} {v} ={e.group(4)}" + self.body(eq[e.end() :], v, new))
                 unf = (d["unfolding"] + "\n") if d["unfolding"] else ""
                 text_ = "\n".join(eqs)
                 answered.add(new)
@@ -184,14 +253,20 @@ class Turn:
                 continue
             # a lemma of the file's own
             sig = d["sig"]
-            if "tie." in sig:
-                self.left.append(f"lemma {n} over tie: {t[:100]}")
+            tied = "tie." in sig
+            if tied:
+                if n not in self.over:
+                    self.left.append(f"lemma {n} over tie: {t[:100]}")
+                m = re.search(r"\((\w+) : tie\.", sig)
+                if m:
+                    sig = self.body(sig, m.group(1))
+                sig = re.sub(r"tie\.([\w'-]+)", lambda q: self.places.get(flat(q.group(1)), q.group(0)), sig)
             unf = ("\n" + d["unfolding"]) if d["unfolding"] else ""
             eqs = []
             for eq in d["eqs"]:
                 e = re.match(rf"{re.escape(n)} ([^\s=]+)", eq)
-                v = e.group(1) if e and "tie." in sig else "c"
-                eqs.append(self.body(eq, v) if "tie." in sig else eq)
+                v = e.group(1) if e and tied else "c"
+                eqs.append(self.body(eq, v) if tied else eq)
             ans.append(f"{com}{sig}{unf}\n" + "\n".join(eqs) + "\n")
         # answers that stand in the closing list
         if len(given) == len(self.names["needs"]):
@@ -204,7 +279,7 @@ class Turn:
                     b = m.group(3).strip()
                     if b == "search rules" or new in answered:
                         continue
-                    ans.append(f"pub {new} : goal.{new}\n{new} {m.group(1)} = {self.body(b, m.group(1))}\n")
+                    ans.append(f"pub {new} : goal.{new}\n{new} {m.group(1)} = {self.body(b, m.group(1), new)}\n")
         else:
             for a in given:
                 if a.startswith("(") and not re.match(r"\(λ [^.]*\. ?search rules\)$", a):
@@ -212,6 +287,10 @@ class Turn:
         folder = os.path.dirname(self.path)
         mod = ".".join([f"Rattle.{self.crate}.proofs"] + os.path.relpath(folder, os.path.join("crates", self.crate, "proofs")).split(os.sep))
         uses = [u for u in uses if not re.search(r"\.(Statement|Tie)\b", u)]
+        if self.laws:
+            uses.append(f"use borrow.Author.Tests.{{{', '.join(sorted(self.laws))}}}")
+            if any("(ap not " in a for a in ans):
+                uses += ["use mathlib.Core.Path.{ap}", "use mathlib.Core.Bool.{not}"]
         header = "\n".join(l for l in head if l.startswith("--"))
         header = re.sub(r" Assumes nothing\.", "", header)
         if inv:
@@ -221,6 +300,8 @@ class Turn:
         if ans:
             body = "\n".join(ans)
             us = "\n".join(self.used(uses, body))
+            if self.over:
+                us += f"\nuse {mod}.Goals.{{{', '.join(sorted(set(self.over.values())))}}}"
             open(os.path.join(folder, "Answers.antt"), "w").write((header + "\n" if header else "") + (us + "\n" if us else "") + f"use {mod}.Goals as goal\n\n" + body)
         os.remove(self.path)
         return self.left

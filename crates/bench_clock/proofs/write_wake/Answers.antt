@@ -8,16 +8,17 @@ use borrow.Author.Rules.{rules}
 use borrow.Author.Fill.{fill_more}
 use borrow.Author.Tests.{ltb-false}
 use Rattle.bench_clock.specs.Wakes.{wake_character}
+use borrow.Author.Tests.{le-ltb, lt-ltb}
 use Rattle.bench_clock.proofs.write_wake.Goals as goal
 
 pub returns-then-outside : goal.returns-then-outside
 returns-then-outside c = rw c.if-outside.true (refl, refl)
 
 pub returns-then-short : goal.returns-then-short
-returns-then-short c = rw (c.if-outside.false, c.if-short.true) (refl, refl)
+returns-then-short c = rw (c.if-outside.false, (lt-ltb _ _ c.if-short.true)) (refl, refl)
 
 pub loop-at-init : goal.loop-at-init
-loop-at-init c = (search rules, ltb-false _ _ c.if-short.false, refl, refl)
+loop-at-init c = (search rules, ltb-false _ _ (le-ltb _ _ c.if-short.false), refl, refl)
 
 pub offset_bounds-out-at : goal.offset_bounds-out-at
 offset_bounds-out-at c = omega arith
@@ -37,5 +38,5 @@ returns c =
     let at = c.loop-at.at in
     let out₀ = c.args.out.now in
     let all : c.loop-at.at ≡ c.args.count = omega arith in
-    rw (c.if-outside.false, c.if-short.false, ← all)
+    rw (c.if-outside.false, (le-ltb _ _ c.if-short.false), ← all)
     (refl, c.loop-at.invariant.3 ∙ ap (λ (k : ℕ). replicate at wake_character ++ drop k out₀) (sym (length-replicate at wake_character)))

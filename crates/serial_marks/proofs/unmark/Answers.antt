@@ -14,7 +14,7 @@ shape_of-characters-in_default c =
 
 pub returns-in_default : goal.returns-in_default
 returns-in_default c =
-    along_stop c.loop-made.invariant (sym c.first_at-next.ensures ∙ c.enum_told-1.given.1)
+    along_stop c.loop-made.invariant (sym c.first_at-next.ensures ∙ c.in_default.is)
 
 pub offset_bounds-characters-made : goal.offset_bounds-characters-made
 offset_bounds-characters-made c =
@@ -25,7 +25,7 @@ overflow_add-used c =
     omega (
       arith,
       along_inside c.loop-made.invariant
-          (sym c.first_at-next.ensures ∙ c.next-1.given.1),
+          (sym c.first_at-next.ensures ∙ c.in-Finished.is),
     )
 
 pub loop-made-smaller : goal.loop-made-smaller
@@ -34,7 +34,7 @@ loop-made-smaller c =
 
 pub loop-made-preserved : goal.loop-made-preserved
 loop-made-preserved c =
-    along_next c.loop-made.invariant (sym c.first_at-next.ensures ∙ c.next-1.given.1)
+    along_next c.loop-made.invariant (sym c.first_at-next.ensures ∙ c.in-Finished.is)
     (omega (arith, along_length c.loop-made.invariant))
 
 pub shape_of-characters : goal.shape_of-characters

@@ -4,16 +4,17 @@ use native.Mathlib.Omega.{arith}
 use lib.Dec.{ltb}
 use mir.Syntax.{w64}
 use mir.ValLaws.{to_z-of_z}
-use borrow.Author.Tests.{ltb-false, eqb-false, ne_eqb}
+use borrow.Author.Tests.{ltb-false, eqb-false}
 use Rattle.base_rules.proofs.Laws.Tests.{neither}
 use Rattle.bench_indication.specs.Errors.{rise_most}
+use borrow.Author.Tests.{eq-eqb, ne_eqb}
 use Rattle.bench_indication.proofs.rises.error_of_rises.Goals as goal
 
 pub returns-then-over : goal.returns-then-over
 returns-then-over c = rw c.if-over.true
 
 pub returns-then-none : goal.returns-then-none
-returns-then-none c = rw (c.if-over.false, c.if-none.true)
+returns-then-none c = rw (c.if-over.false, (eq-eqb _ _ c.if-none.true))
 
 pub tenths-requires : goal.tenths-requires
 tenths-requires c =
@@ -27,7 +28,7 @@ pub returns : goal.returns
 returns c =
     rw (
       c.if-over.false,
-      c.if-none.false,
+      (ne_eqb _ _ c.if-none.false),
       ← c.tenths.ensures,
       to_z-of_z w64 c.tenths.result (record { sfits = c.tenths.type_inv }),
     )

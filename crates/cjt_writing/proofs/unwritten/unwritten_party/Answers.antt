@@ -4,4 +4,4 @@ use Rattle.cjt_rules.specs.CjtWriting.{unwritten_party}
 use Rattle.cjt_writing.proofs.unwritten.unwritten_party.Goals as goal
 
 pub returns-in-Meter : goal.returns-in-Meter
-returns-in-Meter c = ap unwritten_party (sym c.address-1.given.1)
+returns-in-Meter c = ap unwritten_party (sym c.in-Meter.is)

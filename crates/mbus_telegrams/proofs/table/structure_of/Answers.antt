@@ -4,6 +4,7 @@ use mathlib.Core.Path.{refl}
 use native.Mathlib.Omega.{arith}
 use Rattle.mbus_rules.specs.Quantities.{no_structure, has_structure}
 use Rattle.mbus_rules.proofs.Laws.RowLaws.{row_here, row_next, row_past}
+use borrow.Author.Tests.{eq-eqb, ne_eqb}
 use Rattle.mbus_telegrams.proofs.table.structure_of.Goals as goal
 
 pub loop-i-init : goal.loop-i-init
@@ -11,11 +12,11 @@ loop-i-init c = refl
 
 pub returns-then-same : goal.returns-then-same
 returns-then-same c =
-    row_here (has_structure c.args.structure) no_structure c.structures-rows.ensures c.loop-i.invariant _ (omega arith) c.if-same.true
+    row_here (has_structure c.args.structure) no_structure c.structures-rows.ensures c.loop-i.invariant _ (omega arith) (eq-eqb _ _ c.if-same.true)
 
 pub loop-i-preserved : goal.loop-i-preserved
 loop-i-preserved c =
-    row_next (has_structure c.args.structure) no_structure c.structures-rows.ensures c.loop-i.invariant _ (omega arith) c.if-same.false
+    row_next (has_structure c.args.structure) no_structure c.structures-rows.ensures c.loop-i.invariant _ (omega arith) (ne_eqb _ _ c.if-same.false)
 
 pub returns : goal.returns
 returns c =

@@ -1,0 +1,46 @@
+-- `bench_resistance::temperature_of` meets its contract.
+use Prim.Native.Nat.{◌<◌}
+use mathlib.Core.Path.{◌≡◌, sym, ap, ◌∙◌}
+use mathlib.Core.Bool.{false}
+use native.Mathlib.Omega.{arith}
+use Rattle.bench_resistance.specs.Resistances.{off_card, shown_temperature}
+use Rattle.bench_resistance.proofs.Laws.Card.{degree_found}
+use Rattle.bench_resistance.proofs.Laws.Answers.{outside-read, from_first, temperature-last, temperature-read}
+use Rattle.bench_resistance.proofs.temperature_of.Goals.{Else-outside}
+use Rattle.bench_resistance.proofs.temperature_of.Goals as goal
+
+pub returns-then-outside : goal.returns-then-outside
+returns-then-outside c =
+    let m = c.args.milliohm in
+    rw (sym (outside-read c.card-card.ensures m) ∙ c.if-outside.true)
+
+-- past the test, the resistance is one of the card's range
+inside : (c : Else-outside) → off_card c.args.milliohm ≡ false
+inside c = sym (outside-read c.card-card.ensures c.args.milliohm) ∙ c.if-outside.false
+
+pub degree_of-degree-requires : goal.degree_of-degree-requires
+degree_of-degree-requires c = (c.card-card.ensures, from_first c.args.milliohm (inside (goal.at.degree_of-degree-requires c).Else-outside))
+
+pub returns-then-degree-eq200 : goal.returns-then-degree-eq200
+returns-then-degree-eq200 c =
+    let m = c.args.milliohm in
+    ap shown_temperature (sym (temperature-last m (inside (goal.at.returns-then-degree-eq200 c).Else-outside) (rw c.if-degree-eq200.true at c.degree_of-degree.ensures.1)))
+
+pub rest_of-rest-requires : goal.rest_of-rest-requires
+rest_of-rest-requires c =
+    let m = c.args.milliohm in
+    let found = c.degree_of-degree.ensures in
+    let low : c.degree_of-degree.result < 200 = omega arith in
+    degree_found c.card-card.ensures m c.degree_of-degree.result low found.1 (found.2 low)
+
+pub returns : goal.returns
+returns c =
+    let m = c.args.milliohm in
+    let degree = c.degree_of-degree in
+    let rest = c.rest_of-rest in
+    let read = c.card-card.ensures in
+    let low : degree.result < 200 = omega arith in
+    ap shown_temperature
+    (sym
+    (temperature-read m (inside (goal.at.returns c).Else-outside) read degree.result rest.result low rest.ensures.0
+    rest.ensures.1 rest.ensures.2))

@@ -1,0 +1,8 @@
+-- `bundle_rows::row_bytes` meets its contract, byte by byte.
+use Rattle.base_numbers.specs.Numbers.{bytes_of}
+use Rattle.bundle_rows.proofs.row_bytes.Goals as goal
+
+pub returns : goal.returns
+unfolding bytes_of
+returns c =
+    rw (c.bytes_of-time.ensures, c.bytes_of-offset.ensures, c.bytes_of-length.ensures)

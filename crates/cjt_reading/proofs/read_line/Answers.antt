@@ -1,0 +1,43 @@
+-- `cjt_reading::read_line` meets its contract: the line is taken in, then come the rules on bytes.
+use Rattle.std.proofs.Common.{sym, refl, ap, ◌∙◌, arith}
+use Rattle.cjt_rules.specs.CjtOutlines.{cjt_shown}
+use Rattle.cjt_reading.proofs.Laws.TakingLaws.{none_is, taken_far, near_refused, near_count, near_sum, near_passed}
+use Rattle.cjt_reading.proofs.read_line.Goals as goal
+
+pub returns-then-count-eq0 : goal.returns-then-count-eq0
+returns-then-count-eq0 c = ap cjt_shown (sym (none_is c.args.line.now c.if-count-eq0.true))
+
+pub returns-then-count-gt-MOST : goal.returns-then-count-gt-MOST
+returns-then-count-gt-MOST c =
+    rw c.far_of-number.ensures (ap cjt_shown (sym (taken_far c.args.line.now (omega
+    (arith, c.if-count-gt-MOST.true)) c.soundness_of-sound.ensures c.if-count-gt-MOST.true)))
+
+pub returns-in-Refused : goal.returns-in-Refused
+returns-in-Refused c =
+    ap cjt_shown (sym (near_refused c.args.line.now
+    c.gather-gathering.new.1.0 refl c.if-count-eq0.false
+    c.if-count-gt-MOST.false c.gather-gathering.ensures.0
+    c.gather-gathering.ensures.1
+    c.in-Refused.is))
+
+pub slice_bounds-read_in-end : goal.slice_bounds-read_in-end
+slice_bounds-read_in-end c =
+    near_count c.args.line.now
+    c.gather-gathering.new.1.0 refl c.if-count-eq0.false
+    c.if-count-gt-MOST.false c.gather-gathering.ensures.0
+    c.gather-gathering.ensures.1
+
+pub read_in-requires : goal.read_in-requires
+read_in-requires c =
+    near_sum c.args.line.now
+    c.gather-gathering.new.1.0 refl c.if-count-eq0.false
+    c.if-count-gt-MOST.false c.gather-gathering.ensures.0
+    c.gather-gathering.ensures.1
+
+pub returns : goal.returns
+returns c =
+    c.read_in.ensures ∙ ap cjt_shown (near_passed c.args.line.now
+    c.gather-gathering.new.1.0 refl c.if-count-eq0.false
+    c.if-count-gt-MOST.false c.gather-gathering.ensures.0
+    c.gather-gathering.ensures.1
+    c.in_default.is)
