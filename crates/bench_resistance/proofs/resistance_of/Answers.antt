@@ -5,7 +5,7 @@ use native.Mathlib.Omega.{arith}
 use borrow.Author.Tests.{ltb-false}
 use Rattle.bench_resistance.specs.declared.Resistance.TheVariants.{Milliohm}
 use Rattle.bench_resistance.proofs.Laws.Card.{card_small}
-use Rattle.bench_resistance.proofs.Laws.Answers.{answer-last, answer-between}
+use Rattle.bench_resistance.proofs.Laws.Answers.{answer_last, answer_between}
 use borrow.Author.Tests.{le-ltb, lt-ltb}
 use Rattle.bench_resistance.proofs.resistance_of.Goals as goal
 
@@ -19,7 +19,7 @@ pub returns-then-degree-eq200 : goal.returns-then-degree-eq200
 returns-then-degree-eq200 c =
     let h = c.args.hundredths in
     let left = (le-ltb _ _ c.if-over.false) in
-    rw left (ap Milliohm (answer-last c.card-card.ensures h left c.if-degree-eq200.true))
+    rw left (ap Milliohm (answer_last c.card-card.ensures h left c.if-degree-eq200.true))
 
 pub bounds-card-degree-2 : goal.bounds-card-degree-2
 bounds-card-degree-2 c = omega (arith, ltb-false)
@@ -34,4 +34,4 @@ pub returns : goal.returns
 returns c =
     let h = c.args.hundredths in
     let left = (le-ltb _ _ c.if-over.false) in
-    rw left (ap Milliohm (c.line.ensures ∙ answer-between c.card-card.ensures h (omega (arith, ltb-false))))
+    rw left (ap Milliohm (c.line.ensures ∙ answer_between c.card-card.ensures h (omega (arith, ltb-false))))

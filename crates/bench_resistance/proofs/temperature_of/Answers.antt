@@ -5,18 +5,18 @@ use mathlib.Core.Bool.{false}
 use native.Mathlib.Omega.{arith}
 use Rattle.bench_resistance.specs.Resistances.{off_card, shown_temperature}
 use Rattle.bench_resistance.proofs.Laws.Card.{degree_found}
-use Rattle.bench_resistance.proofs.Laws.Answers.{outside-read, from_first, temperature-last, temperature-read}
+use Rattle.bench_resistance.proofs.Laws.Answers.{outside_read, from_first, temperature_last, temperature_read}
 use Rattle.bench_resistance.proofs.temperature_of.Goals.{Else-outside}
 use Rattle.bench_resistance.proofs.temperature_of.Goals as goal
 
 pub returns-then-outside : goal.returns-then-outside
 returns-then-outside c =
     let m = c.args.milliohm in
-    rw (sym (outside-read c.card-card.ensures m) ∙ c.if-outside.true)
+    rw (sym (outside_read c.card-card.ensures m) ∙ c.if-outside.true)
 
 -- past the test, the resistance is one of the card's range
 inside : (c : Else-outside) → off_card c.args.milliohm ≡ false
-inside c = sym (outside-read c.card-card.ensures c.args.milliohm) ∙ c.if-outside.false
+inside c = sym (outside_read c.card-card.ensures c.args.milliohm) ∙ c.if-outside.false
 
 pub degree_of-degree-requires : goal.degree_of-degree-requires
 degree_of-degree-requires c = (c.card-card.ensures, from_first c.args.milliohm (inside (goal.at.degree_of-degree-requires c).Else-outside))
@@ -24,7 +24,7 @@ degree_of-degree-requires c = (c.card-card.ensures, from_first c.args.milliohm (
 pub returns-then-degree-eq200 : goal.returns-then-degree-eq200
 returns-then-degree-eq200 c =
     let m = c.args.milliohm in
-    ap shown_temperature (sym (temperature-last m (inside (goal.at.returns-then-degree-eq200 c).Else-outside) (rw c.if-degree-eq200.true at c.degree_of-degree.ensures.1)))
+    ap shown_temperature (sym (temperature_last m (inside (goal.at.returns-then-degree-eq200 c).Else-outside) (rw c.if-degree-eq200.true at c.degree_of-degree.ensures.1)))
 
 pub rest_of-rest-requires : goal.rest_of-rest-requires
 rest_of-rest-requires c =
@@ -42,5 +42,5 @@ returns c =
     let low : degree.result < 200 = omega arith in
     ap shown_temperature
     (sym
-    (temperature-read m (inside (goal.at.returns c).Else-outside) read degree.result rest.result low rest.ensures.0
+    (temperature_read m (inside (goal.at.returns c).Else-outside) read degree.result rest.result low rest.ensures.0
     rest.ensures.1 rest.ensures.2))

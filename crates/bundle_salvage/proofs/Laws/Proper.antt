@@ -25,7 +25,7 @@ use Rattle.bundle_check.proofs.Laws.RecordLaws.{Holdable, holdable_accepted, hel
 use Rattle.bundle_salvage.specs.declared.leading.Leading.{Leading}
 use Rattle.bundle_salvage.specs.declared.Salvaged.{Salvaged}
 use Rattle.bundle_salvage.specs.Salvaging.{Keep, new_length, tell_of, leading_rows, salvage_of, new_bundle}
-use Rattle.bundle_salvage.proofs.Laws.Answers.{contents-whole, count-is, kept_few, kept-in-place, end_is, end_inside, salvage_is}
+use Rattle.bundle_salvage.proofs.Laws.Answers.{contents_whole, count_is, kept_few, kept_in_place, end_is, end_inside, salvage_is}
 use Rattle.bundle_salvage.proofs.Laws.Leading.{leading_keep, leading_all, keep_fields, keep_range, keep_all}
 use Rattle.bundle_salvage.proofs.Laws.NewBundle.{records_kept, length_records_kept, bodies_kept, length_new}
 use Rattle.bundle_salvage.proofs.Laws.Parts.{rows_taken}
@@ -51,19 +51,19 @@ module _ (b : List ℕ) (n : ℕ) (e : opened b (reads (count_of b)) ≡ reads n
   rows_keep = rw (← same_rows) (leading_keep b 0 (first_offset n) (rows_of n (drop 2 b)))
 
   kept_is : kept ≡ records_in rows bodies
-  kept_is = records_kept b l.kept n (kept-in-place b n e refl) (count-is b n e)
+  kept_is = records_kept b l.kept n (kept_in_place b n e refl) (count_is b n e)
 
   size : length kept ≡ l.kept
-  size = ap length kept_is ∙ length_records_kept b l.kept n (kept-in-place b n e refl) (count-is b n e)
+  size = ap length kept_is ∙ length_records_kept b l.kept n (kept_in_place b n e refl) (count_is b n e)
 
   pub length_written : length (bundle_of kept) ≡ new_length l.kept n l.end
   length_written =
-      length_new b l.kept n (kept-in-place b n e refl) (count-is b n e)
+      length_new b l.kept n (kept_in_place b n e refl) (count_is b n e)
       ∙ ap (λ (k : ℕ). new_length l.kept n k) (sym (end_is b n e refl))
 
   pub kept_holdable : EachByte b → Holdable kept
   kept_holdable bytes =
-      let w = contents-whole b n e in
+      let w = contents_whole b n e in
       let few = kept_few b n e refl in
       let inside = end_inside b n e refl in
       let room : bodies_end (first_offset n) rows ≤ first_offset n + length bodies =
@@ -72,8 +72,8 @@ module _ (b : List ℕ) (n : ℕ) (e : opened b (reads (count_of b)) ≡ reads n
         few = omega (arith, ap length kept_is, size, few, w.few);
         fits = omega (
           arith,
-          length_records_kept b l.kept n (kept-in-place b n e refl) (count-is b n e),
-          ap length (bodies_kept b l.kept n (kept-in-place b n e refl) (count-is b n e)),
+          length_records_kept b l.kept n (kept_in_place b n e refl) (count_is b n e),
+          ap length (bodies_kept b l.kept n (kept_in_place b n e refl) (count_is b n e)),
           length-take (bodies_end (first_offset n) rows - first_offset n) bodies,
           few,
           w.fits,

@@ -4,7 +4,7 @@ use mathlib.Core.Path.{sym, ◌∙◌}
 use Rattle.base_rules.specs.Answers.{reads, refusal}
 use Rattle.bundle_check.specs.Bundles.{count_of, opened}
 use Rattle.bundle_check.proofs.Laws.Shown.{shown_checked_same}
-use Rattle.bundle_salvage.proofs.Laws.Answers.{salvage-refused}
+use Rattle.bundle_salvage.proofs.Laws.Answers.{salvage_refused}
 use Rattle.bundle_salvage.proofs.salvage.Statement.{statement}
 use Rattle.bundle_salvage.proofs.salvage.Tie as tie
 
@@ -21,7 +21,7 @@ returns-2 c =
     let a = c.before.before.before.before.before.before.args in
     let b = a.damaged.now in
     let k = c.before.number.given.0.0 in
-    salvage-refused b a.out.now k
+    salvage_refused b a.out.now k
     (shown_checked_same (opened b (reads (count_of b))) (refusal k) (sym c.before.before.before.opened.ensures ∙ c.before.number.given.1))
 
 pub salvage-spec : {M : Type 1} → statement M

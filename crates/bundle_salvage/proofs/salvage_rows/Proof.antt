@@ -5,19 +5,19 @@ use native.Mathlib.Omega.{arith}
 use borrow.Author.Tests.{ltb-false}
 use lib.ListN.{length}
 use Rattle.bundle_salvage.specs.Salvaging.{new_length}
-use Rattle.bundle_salvage.proofs.Laws.Answers.{contents-whole, count-is, kept_few, kept-in-place, end_is, end_inside, salvage_short, salvage-done}
+use Rattle.bundle_salvage.proofs.Laws.Answers.{contents_whole, count_is, kept_few, kept_in_place, end_is, end_inside, salvage_short, salvage_done}
 use Rattle.bundle_salvage.proofs.salvage_rows.Statement.{statement}
 use Rattle.bundle_salvage.proofs.salvage_rows.Tie as tie
 
 leading-rows-requires : tie.Need-leading-rows-requires
-leading-rows-requires c κs = let back = c.before.before in contents-whole back.args.damaged.now back.args.count back.requires
+leading-rows-requires c κs = let back = c.before.before in contents_whole back.args.damaged.now back.args.count back.requires
 
 mul-filled : tie.Need-overflow-mul-filled
 mul-filled c =
     let back = c.before.before.before in
     let b = back.args.damaged.now in
     let f = c.leading-rows.ensures in
-    let w = contents-whole b back.args.count back.requires in
+    let w = contents_whole b back.args.count back.requires in
     let few = kept_few b back.args.count back.requires f in
     let end = end_inside b back.args.count back.requires f in
     omega (arith, w.few, w.fits, w.there, few, end.0, end.1)
@@ -27,7 +27,7 @@ add-filled c =
     let back = c.before.before.before in
     let b = back.args.damaged.now in
     let f = c.leading-rows.ensures in
-    let w = contents-whole b back.args.count back.requires in
+    let w = contents_whole b back.args.count back.requires in
     let few = kept_few b back.args.count back.requires f in
     let end = end_inside b back.args.count back.requires f in
     omega (arith, w.few, w.fits, w.there, few, end.0, end.1)
@@ -37,7 +37,7 @@ mul-filled-2 c =
     let back = c.before.before.before in
     let b = back.args.damaged.now in
     let f = c.leading-rows.ensures in
-    let w = contents-whole b back.args.count back.requires in
+    let w = contents_whole b back.args.count back.requires in
     let few = kept_few b back.args.count back.requires f in
     let end = end_inside b back.args.count back.requires f in
     omega (arith, w.few, w.fits, w.there, few, end.0, end.1)
@@ -47,7 +47,7 @@ add-filled-2 c =
     let back = c.before.before.before in
     let b = back.args.damaged.now in
     let f = c.leading-rows.ensures in
-    let w = contents-whole b back.args.count back.requires in
+    let w = contents_whole b back.args.count back.requires in
     let few = kept_few b back.args.count back.requires f in
     let end = end_inside b back.args.count back.requires f in
     omega (arith, w.few, w.fits, w.there, few, end.0, end.1)
@@ -57,7 +57,7 @@ sub-filled c =
     let back = c.before.before.before in
     let b = back.args.damaged.now in
     let f = c.leading-rows.ensures in
-    let w = contents-whole b back.args.count back.requires in
+    let w = contents_whole b back.args.count back.requires in
     let few = kept_few b back.args.count back.requires f in
     let end = end_inside b back.args.count back.requires f in
     omega (arith, w.few, w.fits, w.there, few, end.0, end.1)
@@ -67,7 +67,7 @@ add-filled-3 c =
     let back = c.before.before.before in
     let b = back.args.damaged.now in
     let f = c.leading-rows.ensures in
-    let w = contents-whole b back.args.count back.requires in
+    let w = contents_whole b back.args.count back.requires in
     let few = kept_few b back.args.count back.requires f in
     let end = end_inside b back.args.count back.requires f in
     omega (arith, w.few, w.fits, w.there, few, end.0, end.1)
@@ -88,8 +88,8 @@ write-requires c κs =
     let back = c.before.before.before.before.before.before in
     let b = back.args.damaged.now in
     let f = c.before.before.before.leading-rows.ensures in (
-      kept-in-place b back.args.count back.requires f,
-      count-is b back.args.count back.requires,
+      kept_in_place b back.args.count back.requires f,
+      count_is b back.args.count back.requires,
       end_is b back.args.count back.requires f,
       ltb-false _ _ c.before.before.if1.false,
     )
@@ -100,7 +100,7 @@ returns-2 c =
     let at-if1 = at-rule-told.before in
     let back6 = c.before.before.before.before.before.before in
     let back = back6.before.before.before in
-    salvage-done back.args.damaged.now back.args.count back.requires back6.leading-rows.ensures back.args.out.now
+    salvage_done back.args.damaged.now back.args.count back.requires back6.leading-rows.ensures back.args.out.now
     at-if1.if1.false
     at-rule-told.Rule-told.ensures c.before.before.write.ensures
 

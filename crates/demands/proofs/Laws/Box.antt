@@ -12,7 +12,7 @@ use Rattle.base_numbers.proofs.Laws.Rounding.{nearest_up}
 use Rattle.bench_resistance.specs.Resistances.{stored_for, card, line, resistance, resistance_of, hundredths_most, highest, temperature_of}
 use Rattle.bench_resistance.proofs.Laws.Card.{card_at}
 use Rattle.bench_resistance.proofs.Laws.Lines.{resistance_line}
-use Rattle.bench_resistance.proofs.Laws.Answers.{temperature-highest}
+use Rattle.bench_resistance.proofs.Laws.Answers.{temperature_highest}
 use Rattle.demands.specs.Box.{LineBetweenStored, TooHigh, EachResistance, OffTheCard}
 
 pub line_between_stored : LineBetweenStored
@@ -41,7 +41,7 @@ each_resistance milliohm first last =
     let low : ltb milliohm (stored_for 0) ≡ false = le-ltb milliohm (stored_for 0) (rw (card_at 0 (omega arith)) at first) in
     let high : ltb (stored_for 200) milliohm ≡ false = le-ltb (stored_for 200) milliohm (rw (card_at 200 (omega arith)) at last) in
     let told : temperature_of milliohm ≡ reads (highest milliohm hundredths_most) = rw (low, high) in
-    let p = temperature-highest milliohm (highest milliohm hundredths_most) told in (
+    let p = temperature_highest milliohm (highest milliohm hundredths_most) told in (
       highest milliohm hundredths_most,
       told,
       p.inside,

@@ -5,7 +5,7 @@ use Rattle.base_numbers.specs.Rounding.{NearestUp}
 use Rattle.bench_resistance.specs.Resistances.{exact, parts_of_one, stored_for, stored_from, resistance}
 use Rattle.bench_resistance.proofs.Laws.Card.{exact_whole, card_at, stored_nearest}
 use Rattle.bench_resistance.proofs.Laws.Lines.{resistance_near, resistance_rises}
-use Rattle.bench_resistance.proofs.Laws.Answers.{temperature-back, temperature-highest}
+use Rattle.bench_resistance.proofs.Laws.Answers.{temperature_back, temperature_highest}
 use Rattle.demands.specs.Resistance.{RuleIsWhole, CardIsTheRule, AnswersAreNear, AnswersRise, ThereAndBack, TheHighest, ResistanceValues}
 
 pub rule_is_whole : RuleIsWhole
@@ -23,11 +23,11 @@ pub answers_rise : AnswersRise
 answers_rise = resistance_rises
 
 pub there_and_back : ThereAndBack
-there_and_back = temperature-back
+there_and_back = temperature_back
 
 pub the_highest : TheHighest
 the_highest milliohm h e =
-    let p = temperature-highest milliohm h e in
+    let p = temperature_highest milliohm h e in
     (p.inside, p.«not-above», p.«none-higher»)
 
 pub resistance_values : ResistanceValues
