@@ -28,5 +28,5 @@ overflow_cast-result c =
 pub returns : goal.returns
 returns c =
     let a = c.args in
-    to_z-of_z w64 (pos c.nearest-2.result) (cast-result c)
+    to_z-of_z w64 (pos c.nearest-2.result) (overflow_cast-result c)
     ∙ rw c.nearest-2.ensures (sym (tenths_more a.meter a.standard c.if-meter-standard.false))

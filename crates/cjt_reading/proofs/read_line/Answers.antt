@@ -15,7 +15,7 @@ returns-then-count-gt-MOST c =
 pub returns-in-Refused : goal.returns-in-Refused
 returns-in-Refused c =
     ap cjt_shown (sym (near_refused c.args.line.now
-    c.gather-gathering.new.1.0 refl c.if-count-eq0.false
+    c.gather-gathering.new.out refl c.if-count-eq0.false
     c.if-count-gt-MOST.false c.gather-gathering.ensures.0
     c.gather-gathering.ensures.1
     c.in-Refused.is))
@@ -23,21 +23,21 @@ returns-in-Refused c =
 pub slice_bounds-read_in-end : goal.slice_bounds-read_in-end
 slice_bounds-read_in-end c =
     near_count c.args.line.now
-    c.gather-gathering.new.1.0 refl c.if-count-eq0.false
+    c.gather-gathering.new.out refl c.if-count-eq0.false
     c.if-count-gt-MOST.false c.gather-gathering.ensures.0
     c.gather-gathering.ensures.1
 
 pub read_in-requires : goal.read_in-requires
 read_in-requires c =
     near_sum c.args.line.now
-    c.gather-gathering.new.1.0 refl c.if-count-eq0.false
+    c.gather-gathering.new.out refl c.if-count-eq0.false
     c.if-count-gt-MOST.false c.gather-gathering.ensures.0
     c.gather-gathering.ensures.1
 
 pub returns : goal.returns
 returns c =
     c.read_in.ensures ∙ ap cjt_shown (near_passed c.args.line.now
-    c.gather-gathering.new.1.0 refl c.if-count-eq0.false
+    c.gather-gathering.new.out refl c.if-count-eq0.false
     c.if-count-gt-MOST.false c.gather-gathering.ensures.0
     c.gather-gathering.ensures.1
     c.in_default.is)

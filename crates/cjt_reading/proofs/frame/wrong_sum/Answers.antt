@@ -12,6 +12,6 @@ bounds-b-b c = omega (arith, frame_least c.args.b.now c.requires.1)
 pub returns : goal.returns
 returns c =
     let b = c.args.b.now in
-    rw (c.wrapping_add_u8-whole.ensures, c.wrapping_add_u8-twice.ensures)
+    rw (c.wrapping_add_u8-whole.ensures.value, c.wrapping_add_u8-twice.ensures.value)
     (sum_told b c.requires.1 c.requires.0 refl (omega
     (arith, c.type_inv.b (length b - 2))))

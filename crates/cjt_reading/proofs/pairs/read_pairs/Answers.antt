@@ -20,7 +20,7 @@ returns-then-count-gt-MOST c =
 pub returns-in-Refused : goal.returns-in-Refused
 returns-in-Refused c =
     ap cjt_shown (sym (near_refused (chars c.args.bytes.now)
-    c.gather-gathering.new.1.0 (sym (length_characters c.args.bytes.now))
+    c.gather-gathering.new.out (sym (length_characters c.args.bytes.now))
     c.if-count-eq0.false c.if-count-gt-MOST.false
     c.gather-gathering.ensures.0 c.gather-gathering.ensures.1
     c.in-Refused.is))
@@ -28,21 +28,21 @@ returns-in-Refused c =
 pub slice_bounds-read_in-end : goal.slice_bounds-read_in-end
 slice_bounds-read_in-end c =
     near_count (chars c.args.bytes.now)
-    c.gather-gathering.new.1.0 (sym (length_characters c.args.bytes.now))
+    c.gather-gathering.new.out (sym (length_characters c.args.bytes.now))
     c.if-count-eq0.false c.if-count-gt-MOST.false
     c.gather-gathering.ensures.0 c.gather-gathering.ensures.1
 
 pub read_in-requires : goal.read_in-requires
 read_in-requires c =
     near_sum (chars c.args.bytes.now)
-    c.gather-gathering.new.1.0 (sym (length_characters c.args.bytes.now))
+    c.gather-gathering.new.out (sym (length_characters c.args.bytes.now))
     c.if-count-eq0.false c.if-count-gt-MOST.false
     c.gather-gathering.ensures.0 c.gather-gathering.ensures.1
 
 pub returns : goal.returns
 returns c =
     c.read_in.ensures ∙ ap cjt_shown (near_passed (chars c.args.bytes.now)
-    c.gather-gathering.new.1.0 (sym (length_characters c.args.bytes.now))
+    c.gather-gathering.new.out (sym (length_characters c.args.bytes.now))
     c.if-count-eq0.false c.if-count-gt-MOST.false
     c.gather-gathering.ensures.0 c.gather-gathering.ensures.1
     c.in_default.is)

@@ -1,6 +1,6 @@
 -- `cjt_writing::bytes::request_frame` meets its contract.
 use Prim.Native.Nat.{ℕ}
-use mathlib.Core.List.{List, ◌∷◌}
+use mathlib.Core.List.{List, [], ◌∷◌}
 use mathlib.Core.Path.{ap}
 use Rattle.cjt_writing.proofs.Laws.Framing.{party_listed}
 use Rattle.cjt_writing.proofs.bytes.request_frame.Goals as goal
