@@ -5,5 +5,5 @@ use Rattle.mbus_fields.proofs.Laws.TableLaws.{goes_paired}
 use Rattle.mbus_fields.proofs.quantities.is_paired.Goals as goal
 
 pub returns : goal.returns
-returns c = c.Goes-with.ensures ∙ ap (goes_with c.args.structure) c.quantity_of.ensures ∙ goes_paired
+returns c = c.goes_with.ensures ∙ ap (goes_with c.args.structure) c.quantity_of.ensures ∙ goes_paired
     c.args.structure c.args.unit

@@ -9,17 +9,13 @@ use Rattle.mbus_records.proofs.telegrams.value_word.Goals as goal
 
 pub returns-in-Number : goal.returns-in-Number
 returns-in-Number c =
-    let v = c.value-1.given in
-    let g = c.type_inv.d in
-    let t = to_z-of_z w64 v.0.0.count (record { sfits = omega arith }) in
-    rw v.1 (ap (bytes_of 8) (c.word_of.ensures ∙ ap (of_z w64) t))
+    let t = to_z-of_z w64 c.in-Number.d.count (record { sfits = omega arith }) in
+    rw c.in-Number.is (ap (bytes_of 8) (c.word_of.ensures ∙ ap (of_z w64) t))
 
 pub returns-in-Time : goal.returns-in-Time
 returns-in-Time c = cc
 
 pub returns-in-Binary : goal.returns-in-Binary
 returns-in-Binary c =
-    let v = c.value-in-Binary-1.given in
-    let g = c.type_inv.w in
-    let t = to_z-of_z w64 v.0.0.count (record { sfits = omega arith }) in
-    rw v.1 (ap (bytes_of 8) (c.word_of-in-Binary.ensures ∙ ap (of_z w64) t))
+    let t = to_z-of_z w64 c.in-Binary.w.count (record { sfits = omega arith }) in
+    rw c.in-Binary.is (ap (bytes_of 8) (c.word_of-in-Binary.ensures ∙ ap (of_z w64) t))
