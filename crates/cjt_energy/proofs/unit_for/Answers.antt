@@ -1,6 +1,7 @@
 -- `cjt_energy::unit_for` meets its contract: each code by its number.
 use Rattle.cjt_energy.specs.Energies.{code_power, unit_for}
 use Rattle.cjt_energy.proofs.Laws.Energies.{unit_highest}
+use borrow.Author.Rules.{rules}
 use Rattle.cjt_energy.proofs.unit_for.Goals as goal
 
 pub returns-in-1 : goal.returns-in-1
@@ -32,7 +33,4 @@ unfolding code_power unit_for
 returns-in-14 c = rw c.in-14.is
 
 pub returns-in_default : goal.returns-in_default
-returns-in_default c =
-    let r = c.in-1.rest in
-    let low = r.0.0.0 in
-    unit_highest c.args.code c.requires low.0.0.0.1 low.0.0.1 low.0.1 low.1 r.0.0.1 r.0.1 r.1
+returns-in_default c = search (rules, unit_highest)
