@@ -1,0 +1,9 @@
+-- `bundle_adding::placing::place_behind` meets its contract: the loop goes down from the last row.
+use Rattle.bundle_adding.proofs.Laws.InsertingLaws.{Looking}
+use Rattle.bundle_adding.proofs.placing.place_behind.Given as goal
+
+abbrev pub invariant-loop-place : goal.invariant-loop-place
+invariant-loop-place l = Looking l.bundle l.count l.time l.place
+
+abbrev pub decreases-loop-place : goal.decreases-loop-place
+decreases-loop-place l = l.place

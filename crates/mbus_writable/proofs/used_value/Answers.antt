@@ -1,0 +1,12 @@
+-- `mbus_writable::used_value` meets its contract.
+use mathlib.Core.Path.{ap, ◌∙◌}
+use native.Mathlib.Omega.{arith}
+use lib.IntN.{nat_abs}
+use mir.Syntax.{w64}
+use mir.ValLaws.{to_z-of_z}
+use Rattle.base_numbers.proofs.Laws.Negation.{size_used}
+use Rattle.mbus_writable.proofs.used_value.Goals as goal
+
+pub returns-in-Number : goal.returns-in-Number
+returns-in-Number c =
+    rw (c.in-Number.is, c.size_of.ensures ∙ ap nat_abs (to_z-of_z w64 c.in-Number.d.count (record { sfits = omega arith }))) (size_used c.in-Number.d.count)
