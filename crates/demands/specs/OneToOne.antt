@@ -44,7 +44,7 @@ EntriesApart = Apart entries_shown
 
 -- writing a line
 abbrev pub WrittenApart : Type 0
-WrittenApart = Apart writing.shownWritten
+WrittenApart = Apart writing.shown_written
 
 -- search in one capture, after a time and in two, gap, wake-up, error
 abbrev pub FoundApart : Type 0
@@ -67,7 +67,7 @@ ErrorApart = Apart shown_indication
 
 -- the exchange, and the simulated meter
 abbrev pub ExchangeApart : Type 0
-ExchangeApart = Apart exchanges.shownStep
+ExchangeApart = Apart exchanges.shown_step
 
 abbrev pub ExchangeRecordApart : Type 0
 ExchangeRecordApart = Apart shown_slot
@@ -76,7 +76,7 @@ abbrev pub SetUpApart : Type 0
 SetUpApart = Apart shown_setup
 
 abbrev pub MeterApart : Type 0
-MeterApart = (m : Meter) (t : Clock) → Apart (meters.shownMeterStep m t)
+MeterApart = (m : Meter) (t : Clock) → Apart (meters.shown_meter_step m t)
 
 abbrev pub SumApart : Type 0
 SumApart = Apart shown_sum

@@ -52,7 +52,7 @@ RecordFollows = (h : List Step) → TimesFit h → record_after (replicate 24 0)
 abbrev pub HeardSteps : Type 0
 HeardSteps =
     (b line : List ℕ) (t : ℕ) (reply : List ℕ) → telegram_size ≤ length reply
-    → exchanges.heardFor b line t reply ≡ step_for b (heard line (record { 0 = t }))
+    → exchanges.heard_for b line t reply ≡ step_for b (heard line (record { 0 = t }))
 
 -- ---- a simulated meter
 

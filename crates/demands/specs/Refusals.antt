@@ -262,14 +262,14 @@ module _ (b : List ℕ) (t : ℕ) where
   TickForBy = By (101 ∷ 40 ∷ 41 ∷ []) (tick_for b t)
 
   abbrev pub HeardForBy : Type 0
-  HeardForBy = (line reply : List ℕ) → By (101 ∷ 21 ∷ 40 ∷ 41 ∷ []) (exchanges.heardFor b line t reply)
+  HeardForBy = (line reply : List ℕ) → By (101 ∷ 21 ∷ 40 ∷ 41 ∷ []) (exchanges.heard_for b line t reply)
 
 -- and of a meter
 abbrev pub SetUpForBy : Type 0
 SetUpForBy = (out : List ℕ) (own : ℕ) (template : List ℕ) → By (101 ∷ 21 ∷ 72 ∷ []) (set_up_for out own template)
 
 abbrev pub MeterHeardForBy : Type 0
-MeterHeardForBy = (b line : List ℕ) (t : Clock) (out : List ℕ) → By (101 ∷ 21 ∷ 70 ∷ []) (meters.lineHeardFor b line t out)
+MeterHeardForBy = (b line : List ℕ) (t : Clock) (out : List ℕ) → By (101 ∷ 21 ∷ 70 ∷ []) (meters.line_heard_for b line t out)
 
 abbrev pub MeasureForBy : Type 0
 MeasureForBy = (b : List ℕ) (v e : ℕ) (t : Clock) → By (101 ∷ 70 ∷ 71 ∷ []) (measure_for b v e t)

@@ -92,7 +92,7 @@ SendsByNumber =
 -- Records are read back: a telegram's and a CJ/T 188 answer's with any fields, an exchange's that has begun; a kind that is no request is 101.
 abbrev pub RecordsRead : Type 0
 RecordsRead =
-    (telegram_from records.differingBytes ≡ reads records.differing)
-    × (cjt_from (cjt_bytes (telegrams.Answer records.cjtDiffering)) ≡ reads (telegrams.Answer records.cjtDiffering))
+    (telegram_from records.differing_bytes ≡ reads records.differing)
+    × (cjt_from (cjt_bytes (telegrams.Answer records.cjt_differing)) ≡ reads (telegrams.Answer records.cjt_differing))
     × (slot_from (slot_bytes (Busy (began (Enter 0x2A 0x91)))) ≡ reads (Busy (began (Enter 0x2A 0x91))))
     × (slot_from (1 ∷ replicate 23 0) ≡ refusal 101)

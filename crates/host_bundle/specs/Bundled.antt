@@ -11,7 +11,7 @@ use Rattle.host_bundle.specs.Lent.{Gives}
 -- Adding: how many bytes the bundle then fills, and what the buffer then holds.
 pub record AddsIn (buffer : List ℕ) (filled : ℕ) (k : Recorded) (r : ℕ) (buffer' : List ℕ) (filled' : ℕ) : Type 0 where
   pub gives : Gives (add_of buffer filled k) filled r filled'
-  pub holds : buffer' ≡ adding.bufferAfter (add_of buffer filled k) buffer filled k
+  pub holds : buffer' ≡ adding.buffer_after (add_of buffer filled k) buffer filled k
 
 -- Inserting: the same.
 pub record InsertsIn (buffer : List ℕ) (filled : ℕ) (k : Recorded) (r : ℕ) (buffer' : List ℕ) (filled' : ℕ) : Type 0 where
@@ -20,5 +20,5 @@ pub record InsertsIn (buffer : List ℕ) (filled : ℕ) (k : Recorded) (r : ℕ)
 
 -- Listing: how many bytes the listing has, and what the places then hold.
 pub record ListsIn (b out : List ℕ) (written r : ℕ) (out' : List ℕ) (written' : ℕ) : Type 0 where
-  pub gives : Gives (listing.listedIn (listing_of b) out) written r written'
-  pub holds : out' ≡ listing.textStored (listing_of b) out
+  pub gives : Gives (listing.listed_in (listing_of b) out) written r written'
+  pub holds : out' ≡ listing.text_stored (listing_of b) out

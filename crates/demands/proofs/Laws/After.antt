@@ -24,7 +24,7 @@ pub line_since_is_found : LineSinceIsFound
 line_since_is_found = Meaning.begins_found
 
 pub only_length_since : OnlyLengthSince
-only_length_since t s times place m n a b = searches.one-length s place m n a.begins b.begins
+only_length_since t s times place m n a b = searches.one_length s place m n a.begins b.begins
 
 pub none_begins_since : NoneBeginsSince
 none_begins_since = Meaning.none_begins

@@ -24,14 +24,14 @@ use Rattle.demands.specs.CjtEmpty.{RulesReadCjt, RefusesEveryCjtLine, RulesRefus
 use Rattle.demands.specs.CjtEmpty.{RefusesEveryCjtTelegram, CjtWriterDoesNothing}
 
 pub rules_read_cjt : RulesReadCjt
-rules_read_cjt = cjt.cjt-write-and-read
+rules_read_cjt = cjt.cjt_write_and_read
 
 pub refuses_every_cjt_line : RefusesEveryCjtLine
 unfolding cjt_line_of unwritten packed
 refuses_every_cjt_line number d = let r = d (asking_of Broadcast 0) (replicate 16 0) (lit< tt) refl (lit≤ tt) in omega (arith, ap cjt_line_number r.2)
 
 pub rules_refuse_cjt_flips : RulesRefuseCjtFlips
-rules_refuse_cjt_flips = cjt.cjt-flips-are-refused
+rules_refuse_cjt_flips = cjt.cjt_flips_are_refused
 
 pub says_one_telegram : SaysOneTelegram
 unfolding any repeated
@@ -39,7 +39,7 @@ says_one_telegram t d =
     d (0 ∷ []) (record { character = 0; bit = 0 } ∷ []) (t, refl) (record { within = refl; different = refl }) (lit≤ tt) (lit≤ tt) (t, refl)
 
 pub rules_skip_front : RulesSkipFront
-rules_skip_front = cjt.front-is-skipped
+rules_skip_front = cjt.front_is_skipped
 
 line_read : read_cjt_line (map carrier (request_of001 0)) ≡ reads (asking_of (Meter 11110012345678) 3)
 unfolding read_cjt_line read_cjt_frame past_fe any odd ones_in carrier total digits_of
@@ -55,7 +55,7 @@ skips_no_front read number bare front d =
     omega (arith, ap cjt_line_number (sym fe ∙ same ∙ none))
 
 pub rules_write_cjt : RulesWriteCjt
-rules_write_cjt = cjt.cjt-read-and-write
+rules_write_cjt = cjt.cjt_read_and_write
 
 bare_line : at (map carrier (request_of001 0)) 0 ≢ carrier 0xFE
 unfolding carrier ones_in

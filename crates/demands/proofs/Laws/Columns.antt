@@ -24,26 +24,26 @@ pub lists_keep_the_rows : ListsKeepTheRows
 lists_keep_the_rows = wholes.kept_whole
 
 pub lists_written : ListsWritten
-lists_written b n bytes = wholes.written-again b n (byte_at b bytes)
+lists_written b n bytes = wholes.written_again b n (byte_at b bytes)
 
 pub contents_read : ContentsRead
 contents_read = wholes.read_again
 
 pub lists_in_order : ListsInOrder
-lists_in_order b n bytes e = wholes.columns-in-order b (count_of b) (byte_at b bytes) (accepted_sound b n e).0.few
+lists_in_order b n bytes e = wholes.columns_in_order b (count_of b) (byte_at b bytes) (accepted_sound b n e).0.few
 
 pub record_read_back : RecordReadBack
-record_read_back = wholes.record-back
+record_read_back = wholes.record_back
 
 module _ (b : List ℕ) (n : ℕ) (bytes : Bytes b) (accepted : check_of b ≡ reads n) where
   pub row_as_before : RowAsBefore b n bytes accepted
-  row_as_before = looking.row-as-before b n (byte_at b bytes) accepted
+  row_as_before = looking.row_as_before b n (byte_at b bytes) accepted
 
   pub body_as_before : BodyAsBefore b n bytes accepted
-  body_as_before = looking.body-as-before b n (byte_at b bytes) accepted
+  body_as_before = looking.body_as_before b n (byte_at b bytes) accepted
 
   pub next_as_before : NextAsBefore b n bytes accepted
-  next_as_before = looking.next-as-before b n (byte_at b bytes) accepted
+  next_as_before = looking.next_as_before b n (byte_at b bytes) accepted
 
 pub next_is_first : NextIsFirst
 next_is_first rows position from i e =
@@ -52,7 +52,7 @@ next_is_first rows position from i e =
 
 pub next_none_only : NextNoneOnly
 next_none_only rows position from e j l h same =
-    true≢false (sym (eq-eqb _ _ same) ∙ looking.first-none (has_position position) blank_row rows from e j l h)
+    true≢false (sym (eq-eqb _ _ same) ∙ looking.first_none (has_position position) blank_row rows from e j l h)
 
 pub example_looked_up : ExampleLookedUp
 unfolding next_at in_front check_of number rows_of some_wrong end_of chars any

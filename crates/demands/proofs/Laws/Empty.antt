@@ -60,7 +60,7 @@ use Rattle.demands.specs.Empty.{RulesReportSends, RulesSendOneRequest, RulesBegi
 use Rattle.demands.specs.Empty.{BeginsButOnce}
 
 pub rules_read : RulesRead
-rules_read = writer.write-and-read
+rules_read = writer.write_and_read
 
 pub refuses_every_line : RefusesEveryLine
 unfolding line_of unwritable any
@@ -71,7 +71,7 @@ unfolding line_of unwritable any
 says_ack_to_each_line d = let r = d (read_of 0) (replicate 5 0) (bare_sized Read 0 0 (lit< tt)) refl (lit≤ tt) in omega (arith, ap line_number r.2)
 
 pub rules_refuse_flips : RulesRefuseFlips
-rules_refuse_flips = lines.flips-are-refused
+rules_refuse_flips = lines.flips_are_refused
 
 pub says_ack_to_flips : SaysAckToFlips
 unfolding any repeated
@@ -79,7 +79,7 @@ says_ack_to_flips d =
     d (0x1E5 ∷ []) (record { character = 0; bit = 0 } ∷ []) (ack, refl) (record { within = refl; different = refl }) (lit≤ tt) (lit≤ tt) (ack, refl)
 
 pub rules_write : RulesWrite
-rules_write = writer.read-and-write
+rules_write = writer.read_and_write
 
 ack_read : read_line (0x1E5 ∷ []) ≡ reads ack
 unfolding read_line read_body any odd ones_in
@@ -92,14 +92,14 @@ pub writer_does_nothing : WriterDoesNothing
 writer_does_nothing write d = omega (arith, ap (λ (s : List ℕ). at s 0) (d (0x1E5 ∷ []) ack (0 ∷ []) ack_read (lit≤ tt)).1)
 
 pub rules_find : RulesFind
-rules_find = search.line-is-found
+rules_find = search.line_is_found
 
 pub finds_nothing : FindsNothing
 finds_nothing number d =
     let r = d (0x1E5 ∷ []) 0 1 (lit≤ tt, ap accepts ack_read) in omega (arith, ap (told (λ (p : Spot). 0)) r.1)
 
 pub rules_find_live : RulesFindLive
-rules_find_live = interfaces.mbus-is-found
+rules_find_live = interfaces.mbus_is_found
 
 pub finds_neither : FindsNeither
 finds_neither number d =
@@ -113,7 +113,7 @@ optical_comes_first find first d =
     omega (arith, ap (told line_interface) (sym o.1 ∙ m.1))
 
 pub rules_find_after : RulesFindAfter
-rules_find_after = after.line-since-is-found
+rules_find_after = after.line_since_is_found
 
 pub finds_nothing_after : FindsNothingAfter
 finds_nothing_after number d =
@@ -121,14 +121,14 @@ finds_nothing_after number d =
     omega (arith, ap (told (λ (p : TimedSpot). 0)) r.1)
 
 pub rules_know : RulesKnow
-rules_know = whole.line-is-known
+rules_know = whole.line_is_known
 
 pub length_never_known : LengthNeverKnown
 length_never_known program mute d =
     let r = d (0x1E5 ∷ 0 ∷ []) (0x1E5 ∷ []) (ack, ack_read) refl (lit≤ tt) in omega (arith, mute (0x1E5 ∷ 0 ∷ []), ap tells r)
 
 pub rules_give_back : RulesGiveBack
-rules_give_back cs h k = ap (λ (u : Unmarking). u.characters) (serial.characters-back cs h k)
+rules_give_back cs h k = ap (λ (u : Unmarking). u.characters) (serial.characters_back cs h k)
 
 pub makes_nothing : MakesNothing
 unfolding any
@@ -167,13 +167,13 @@ unfolding any
 works_it_out bytes_of d = carried_first (bytes_of 1 (pieces port_marked (0x0E5 ∷ []))) (ap (λ (s : List ℕ). at s 0) (d (0x0E5 ∷ []) refl 0))
 
 pub rules_answer : RulesAnswer
-rules_answer = meter.enter-answered
+rules_answer = meter.enter_answered
 
 pub rules_keep_silent : RulesKeepSilent
-rules_keep_silent = meter.others-silent
+rules_keep_silent = meter.others_silent
 
 abbrev fresh : Meter
-fresh = meters.begunMeter 0 blank
+fresh = meters.begun_meter 0 blank
 
 -- enter 90 at FE, which is an instruction; and an ack, which is none
 abbrev enter_line : List ℕ
@@ -211,16 +211,16 @@ made_by_lem b sends (s ∷ h) = made_by_lem (stands b (answer b s)) (noted b s (
 
 pub rules_take_replies : RulesTakeReplies
 rules_take_replies h x e send others line t telegram w m =
-    exchange.takes-reply h x (sym (run_by_lem Idle h) ∙ e) send others line t telegram w (sym (made_by_lem Idle [] h) ∙ m)
+    exchange.takes_reply h x (sym (run_by_lem Idle h) ∙ e) send others line t telegram w (sym (made_by_lem Idle [] h) ∙ m)
 
 pub rules_report_sends : RulesReportSends
-rules_report_sends h x e = rw (made_by_lem Idle [] h) (exchange.sends-reported h x (sym (run_by_lem Idle h) ∙ e)).0
+rules_report_sends h x e = rw (made_by_lem Idle [] h) (exchange.sends_reported h x (sym (run_by_lem Idle h) ∙ e)).0
 
 pub rules_send_one_request : RulesSendOneRequest
-rules_send_one_request h x e = rw (made_by_lem Idle [] h) (exchange.sends-reported h x (sym (run_by_lem Idle h) ∙ e)).2
+rules_send_one_request h x e = rw (made_by_lem Idle [] h) (exchange.sends_reported h x (sym (run_by_lem Idle h) ∙ e)).2
 
 pub rules_begin_again : RulesBeginAgain
-rules_begin_again x telegram t = exchange.well-as-none telegram t x
+rules_begin_again x telegram t = exchange.well_as_none telegram t x
 
 -- the send of an enter; a tick past the window, after which a resend is asked for; and the end of a send of this telegram
 abbrev at_start : Exchange

@@ -90,16 +90,16 @@ module _ (a b out : List ℕ) (n : ℕ) (done : join_of a b out ≡ reads n) (in
   behind_as_before = drop_at (bundle_of all) (drop (length (bundle_of all)) out) n (sym c.size) ∙ ap (λ (k : ℕ). drop k out) (sym c.size)
 
   accepted : check_of made ≡ reads (length all)
-  accepted = ap check_of new_is ∙ proper.both-accepted a b out n done (byte_at a in-a) (byte_at b in_b)
+  accepted = ap check_of new_is ∙ proper.both_accepted a b out n done (byte_at a in-a) (byte_at b in_b)
 
   pub both_accepted : BothAccepted a b out n done in-a in_b
   both_accepted = accepted ∙ ap reads (by_time_length (records_of a) (records_of b))
 
   pub both_held : BothHeld a b out n done in-a in_b
-  both_held = ap records_of new_is ∙ proper.both-holds a b out n done (byte_at a in-a) (byte_at b in_b)
+  both_held = ap records_of new_is ∙ proper.both_holds a b out n done (byte_at a in-a) (byte_at b in_b)
 
   pub both_places : BothPlaces a b out n done in-a in_b
-  both_places = rw new_is (contents_back all (proper.both-holdable a b out n done (byte_at a in-a) (byte_at b in_b)))
+  both_places = rw new_is (contents_back all (proper.both_holdable a b out n done (byte_at a in-a) (byte_at b in_b)))
 
   pub both_listed : BothListed a b out n done in-a in_b
   both_listed = listing_by_records made (length all) accepted ∙ ap (λ (ks : List Recorded). first_line ++ pieces record_line ks) both_held
@@ -149,18 +149,18 @@ much_last a b out m n e f = rw (e, f, both_filled a m b n e f)
 -- ---- the bundles of all positions
 
 pub all_give_it_back : AllGiveItBack
-all_give_it_back b n bytes e d = parts.bundles-whole b n e (byte_at b bytes) d
+all_give_it_back b n bytes e d = parts.bundles_whole b n e (byte_at b bytes) d
 
 pub all_hold_the_same : AllHoldTheSame
 all_hold_the_same b n bytes e =
     let each = byte_at b bytes in (
-      parts.bundles-accepted b n e each 48
-          ∙ ap reads (parts.parts-all-count (records_of b) (proper.held b n e each).fields ∙ held_count b n e),
-      λ position l h. ap (of_position position) (parts.bundles-hold b n e each 48) ∙ parts.parts-own 48 position l h (records_of b),
+      parts.bundles_accepted b n e each 48
+          ∙ ap reads (parts.parts_all_count (records_of b) (proper.held b n e each).fields ∙ held_count b n e),
+      λ position l h. ap (of_position position) (parts.bundles_hold b n e each 48) ∙ parts.parts_own 48 position l h (records_of b),
     )
 
 pub each_is_joined : EachIsJoined
-each_is_joined b n q out bytes e room = rw (add-one q) (parts.bundles-joined b n e (byte_at b bytes) q out room)
+each_is_joined b n q out bytes e room = rw (add-one q) (parts.bundles_joined_lem b n e (byte_at b bytes) q out room)
 
 -- ---- what is settled, and what a refusal leaves
 

@@ -123,13 +123,13 @@ module _ (b : List ℕ) (position : ℕ) (out : List ℕ) (n : ℕ) (done : choo
       drop_at (bundle_of mine) (drop (length (bundle_of mine)) out) n (sym c.size) ∙ ap (λ (k : ℕ). drop k out) (sym c.size)
 
   pub own_accepted : OwnAccepted b position out n done bytes
-  own_accepted = ap check_of new_is ∙ proper.own-accepted position b c.rows c.accepted (byte_at b bytes)
+  own_accepted = ap check_of new_is ∙ proper.own_accepted position b c.rows c.accepted (byte_at b bytes)
 
   pub own_held : OwnHeld b position out n done bytes
-  own_held = ap records_of new_is ∙ proper.own-holds position b c.rows c.accepted (byte_at b bytes)
+  own_held = ap records_of new_is ∙ proper.own_holds position b c.rows c.accepted (byte_at b bytes)
 
   pub own_places : OwnPlaces b position out n done bytes
-  own_places = rw new_is (contents_back mine (proper.own-holdable position b c.rows c.accepted (byte_at b bytes)))
+  own_places = rw new_is (contents_back mine (proper.own_holdable position b c.rows c.accepted (byte_at b bytes)))
 
   pub own_verdicts : OwnVerdicts b position out n done bytes
   own_verdicts = ap verdicts_of own_held ∙ sym (own_verdicts_same position (records_of b))

@@ -63,7 +63,7 @@ written_apart (reads m) (refusal n) e = cc
 written_apart (reads m) (reads n) e = cc
 
 pub found_apart : FoundApart
-found_apart = searches.found-same
+found_apart = searches.found_same
 
 pub after_apart : AfterApart
 after_apart = afters.after_same
@@ -72,16 +72,16 @@ pub either_apart : EitherApart
 either_apart = eithers.either_same
 
 pub gap_apart : GapApart
-gap_apart = gaps.shownGap-same
+gap_apart = gaps.shown_gap_same
 
 pub wake_apart : WakeApart
-wake_apart = wakes.shownWake-same
+wake_apart = wakes.shown_wake_same
 
 pub error_apart : ErrorApart
-error_apart = errors.shownIndication-same
+error_apart = errors.shown_indication_same
 
 pub exchange_apart : ExchangeApart
-exchange_apart = steps.shownStep-same
+exchange_apart = steps.shown_step_same
 
 pub exchange_record_apart : ExchangeRecordApart
 exchange_record_apart (refusal m) (refusal n) e = cc
@@ -90,40 +90,40 @@ exchange_record_apart (reads a) (refusal n) e = cc
 exchange_record_apart (reads a) (reads b) e = cc
 
 pub set_up_apart : SetUpApart
-set_up_apart = deeds.shownSetup-same
+set_up_apart = deeds.shown_setup_same
 
 pub meter_apart : MeterApart
-meter_apart = deeds.shownStep-same
+meter_apart = deeds.shown_step_same
 
 pub sum_apart : SumApart
-sum_apart = sums.shownSum-same
+sum_apart = sums.shown_sum_same
 
 pub checked_apart : CheckedApart
-checked_apart = bundles.shownChecked-same
+checked_apart = bundles.shown_checked_same
 
 pub row_apart : RowApart
-row_apart = rows.shownRow-same
+row_apart = rows.shown_row_same
 
 pub body_apart : BodyApart
-body_apart = rows.shownBody-same
+body_apart = rows.shown_body_same
 
 pub next_apart : NextApart
-next_apart = columns.shownNext-same
+next_apart = columns.shown_next_same
 
 pub salvage_apart : SalvageApart
-salvage_apart = salvages.shownSalvage-same
+salvage_apart = salvages.shown_salvage_same
 
 pub added_apart : AddedApart
-added_apart = addings.shownAdded-same
+added_apart = addings.shown_added_same
 
 pub swept_apart : SweptApart
-swept_apart = sweeps.shownSwept-same
+swept_apart = sweeps.shown_swept_same
 
 pub listed_apart : ListedApart
-listed_apart = listings.shownListed-same
+listed_apart = listings.shown_listed_same
 
 pub drawn_apart : DrawnApart
-drawn_apart = drawings.shownDrawn-same
+drawn_apart = drawings.shown_drawn_same
 
 -- the replay: the rows that count, and the error, whatever their numbers are
 abbrev numbered : Counted → List ℕ
@@ -148,4 +148,4 @@ pub verdicts_apart : VerdictsApart
 verdicts_apart a b e = sym (verdicts.answer_back a) ∙ ap answer_shown e ∙ verdicts.answer_back b
 
 pub verdict_found_apart : VerdictFoundApart
-verdict_found_apart = verdicts.verdictFound-same
+verdict_found_apart = verdicts.verdict_found_same

@@ -245,7 +245,7 @@ gap_by ended begins =
 pub error_by : ErrorBy
 unfolding any
 error_by m1 m2 s1 s2 =
-    refuse_by _ 60 (errors.countOver m1 m2 s1 s2) _ refl (refuse_by _ 61 (ltb m2 m1) _ refl (refuse_by _ 62 (leb s2 s1) _ refl (reads_by _ _)))
+    refuse_by _ 60 (errors.count_over m1 m2 s1 s2) _ refl (refuse_by _ 61 (ltb m2 m1) _ refl (refuse_by _ 62 (leb s2 s1) _ refl (reads_by _ _)))
 
 start_by : (v : Outline) (t : Clock) → By (42 ∷ []) (start_with v t)
 unfolding By any
@@ -285,7 +285,7 @@ tick_by (Busy x) t = called_by x t (waits x.state) (moved x (after_tick x.sends 
 
 pub set_up_by : SetUpBy
 unfolding any
-set_up_by own template = refuse_by _ 72 (templates.unfitTemplate template) _ refl (reads_by _ _)
+set_up_by own template = refuse_by _ 72 (templates.unfit_template template) _ refl (reads_by _ _)
 
 measured_by : (c : Core) (v e : ℕ) → By (70 ∷ 71 ∷ []) (measured c v e)
 unfolding any
@@ -431,7 +431,7 @@ table_by (r ∷ rows) n = cond_by _ (eqb n r.number) _ _ (reads_by _ _) (table_b
 pub words_by : WordsBy
 unfolding any text_of
 words_by n out =
-    follow_by _ (text_of n) (fitted out) (more (100 ∷ []) _ _ refl (table_by words.refusalTexts n))
+    follow_by _ (text_of n) (fitted out) (more (100 ∷ []) _ _ refl (table_by words.refusal_texts n))
     (λ w. refuse_by _ 21 (ltb (length out) (length (zero_ended w))) _ refl (reads_by _ _))
 
 recorded_by : {A : Type 0} (written : A → List ℕ) (taken : List ℕ → A) (b : List ℕ) → By (no_record ∷ []) (recorded written taken b)

@@ -40,17 +40,17 @@ use Rattle.demands.specs.Repeats.{RepeatsBy, RepeatsUnchanged, EarlierSettled, R
 use Rattle.demands.specs.Repeats as sayings
 
 pub number_for_each_row : NumberForEachRow
-number_for_each_row ks = putting.length-earlier [] ks
+number_for_each_row ks = putting.length_earlier [] ks
 
 module _ (b : List ℕ) (n : ℕ) (bytes : Bytes b) (accepted : check_of b ≡ reads n) where
   abbrev row : ℕ → Recorded
   row = sayings.row b n bytes accepted
 
   whole : (i : ℕ) → i < n → meaning.Whole (row i)
-  whole i h = rw (record_there b i n accepted h) (meaning.row-whole b i n bytes accepted h)
+  whole i h = rw (record_there b i n accepted h) (meaning.row_whole b i n bytes accepted h)
 
   pub same_reading_means : SameReadingMeans b n bytes accepted
-  same_reading_means i j h k = meaning.same-reading (row i) (row j) (whole i h) (whole j k)
+  same_reading_means i j h k = meaning.same_reading_lem (row i) (row j) (whole i h) (whole j k)
 
   module _ (i : ℕ) (inside : i < n) where
     there : i < length (records_of b)
@@ -58,19 +58,19 @@ module _ (b : List ℕ) (n : ℕ) (bytes : Bytes b) (accepted : check_of b ≡ r
 
     pub what_is_named : WhatIsNamed b n bytes accepted i inside
     what_is_named m e =
-        let p = naming.earlier-named (records_of b) i there m e in
-        (p.0, meaning.same-means (row m) (row i) p.1, λ l h. differ l (omega (arith, p.0)) (p.2 l h))
+        let p = naming.earlier_named (records_of b) i there m e in
+        (p.0, meaning.same_means (row m) (row i) p.1, λ l h. differ l (omega (arith, p.0)) (p.2 l h))
       where
         differ : (l : ℕ) → l < i → same_reading (row l) (row i) ≡ false → SameTelegrams (row l) (row i) → ⊥
-        differ l h f s = true≢false (sym (meaning.means-same (row l) (row i) (whole l (omega arith)) (whole i inside) s) ∙ f)
+        differ l h f s = true≢false (sym (meaning.means_same (row l) (row i) (whole l (omega arith)) (whole i inside) s) ∙ f)
 
     pub where_none_is_named : WhereNoneIsNamed b n bytes accepted i inside
     where_none_is_named e l h s =
-        true≢false (sym (meaning.means-same (row l) (row i) (whole l (omega arith)) (whole i inside) s)
-        ∙ naming.none-earlier (records_of b) i there e l h)
+        true≢false (sym (meaning.means_same (row l) (row i) (whole l (omega arith)) (whole i inside) s)
+        ∙ naming.none_earlier (records_of b) i there e l h)
 
 pub no_reading : NoReading
-no_reading k = (meaning.sent-gives-none k, meaning.wake-gives-none k)
+no_reading k = (meaning.sent_gives_none k, meaning.wake_gives_none k)
 
 pub heard_twice : HeardTwice
 unfolding earlier_after first_same same_reading same_parts same chars bytes_of read_line read_body read_entries any total odd carrier ones_in flips flip_bit wrong_header

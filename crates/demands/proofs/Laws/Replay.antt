@@ -24,31 +24,31 @@ use Rattle.demands.specs.Replay.{OthersChangeNothing, SameRowsSameReplay, DaysBy
 use Rattle.demands.specs.Replay.{ReplayValues, IntervalValues}
 
 pub counts_as_the_exchange : CountsAsTheExchange
-counts_as_the_exchange = exchanges.counted-as
+counts_as_the_exchange = exchanges.counted_as
 
 pub what_counts : WhatCounts
-what_counts = meaning.counted-means
+what_counts = meaning.counted_means
 
 pub left_over_never_counts : LeftOverNeverCounts
 left_over_never_counts = meaning.left_over
 
 pub every_such_row_counts : EverySuchRowCounts
-every_such_row_counts = meaning.means-counted
+every_such_row_counts = meaning.means_counted
 
 pub numbers_of_the_answers : NumbersOfTheAnswers
 numbers_of_the_answers = numbering.rows_are
 
 pub others_not_looked_at : OthersNotLookedAt
-others_not_looked_at = meaning.not-looked
+others_not_looked_at = meaning.not_looked
 
 pub others_change_nothing : OthersChangeNothing
-others_change_nothing = others.row-left-out
+others_change_nothing = others.row_left_out
 
 pub same_rows_same_replay : SameRowsSameReplay
-same_rows_same_replay = replaying.same-replay
+same_rows_same_replay = replaying.same_replay
 
 pub days_by_the_calendar : DaysByTheCalendar
-days_by_the_calendar = (days.first-day, days.next-in-month, days.next-month, days.next-year)
+days_by_the_calendar = (days.first_day, days.next_in_month, days.next_month, days.next_year)
 
 -- Six more than the power of ten of a unit byte of a volume, a millilitre being a millionth of a m³, is never below zero: a whole number of
 -- millilitres.
@@ -64,7 +64,7 @@ whole_millilitres u h v =
     (rw (eq-eqb (quantity_of u) volume v) at (below 256 (λ k. cond (eqb (quantity_of k) volume) (whole k) true) refl u h))
 
 pub error_is_nearest : ErrorIsNearest
-error_is_nearest = figuring.error-nearest
+error_is_nearest = figuring.error_nearest
 
 pub replay_values : ReplayValues
 unfolding error_of_figures tenths

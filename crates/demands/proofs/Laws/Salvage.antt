@@ -17,23 +17,23 @@ use Rattle.demands.specs.Salvage as sayings
 
 module _ (b : List ℕ) (n : ℕ) (whole : opened b (reads (count_of b)) ≡ reads n) where
   pub salvage_is : SalvageIs b n whole
-  salvage_is = answers.salvage-is b n whole refl
+  salvage_is = answers.salvage_is b n whole refl
 
   pub written_length : WrittenLength b n whole
-  written_length = proper.length-written b n whole
+  written_length = proper.length_written b n whole
 
   pub written_accepted : WrittenAccepted b n whole
-  written_accepted bytes = proper.new-accepted b n whole (byte_at b bytes)
+  written_accepted bytes = proper.new_accepted b n whole (byte_at b bytes)
 
   pub written_holds : WrittenHolds b n whole
-  written_holds bytes = proper.new-holds b n whole (byte_at b bytes)
+  written_holds bytes = proper.new_holds b n whole (byte_at b bytes)
 
 module _ (b : List ℕ) (n : ℕ) (accepted : check_of b ≡ reads n) where
   pub proper_told : ProperTold b n accepted
-  proper_told = proper.sound-salvaged b n accepted
+  proper_told = proper.sound_salvaged b n accepted
 
   pub proper_is_itself : ProperIsItself b n accepted
-  proper_is_itself bytes = ap bundle_of (proper.all-taken b n accepted) ∙ bundle_whole b (accepted_sound b n accepted).0 (byte_at b bytes)
+  proper_is_itself bytes = ap bundle_of (proper.all_taken b n accepted) ∙ bundle_whole b (accepted_sound b n accepted).0 (byte_at b bytes)
 
 module _ (b : List ℕ) (n : ℕ) (whole : opened b (reads (count_of b)) ≡ reads n) (bytes : Bytes b) where
   abbrev once : List ℕ
@@ -44,4 +44,4 @@ module _ (b : List ℕ) (n : ℕ) (whole : opened b (reads (count_of b)) ≡ rea
 
   pub twice_the_same : TwiceTheSame b n whole bytes
   twice_the_same =
-      ap bundle_of (proper.all-taken once (leading_rows n b).kept (written_accepted b n whole bytes)) ∙ ap bundle_of (written_holds b n whole bytes)
+      ap bundle_of (proper.all_taken once (leading_rows n b).kept (written_accepted b n whole bytes)) ∙ ap bundle_of (written_holds b n whole bytes)

@@ -175,10 +175,10 @@ module _ (b : List ℕ) (n : ℕ) (c : ContentsThere b n) where
   told = tell_of n b (leading_rows n b)
 
   is : salvage_of b ≡ reads told
-  is = answers.salvage-is b n whole refl
+  is = answers.salvage_is b n whole refl
 
   few : (leading_rows n b).kept ≤ n
-  few = answers.kept-few b n whole refl
+  few = answers.kept_few b n whole refl
 
   -- what a row is judged by
   time_is : (i : ℕ) → i ≤ n → end_of row_time 0 (take i rows) ≡ time_before b n i
@@ -219,7 +219,7 @@ module _ (b : List ℕ) (n : ℕ) (c : ContentsThere b n) where
   all_kept none =
       let all : (leading_rows n b).kept ≡ n = omega (arith, few) in
       let end : (leading_rows n b).end ≡ place_due b n n = end_due ∙ ap (place_due b n) all in
-      let most = (answers.end-inside b n whole refl).1 in
+      let most = (answers.end_inside b n whole refl).1 in
       rw (le-ltb (leading_rows n b).kept n (omega arith))
       (by_test (ltb (leading_rows n b).end (length b))
       (λ e. rw e (inl (refl, omega (arith, ltb-true (leading_rows n b).end (length b) e))))

@@ -18,30 +18,30 @@ use Rattle.demands.specs.Serial.{CharactersBack, PiecesBack, NothingIsLost, Neve
 use Rattle.demands.specs.Serial.{AcceptedWasRight, StrayFf, SerialValues}
 
 pub characters_back : CharactersBack
-characters_back = unmarking.marked-back
+characters_back = unmarking.marked_back
 
 pub pieces_back : PiecesBack
-pieces_back = by-piece.all-heard
+pieces_back = by-piece.all_heard
 
 pub nothing_is_lost : NothingIsLost
-nothing_is_lost = by-piece.nothing-lost
+nothing_is_lost = by-piece.nothing_lost
 
 pub never_too_much : NeverTooMuch
 never_too_much room bytes = let w = unmarking.within_both room bytes in (w.bytes, w.places)
 
 pub what_is_left : WhatIsLeft
-what_is_left = unmarking.what-is-left
+what_is_left = unmarking.what_is_left
 
 pub two_calls_as_one : TwoCallsAsOne
 two_calls_as_one = unmarking.in_two
 
 pub made_are_characters : MadeAreCharacters
-made_are_characters = sound.made-in-range
+made_are_characters = sound.made_in_range
 
 pub accepted_was_right : AcceptedWasRight
 accepted_was_right room bytes h a =
     let even = (line_code.sound (unmarked_in room bytes).characters a).even in
-    (even, sym (sound.passed-as-marked room bytes h even))
+    (even, sym (sound.passed_as_marked room bytes h even))
 
 -- FF before another byte than 00 and FF, which no port passes on that is set as asked, is FF with wrong parity, and the other byte stands by itself.
 stray_first : (b : ℕ) (s : List ℕ) → eqb b 0xFF ≡ false → eqb b 0x00 ≡ false → first (0xFF ∷ b ∷ s) ≡ Finished 1 0x1FF

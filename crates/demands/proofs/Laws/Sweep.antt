@@ -43,13 +43,13 @@ use Rattle.demands.specs.Sweep.{ReplayAsBefore, SweptTwice, AddingAfter, FitsAft
 use Rattle.demands.specs.Sweep as sayings
 
 pub wake_rows_go : WakeRowsGo
-wake_rows_go = going.wake-goes
+wake_rows_go = going.wake_goes
 
 pub named_rows_go : NamedRowsGo
-named_rows_go = going.named-goes
+named_rows_go = going.named_goes
 
 pub others_stay : OthersStay
-others_stay = going.other-stays
+others_stay = going.other_stays
 
 pub swept_sweeps : SweptSweeps
 unfolding without
@@ -90,7 +90,7 @@ listing_by_records b n e =
 not_looked : (position other : ℕ) (k : Recorded) → (other ≡ position → position ≡ 0) → removed position k ≡ true → looked other k ≡ false
 not_looked position other k f e =
     by_test (is_wake (chars k.body)) (λ w. (others_not_looked_at other k).1 w)
-    (λ w. let p = going.goes-named position k e w in (others_not_looked_at other k).0 (λ s. p.0 (f (sym s ∙ p.1))))
+    (λ w. let p = going.goes_named position k e w in (others_not_looked_at other k).0 (λ s. p.0 (f (sym s ∙ p.1))))
 
 same_looked : (position other : ℕ) → (other ≡ position → position ≡ 0) → (ks : List Recorded) → looked_at other (swept position ks) ≡ looked_at other ks
 unfolding without looked_at
@@ -120,19 +120,19 @@ module _ (buffer : List ℕ) (filled position n : ℕ) (cleared : sweep_of buffe
   times = bytes_timely buffer filled c.rows (byte_at buffer bytes) c.old
 
   pub no_longer : NoLonger buffer filled position n cleared bytes
-  no_longer = proper.sweep-fits buffer filled position n cleared
+  no_longer = proper.sweep_fits buffer filled position n cleared
 
   pub past_the_end : PastTheEnd buffer filled position n cleared bytes
   past_the_end = proper.past_the_end buffer filled position n cleared
 
   pub left_accepted : LeftAccepted buffer filled position n cleared bytes
-  left_accepted = proper.sweep-accepted buffer filled position n cleared times
+  left_accepted = proper.sweep_accepted buffer filled position n cleared times
 
   pub left_holds : LeftHolds buffer filled position n cleared bytes
-  left_holds = proper.sweep-holds buffer filled position n cleared times
+  left_holds = proper.sweep_holds buffer filled position n cleared times
 
   pub left_rows : LeftRows buffer filled position n cleared bytes
-  left_rows = proper.sweep-rows buffer filled position n cleared times
+  left_rows = proper.sweep_rows buffer filled position n cleared times
 
   pub left_listed : LeftListed buffer filled position n cleared bytes
   left_listed = listing_by_records new (length left) left_accepted ∙ ap (λ (ks : List Recorded). first_line ++ pieces record_line ks) left_holds
@@ -144,18 +144,18 @@ module _ (buffer : List ℕ) (filled position n : ℕ) (cleared : sweep_of buffe
 
   pub swept_twice : SweptTwice buffer filled position n cleared bytes
   swept_twice = (
-    proper.twice-answers buffer filled position n cleared times,
-    proper.twice-leaves buffer filled position n cleared times,
+    proper.twice_answers buffer filled position n cleared times,
+    proper.twice_leaves buffer filled position n cleared times,
   )
 
   inside : n ≤ length after
-  inside = omega (arith, no_longer, c.inside, proper.same-room buffer filled position n cleared)
+  inside = omega (arith, no_longer, c.inside, proper.same_room buffer filled position n cleared)
 
   last : last_time (contents_of new) ≡ end_of record_time 0 left
   last = sym (times_end 0 (contents_of new) (bodies_of new)) ∙ ap (end_of record_time 0) left_holds
 
   same_room : (rows m : ℕ) → no_room after rows m ≡ no_room buffer rows m
-  same_room rows m = rw (proper.same-room buffer filled position n cleared)
+  same_room rows m = rw (proper.same_room buffer filled position n cleared)
 
   pub adding_after : AddingAfter buffer filled position n cleared bytes
   adding_after k =
@@ -164,19 +164,19 @@ module _ (buffer : List ℕ) (filled position n : ℕ) (cleared : sweep_of buffe
       let at_last : wrong_row (last_time (contents_of new)) (row_for (n + 12) k) ≡ wrong = ap (λ (t : ℕ). wrong_row t (row_for (n + 12) k)) last in
       let room : no_room after (length left) (grown n k) ≡ no_room buffer (length left) (grown n k) = same_room (length left) (grown n k) in
       by_test wrong
-      (λ p. rw p (adding.add-wrong after n k (length left) inside left_accepted (at_last ∙ p)))
+      (λ p. rw p (adding.add_wrong after n k (length left) inside left_accepted (at_last ∙ p)))
       (λ p. by_test wide
       (λ q. rw (p, q) (adding.add_wide after n k (length left) inside left_accepted (at_last ∙ p) q))
       (λ q. by_test (no_room buffer (length left) (grown n k))
-      (λ r. rw (p, q, r) (adding.add-full after n k (length left) inside left_accepted (at_last ∙ p) q (room ∙ r)))
-      (λ r. rw (p, q, r) (adding.add-grown after n k (length left) inside left_accepted (at_last ∙ p) q (room ∙ r)))))
+      (λ r. rw (p, q, r) (adding.add_full after n k (length left) inside left_accepted (at_last ∙ p) q (room ∙ r)))
+      (λ r. rw (p, q, r) (adding.add_grown after n k (length left) inside left_accepted (at_last ∙ p) q (room ∙ r)))))
 
   pub fits_afterwards : FitsAfterwards buffer filled position n cleared bytes
   fits_afterwards k e room =
       let before : ℕ = last_time (contents_of old) in
       let field : Bool = wrong_field k.position k.direction (length k.body) in
       let wrong : wrong_row before (row_for (filled + 12) k) ≡ false = by_test (wrong_row before (row_for (filled + 12) k))
-      (λ p. absurd (another 34 (omega arith) (adding.add-wrong buffer filled k c.rows c.inside c.old p))) (λ p. p) in
+      (λ p. absurd (another 34 (omega arith) (adding.add_wrong buffer filled k c.rows c.inside c.old p))) (λ p. p) in
       let wide : any over (chars k.body) ≡ false = by_test (any over (chars k.body))
       (λ p. absurd (another 37 (omega arith) (adding.add_wide buffer filled k c.rows c.inside c.old wrong p))) (λ p. p) in
       let parts = neither field (ltb k.time before) wrong in
@@ -194,7 +194,7 @@ module _ (buffer : List ℕ) (filled position n : ℕ) (cleared : sweep_of buffe
       earlier : end_of record_time 0 left ≤ last_time (contents_of old)
       earlier =
           rw (← times_end 0 (contents_of old) (bodies_of old))
-          (proper.last-left (removed position) 0 0 (records_of old) (omega arith)
+          (proper.last_left (removed position) 0 0 (records_of old) (omega arith)
           (holdable_held old (accepted_sound old c.rows c.old).0 times).fields)
 
 pub example_swept : ExampleSwept

@@ -45,7 +45,7 @@ module _ (n : ℕ) where
 
   pub adding_unchanged : AddingUnchanged n
   adding_unchanged before after filled k r e p =
-      by_answer (λ a. adding.bufferAfter a before filled k) before (λ m. refl) (add_of before filled k) n after e p.leaves
+      by_answer (λ a. adding.buffer_after a before filled k) before (λ m. refl) (add_of before filled k) n after e p.leaves
 
   pub sweeping_unchanged : SweepingUnchanged n
   sweeping_unchanged before after filled position r e p =
@@ -85,7 +85,7 @@ module _ (n : ℕ) where
   reply_unchanged a telegram before after out then r e p = by_answer (λ x. exchanges.replied x telegram out) out (λ m. refl) a n then e p.reply
 
   pub answer_unchanged : AnswerUnchanged n
-  answer_unchanged a t before after out then r e p = by_answer (stored (λ d. meters.saidBytes d.said) out) out (λ m. refl) a n then e p.said
+  answer_unchanged a t before after out then r e p = by_answer (stored (λ d. meters.said_bytes d.said) out) out (λ m. refl) a n then e p.said
 
   pub gives_untouched : GivesUntouched n
   gives_untouched a before r after e p = record {
@@ -95,7 +95,7 @@ module _ (n : ℕ) where
 
   pub buffer_unchanged : BufferUnchanged n
   buffer_unchanged buffer filled k r after (λ x. x.now) e p =
-      by_answer (λ a. adding.bufferAfter a buffer filled k) buffer (λ m. refl) (add_of buffer filled k) n after e p.holds
+      by_answer (λ a. adding.buffer_after a buffer filled k) buffer (λ m. refl) (add_of buffer filled k) n after e p.holds
 
   pub swept_buffer_unchanged : SweptBufferUnchanged n
   swept_buffer_unchanged buffer filled position r after (λ x. x.now) e p =

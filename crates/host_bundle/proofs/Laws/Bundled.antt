@@ -43,12 +43,12 @@ module _ {buffer : List ℕ} {filled : ℕ} {k : Recorded} {s : Added} {after : 
 module _ {b out : List ℕ} {s : Listed} {after : List ℕ} {written n : ℕ} where
   pub lists_value : listing.Lists b out s after → s ≡ listed.Written n → ListsIn b out written 0 after n
   lists_value l e = record {
-    gives = gives_value (listing-laws.shownListed-same (listing.listedIn (listing_of b) out) (reads n) (sym l.answer ∙ e));
+    gives = gives_value (listing-laws.shown_listed_same (listing.listed_in (listing_of b) out) (reads n) (sym l.answer ∙ e));
     holds = l.holds;
   }
 
   pub lists_number : listing.Lists b out s after → s ≡ listed.Refused n → ListsIn b out written (256 + n) after written
   lists_number l e = record {
-    gives = gives_number (listing-laws.shownListed-same (listing.listedIn (listing_of b) out) (refusal n) (sym l.answer ∙ e));
+    gives = gives_number (listing-laws.shown_listed_same (listing.listed_in (listing_of b) out) (refusal n) (sym l.answer ∙ e));
     holds = l.holds;
   }

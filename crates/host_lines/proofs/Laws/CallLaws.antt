@@ -70,11 +70,11 @@ module _ (line out : List ℕ) {s : Reading} (e : s ≡ shown (read_line line)) 
 abbrev Line : Answer (List ℕ) → List ℕ → List ℕ → ℕ → Type 0
 Line a out after r = Leaves length (λ line. line) a out after r
 
-write_told : (a : Answer (List ℕ)) {w : Written} {n : ℕ} → w ≡ answering.shownWritten (within length a) → w ≡ writtens.Refused n → 256 + n ≡ told length a
+write_told : (a : Answer (List ℕ)) {w : Written} {n : ℕ} → w ≡ answering.shown_written (within length a) → w ≡ writtens.Refused n → 256 + n ≡ told length a
 write_told (refusal m) e f = cc
 write_told (reads s) e f = cc
 
-write_length : (a : Answer (List ℕ)) {w : Written} {n : ℕ} → w ≡ answering.shownWritten (within length a) → w ≡ writtens.Length n → n ≡ told length a
+write_length : (a : Answer (List ℕ)) {w : Written} {n : ℕ} → w ≡ answering.shown_written (within length a) → w ≡ writtens.Length n → n ≡ told length a
 write_length (refusal m) e f = cc
 write_length (reads s) e f = cc
 
@@ -86,7 +86,7 @@ module _ (t : Telegram) {out after : List ℕ} {w : Written} (l : answering.Writ
   line_written f = record { answer = write_length (write_line t (length out)) l.answer f; left = l.places }
 
 -- no line is longer than the longest
-few : (t : Telegram) (u v : Bool) → unwritable t ≡ u → {w : Written} {n : ℕ} → w ≡ answering.shownWritten
+few : (t : Telegram) (u v : Bool) → unwritable t ≡ u → {w : Written} {n : ℕ} → w ≡ answering.shown_written
     (within length (refuse 20 u (refuse 21 v (reads (line_of t))))) → w ≡ writtens.Length n → n ≤ longest
 few t true v g e f = let z : ◌≡◌ {A = ℕ} 0 1 = cc in absurd (omega arith)
 few t false true g e f = let z : ◌≡◌ {A = ℕ} 0 1 = cc in absurd (omega arith)

@@ -58,7 +58,7 @@ found_begins t (c ∷ s) (b ∷ times) p e = go (leb t b) refl (length_here (c �
         → Finding t (c ∷ s) (b ∷ times) p
     go true l (reads n) h f g rest q = found {q = timed_at 0 n b} (cc) (record {
       begins = record {
-        begins = search.found-begins (c ∷ s) (spot_at 0 n) (ap (λ (a : Answer ℕ). or_else a (further (find_in s))) h);
+        begins = search.found_begins (c ∷ s) (spot_at 0 n) (ap (λ (a : Answer ℕ). or_else a (further (find_in s))) h);
         timed = omega arith;
         since = leb-true t b l;
       };
@@ -72,11 +72,11 @@ pub begins_found : (t : ℕ) (s times : List ℕ) (place n : ℕ) → BeginsAfte
     → (p : TimedSpot) × (find_after t s times ≡ reads p) × (p.spot.place ≤ place)
 unfolding find_after find_in
 begins_found t [] times place n b =
-    let f = search.begins-found [] place n b.begins in let z : ◌≡◌ {A = ℕ} 0 1 = cc f.1 in absurd (omega arith)
+    let f = search.begins_found [] place n b.begins in let z : ◌≡◌ {A = ℕ} 0 1 = cc f.1 in absurd (omega arith)
 begins_found t (c ∷ s) [] place n b = absurd (omega (arith, b.timed))
 begins_found t (c ∷ s) (time ∷ times) zero n b =
     let l : leb t time ≡ true = le-leb t time b.since in
-    let f = search.begins-found (c ∷ s) 0 n b.begins in
+    let f = search.begins_found (c ∷ s) 0 n b.begins in
     go l (length_here (c ∷ s)) refl (find_in s) f.0 f.1 f.2
   where
     go : leb t time ≡ true → (a : Answer ℕ) → length_here (c ∷ s) ≡ a → (f : Answer Spot) → (p : Spot) → or_else (length_here (c ∷ s)) (further f) ≡ reads p
