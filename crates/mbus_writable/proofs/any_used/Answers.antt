@@ -9,14 +9,14 @@ use Rattle.mbus_writable.proofs.Laws.Walks.{looked_none, looked_next, looked_all
 use Rattle.mbus_writable.proofs.any_used.Goals as goal
 
 pub loop-i-init : goal.loop-i-init
-loop-i-init c = looked_none used_entry c.args.t1 c.args.from
+loop-i-init c = looked_none used_entry c.args.entries c.args.from
 
 pub loop-i-preserved : goal.loop-i-preserved
 loop-i-preserved c =
-    let n : length c.args.t1 ≡ 7 = search rules in
+    let n : length c.args.entries ≡ 7 = search rules in
     rw c.used_entry-found.ensures (looked_next _ c.loop-i.invariant (omega arith))
 
 pub returns : goal.returns
 returns c =
-    let n : length c.args.t1 ≡ 7 = search rules in
+    let n : length c.args.entries ≡ 7 = search rules in
     looked_all c.loop-i.invariant (omega arith)

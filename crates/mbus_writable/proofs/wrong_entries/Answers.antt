@@ -18,11 +18,11 @@ bounds-seen-quantity-in-loop-i c = rw c.quantity_of-quantity.ensures (quantity_f
 
 pub loop-i-preserved : goal.loop-i-preserved
 loop-i-preserved c =
-    let n : c.args.count ≤ length c.args.t1 = search rules in
+    let n : c.args.count ≤ length c.args.entries = search rules in
     counted_next _ c.loop-i.invariant n c.loop-i-test.true c.quantity_of-quantity.ensures
     c.wrong_entry-bad.ensures
 
 pub returns : goal.returns
 returns c =
-    let n : c.args.count ≤ length c.args.t1 = search rules in
+    let n : c.args.count ≤ length c.args.entries = search rules in
     rw c.any_missing-missing.ensures (counted_all c.loop-i.invariant n c.loop-i-test.false)

@@ -33,7 +33,7 @@ put_bytes-requires c =
 
 pub put_words-requires : goal.put_words-requires
 put_words-requires c =
-    (few (goal.at.put_words-requires c).In-Rows, omega (arith, ltb-false, (le-ltb _ _ c.if-short.false), c.put_bytes.auto.1))
+    (few (goal.at.put_words-requires c).In-Rows, omega (arith, ltb-false, (le-ltb _ _ c.if-short.false), c.put_bytes.auto.out))
 
 pub returns-in-Rows : goal.returns-in-Rows
 returns-in-Rows c =

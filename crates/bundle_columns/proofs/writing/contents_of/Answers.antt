@@ -26,7 +26,7 @@ returns-then-short c =
 pub put_rows-requires : goal.put_rows-requires
 put_rows-requires c =
     let t = counted (goal.at.put_rows-requires c).In-Rows in
-    (t.size, t.few, omega (arith, ltb-false, (le-ltb _ _ c.if-short.false), c.put_number.auto.0))
+    (t.size, t.few, omega (arith, ltb-false, (le-ltb _ _ c.if-short.false), c.put_number.auto.out))
 
 pub returns-else-short : goal.returns-else-short
 returns-else-short c =
