@@ -53,7 +53,7 @@ module _ (b : List ℕ) (n : ℕ) (bytes : EachByte b) (e : check_of b ≡ reads
   row_as_before i =
       let size : length rows ≡ n = count_rows b n e in
       by_test (leb (length rows) i)
-      (λ h. rw (there, h) (sym (handing.row-none b i n e (omega (arith, leb-true (length rows) i h)))))
+      (λ h. rw (there, h) (sym (handing.row_none b i n e (omega (arith, leb-true (length rows) i h)))))
       (λ h. let inside : i < length rows = leb-false (length rows) i h in
       rw (there, h) (ap reads (kept_there rows i inside) ∙ sym (handing.row_reads b i n e (omega arith))))
 

@@ -52,24 +52,24 @@ module _ (b : List ℕ) (n : ℕ) (e : opened b (reads (count_of b)) ≡ reads n
     pub kept_few : l.kept ≤ n
     kept_few = rw f (omega (arith, leading_few b 0 (first_offset n) (rows_of n (drop 2 b)), length_rows n (drop 2 b)))
 
-    kept-rows : take l.kept (rows_of n (drop 2 b)) ≡ rows_of l.kept (drop 2 b)
-    kept-rows = rows_taken l.kept n (drop 2 b) kept_few
+    kept_rows : take l.kept (rows_of n (drop 2 b)) ≡ rows_of l.kept (drop 2 b)
+    kept_rows = rows_taken l.kept n (drop 2 b) kept_few
 
-    pub kept-in-place : InPlace b l.kept n
-    kept-in-place = record {
+    pub kept_in_place : InPlace b l.kept n
+    kept_in_place = record {
       whole = contents_whole;
       part = kept_few;
       places =
-          ap (wrong_places (length b) (first_offset n)) (sym kept-rows)
+          ap (wrong_places (length b) (first_offset n)) (sym kept_rows)
           ∙ rw f (keep_places b 0 (first_offset n) (take (leading_rows n b).kept (rows_of n (drop 2 b))) (leading_keep b 0 (first_offset n) (rows_of n
           (drop 2 b))));
     }
 
     pub end_is : l.end ≡ bodies_end (first_offset n) (rows_of l.kept (drop 2 b))
-    end_is = rw f (leading_end b 0 (first_offset n) (rows_of n (drop 2 b))) ∙ ap (bodies_end (first_offset n)) kept-rows
+    end_is = rw f (leading_end b 0 (first_offset n) (rows_of n (drop 2 b))) ∙ ap (bodies_end (first_offset n)) kept_rows
 
     pub end_inside : (first_offset n ≤ l.end) × (l.end ≤ length b)
-    end_inside = let t = end_there b l.kept n kept-in-place in (omega (arith, end_is, t.0), omega (arith, end_is, t.1))
+    end_inside = let t = end_there b l.kept n kept_in_place in (omega (arith, end_is, t.0), omega (arith, end_is, t.1))
 
     pub salvage_is : salvage_of b ≡ reads (tell_of n b l)
     unfolding salvage_of

@@ -5,11 +5,11 @@ use mathlib.Core.Logic.{⊎_elim}
 use mathlib.Core.Path.{refl, sym, ◌∙◌}
 use Rattle.mbus_entries.proofs.Laws.WalkLaws.Ended.{whole, refused}
 use Rattle.mbus_entries.proofs.Laws.WalkLaws.{walked_none, Turn, turned, halted, Ended, ended_refused, ended_whole}
-use Rattle.mbus_entries.proofs.read_entries.Goals.{In-Passed, Left-loop-at}
+use Rattle.mbus_entries.proofs.read_entries.Goals.{In-Passed, Left-loop-at, else-loop-at-test, then-loop-at-test+in-Refused}
 use Rattle.mbus_entries.proofs.read_entries.Goals as goal
 
 -- a turn that passes over an entry
-turn : (c : In-Passed invariant-loop decreases-loop)
+turn : (c : In-Passed)
     → Turn c.args.rest.now
     c.loop-at.at c.loop-at.count
     c.loop-at.marks c.loop-at.entries
@@ -19,11 +19,14 @@ turn c =
     c.next_entry-next.ensures c.in-Passed.is
 
 -- the two ways out of the loop
-ends : (c : Left-loop-at invariant-loop decreases-loop) → Ended c.args.rest.now c.loop-at.at c.loop-at-test.outcome
+ends : (c : Left-loop-at) → Ended c.args.rest.now c.loop-at.at c.loop-at-test.outcome
 ends c =
-    ⊎_elim (λ w. whole (w.1 ∙ c.loop-at.invariant.1) w.0.left)
-    (λ w. refused w.4.given.0.0 w.6 (halted c.loop-at.invariant.0 w.0.taken w.2.ensures w.4.given.1))
-    c.loop-at-test.branch
+    elim c.loop-at-test.branch [
+      else-loop-at-test w ↦ whole (w.outcome-is ∙ c.loop-at.invariant.1) w.loop-at-test.false
+    | then-loop-at-test+in-Refused w ↦
+        refused w.in-Refused.n w.outcome-is
+        (halted c.loop-at.invariant.0 w.loop-at-test.true w.next_entry-next.ensures w.in-Refused.is)
+    ]
 
 pub loop-at-init : goal.loop-at-init
 loop-at-init c = rw c.blank_entry-blank.ensures (walked_none _, refl)

@@ -7,23 +7,23 @@ pub bounds-marks-quantity : goal.bounds-marks-quantity
 bounds-marks-quantity c =
     omega (
       arith,
-      next_few c.args.rest.now c.args.t2
+      next_few c.args.rest.now c.args.marks
           c.try_entry-passed.ensures c.in-Passed.is,
     )
 
 pub returns-then-marks-quantity : goal.returns-then-marks-quantity
 returns-then-marks-quantity c =
     next_seen c.args.rest.now
-    c.args.t2 c.try_entry-passed.ensures
+    c.args.marks c.try_entry-passed.ensures
     c.in-Passed.is c.if-marks-quantity.true
 
 pub returns-in-Refused : goal.returns-in-Refused
 returns-in-Refused c =
-    next_refused c.args.rest.now c.args.t2
+    next_refused c.args.rest.now c.args.marks
     c.try_entry-passed.ensures c.in-Refused.is
 
 pub returns-else-marks-quantity : goal.returns-else-marks-quantity
 returns-else-marks-quantity c =
     next_passed c.args.rest.now
-    c.args.t2 c.try_entry-passed.ensures
+    c.args.marks c.try_entry-passed.ensures
     c.in-Passed.is c.if-marks-quantity.false
