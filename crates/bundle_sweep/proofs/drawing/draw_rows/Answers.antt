@@ -5,6 +5,7 @@ use native.Mathlib.Omega.{arith}
 use borrow.Author.Tests.{not-true, not-false}
 use Rattle.bundle_sweep.proofs.Laws.Drawing.{drawing_none, drawing_length, drawing_few, drawing_whole}
 use Rattle.bundle_sweep.proofs.Laws.Drawing.{drawing-inside, drawing-gone, drawing-next, drawing_all}
+use Rattle.bundle_sweep.proofs.drawing.draw_rows.Goals.{then-not-gone, else-not-gone}
 use Rattle.bundle_sweep.proofs.drawing.draw_rows.Goals as goal
 
 pub loop-i-init : goal.loop-i-init
@@ -41,10 +42,10 @@ pub loop-i-preserved : goal.loop-i-preserved
 loop-i-preserved c =
     let h = c.loop-i-test.true in
     let e = c.goes_at-gone.ensures in
-    ⊎_elim
-    (λ w. rw (w.5, w.6) (drawing-next c.loop-i.invariant h e (not-true _ w.0.taken) w.2.ensures))
-    (λ w. rw (w.1, w.2) (drawing-gone c.loop-i.invariant h e (not-false _ w.0.left)))
-    c.if-not-gone.branch
+    elim c.if-not-gone.branch [
+      then-not-gone w ↦ rw (w.bundle-is, w.kept-is) (drawing-next c.loop-i.invariant h e w.if-not-gone.true w.move_down.ensures)
+    | else-not-gone w ↦ rw (w.bundle-is, w.kept-is) (drawing-gone c.loop-i.invariant h e w.if-not-gone.false)
+    ]
 
 pub shape_of-bundle : goal.shape_of-bundle
 shape_of-bundle c = drawing_length c.loop-i.invariant
