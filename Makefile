@@ -6,19 +6,18 @@
 #   make deb                         target/skarrowith_VERSION_amd64.deb, for a bench computer, which needs no prover
 #   make clean                       removes everything that was built or proved
 # DESTDIR, LIBDIR and PYTHONDIR are as usual. What is missing on this machine is said and not installed. Programs and libraries are
-# for x86-64; elsewhere scripts stand in the programs' place that run them under the kit's emulator.
+# built on x86-64 and for it.
 PREFIX := /usr/local
 DESTDIR :=
 LIBDIR = $(PREFIX)/lib
 PYTHONDIR = $(PREFIX)/lib/python3/dist-packages
-MACHINE := $(shell uname -m)
 VERSION := $(shell sed -n 's/^\#define SKARROWITH_VERSION_TEXT "\(.*\)"/\1/p' include/skarrowith.h)
 SONAME := libskarrowith.so.$(firstword $(subst ., ,$(VERSION)))
 
 ARCHIVE := target/staticlib/libskarrowith.a
 SHARED := target/shared/libskarrowith.so.$(VERSION)
 PROGRAM := target/program/skarrowith
-LISTER := target/bin/list
+LISTER := crates/list/out/list
 PAGES := target/man/skarrowith.3
 DEB := target/skarrowith_$(VERSION)_amd64.deb
 COMPILER = $(shell bin/machine cc)
@@ -52,21 +51,13 @@ $(PROGRAM): $(ARCHIVE) include/skarrowith.h $(wildcard program/*.[ch])
 	$(COMPILER) $(FLAGS) -static -o $@ program/*.c $(ARCHIVE)
 
 # 01's proved listing program; after the archive, as two rt at a time are one too many.
-$(LISTER): crates.txt $(shell find crates -name '*.rt' -o -name '*.antt') | $(ARCHIVE)
+$(LISTER): crates.txt $(shell find crates -name out -prune -o '(' -name '*.rt' -o -name '*.antt' ')' -print) | $(ARCHIVE)
 	bin/prove list
 	touch $@
 
 $(PAGES): bin/manual man/functions man/skarrowith.3 include/skarrowith.h
 	rm -rf $(@D)
 	bin/manual $(@D)
-
-ifeq ($(MACHINE),x86_64)
-INSTALL_PROGRAM = install -m 755 $(2) $(DESTDIR)$(AT)/bin/$(1)
-else
-INSTALL_PROGRAM = install -D -m 755 $(2) $(DESTDIR)$(AT)/libexec/skarrowith/$(1) && \
-	printf '\#!/bin/sh\nexec %s %s "$$@"\n' '$(shell bin/machine $(3))' $(AT)/libexec/skarrowith/$(1) >$(DESTDIR)$(AT)/bin/$(1) && \
-	chmod 755 $(DESTDIR)$(AT)/bin/$(1)
-endif
 
 install: all
 	install -d $(addprefix $(DESTDIR),$(AT)/include $(AT_LIB)/pkgconfig $(AT)/bin $(AT_PYTHON)/skarrowith) $(MAN)/man1 $(MAN)/man3 $(EXAMPLES)
@@ -75,8 +66,8 @@ install: all
 	ln -sf $(notdir $(SHARED)) $(DESTDIR)$(AT_LIB)/$(SONAME)
 	ln -sf $(SONAME) $(DESTDIR)$(AT_LIB)/libskarrowith.so
 	sed -e 's|@PREFIX@|$(AT)|' -e 's|@LIBDIR@|$(AT_LIB)|' -e 's|@VERSION@|$(VERSION)|' host/skarrowith.pc.in >$(DESTDIR)$(AT_LIB)/pkgconfig/skarrowith.pc
-	$(call INSTALL_PROGRAM,skarrowith,$(PROGRAM),run)
-	$(call INSTALL_PROGRAM,skarrowith-list,$(LISTER),loader)
+	install -m 755 $(PROGRAM) $(DESTDIR)$(AT)/bin/skarrowith
+	install -m 755 $(LISTER) $(DESTDIR)$(AT)/bin/skarrowith-list
 	install -m 644 man/*.1 $(MAN)/man1
 	install -m 644 target/man/*.3 $(MAN)/man3
 	install -m 644 python/skarrowith/*.py python/skarrowith/py.typed $(DESTDIR)$(AT_PYTHON)/skarrowith
@@ -86,7 +77,7 @@ uninstall:
 	rm -f $(DESTDIR)$(AT)/include/skarrowith.h $(addprefix $(DESTDIR)$(AT_LIB)/libskarrowith,.a .so .so.*) $(DESTDIR)$(AT_LIB)/pkgconfig/skarrowith.pc
 	rm -f $(DESTDIR)$(AT)/bin/skarrowith $(DESTDIR)$(AT)/bin/skarrowith-list $(MAN)/man1/skarrowith.1 $(MAN)/man1/skarrowith-list.1
 	rm -f $(MAN)/man3/skarrowith.3 $(MAN)/man3/skarrowith_*.3
-	rm -rf $(DESTDIR)$(AT)/libexec/skarrowith $(DESTDIR)$(AT_PYTHON)/skarrowith $(DESTDIR)$(AT)/share/doc/skarrowith
+	rm -rf $(DESTDIR)$(AT_PYTHON)/skarrowith $(DESTDIR)$(AT)/share/doc/skarrowith
 
 check: try
 	$(MAKE) -C host all
@@ -106,8 +97,8 @@ deb: $(DEB)
 
 $(DEB): all
 	rm -rf target/deb
-	$(MAKE) -s install MACHINE=x86_64 DESTDIR=$(abspath target/deb) PREFIX=/usr LIBDIR=/usr/lib/x86_64-linux-gnu
+	$(MAKE) -s install DESTDIR=$(abspath target/deb) PREFIX=/usr LIBDIR=/usr/lib/x86_64-linux-gnu
 	bin/package target/deb $(VERSION) $@
 
 clean:
-	rm -rf target
+	rm -rf target crates/*/out

@@ -11,8 +11,7 @@ use bench_indication::{Indication, error_of};
 pub mod resistance;
 
 // Writes a wake-up of so many characters.
-#[unsafe(no_mangle)]
-pub extern "C" fn skarrowith_write_wake(count: usize, out: &mut [u16]) -> u32
+pub fn skarrowith_write_wake(count: usize, out: &mut [u16]) -> u32
     ensures { Leaves done wake_line (wake_of count out.old) out.old out.new result }
 {
     let wake = write_wake(count, out);
@@ -23,8 +22,7 @@ pub extern "C" fn skarrowith_write_wake(count: usize, out: &mut [u16]) -> u32
 }
 
 // Whether a command that begins at a time stands in the gap after a wake-up that ended at another.
-#[unsafe(no_mangle)]
-pub extern "C" fn skarrowith_gap(ended: u64, begins: u64) -> u32
+pub fn skarrowith_gap(ended: u64, begins: u64) -> u32
     ensures { result ≡ told done (gap_of ended begins) }
 {
     let wake = Clock(ended);
@@ -36,8 +34,7 @@ pub extern "C" fn skarrowith_gap(ended: u64, begins: u64) -> u32
 }
 
 // The error of indication in tenths of a percent.
-#[unsafe(no_mangle)]
-pub extern "C" fn skarrowith_error(m1: u64, m2: u64, s1: u64, s2: u64, tenths: &mut [i64]) -> u32
+pub fn skarrowith_error(m1: u64, m2: u64, s1: u64, s2: u64, tenths: &mut [i64]) -> u32
     ensures { Leaves done (λ e. e ∷ []) (error_for m1 m2 s1 s2 tenths.old) tenths.old tenths.new result }
 {
     let short = tenths.len() < 1;

@@ -5,8 +5,7 @@ ghost use Rattle.host_bench.specs.Resistances.{LeavesOne};
 use bench_resistance::{Resistance, Temperature, resistance_of, temperature_of};
 
 // 0 and the resistance in milliohm for a temperature in hundredths of a degree, or 256 plus 90.
-#[unsafe(no_mangle)]
-pub extern "C" fn skarrowith_resistance(hundredths: u32, milliohm: &mut u32) -> u32
+pub fn skarrowith_resistance(hundredths: u32, milliohm: &mut u32) -> u32
     ensures { LeavesOne (resistance_of hundredths) milliohm.old milliohm.new result }
 {
     match resistance_of(hundredths) {
@@ -19,8 +18,7 @@ pub extern "C" fn skarrowith_resistance(hundredths: u32, milliohm: &mut u32) -> 
 }
 
 // 0 and the temperature in hundredths of a degree for a resistance in milliohm, or 256 plus 91.
-#[unsafe(no_mangle)]
-pub extern "C" fn skarrowith_temperature(milliohm: u32, hundredths: &mut u32) -> u32
+pub fn skarrowith_temperature(milliohm: u32, hundredths: &mut u32) -> u32
     ensures { LeavesOne (temperature_of milliohm) hundredths.old hundredths.new result }
 {
     match temperature_of(milliohm) {

@@ -12,8 +12,7 @@ use bundle_columns::making::columns_of;
 use bundle_columns::{NextFound, count_in, next, row};
 
 // 0 and the record of the five lists, or 256 plus 21 or 30 to 37.
-#[unsafe(no_mangle)]
-pub extern "C" fn skarrowith_contents_of(bundle: &[u8], contents: &mut [u8]) -> u32
+pub fn skarrowith_contents_of(bundle: &[u8], contents: &mut [u8]) -> u32
     ensures { Leaves done columns_bytes (columns_into bundle.now contents.old) contents.old contents.new result }
 {
     match columns_of(bundle, contents) {
@@ -23,8 +22,7 @@ pub extern "C" fn skarrowith_contents_of(bundle: &[u8], contents: &mut [u8]) -> 
 }
 
 // 0 and the record of row i, or 256 plus 101, 21 or 39.
-#[unsafe(no_mangle)]
-pub extern "C" fn skarrowith_contents_row(contents: &[u8], i: usize, out: &mut [u8]) -> u32
+pub fn skarrowith_contents_row(contents: &[u8], i: usize, out: &mut [u8]) -> u32
     ensures { GivesRow (kept_into contents.now i out.old) out.old result out.new }
 {
     match count_in(contents) {
@@ -37,13 +35,7 @@ pub extern "C" fn skarrowith_contents_row(contents: &[u8], i: usize, out: &mut [
 }
 
 // 0 and the next row of a position from a given row on, or 256 plus 101 or 39.
-#[unsafe(no_mangle)]
-pub extern "C" fn skarrowith_contents_next(
-    contents: &[u8],
-    position: u8,
-    from: usize,
-    i: &mut usize,
-) -> u32
+pub fn skarrowith_contents_next(contents: &[u8], position: u8, from: usize, i: &mut usize) -> u32
     ensures { Gives (next_kept contents.now position from) i.old result i.new }
 {
     match next(contents, position, from) {

@@ -5,8 +5,7 @@ use bundle_joining::position::{Chosen, of_position};
 use bundle_joining::{Joined, join};
 
 // 0, the bundle of a position and how many bytes it fills, or 256 plus 30 to 38.
-#[unsafe(no_mangle)]
-pub extern "C" fn skarrowith_bundle_of_position(
+pub fn skarrowith_bundle_of_position(
     bundle: &[u8],
     position: u8,
     out: &mut [u8],
@@ -24,13 +23,7 @@ pub extern "C" fn skarrowith_bundle_of_position(
 }
 
 // 0, the bundle of the rows of both and how many bytes it fills, or 256 plus 30 to 38.
-#[unsafe(no_mangle)]
-pub extern "C" fn skarrowith_bundle_join(
-    a: &[u8],
-    b: &[u8],
-    out: &mut [u8],
-    filled: &mut usize,
-) -> u32
+pub fn skarrowith_bundle_join(a: &[u8], b: &[u8], out: &mut [u8], filled: &mut usize) -> u32
     ensures { JoinsIn a.now b.now out.old filled.old result out.new filled.new }
 {
     match join(a, b, out) {

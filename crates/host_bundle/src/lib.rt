@@ -17,8 +17,7 @@ mod record;
 pub mod salvaging;
 
 // 0 and the count of rows, or 256 plus 30 to 37.
-#[unsafe(no_mangle)]
-pub extern "C" fn skarrowith_bundle_check(bundle: &[u8], rows: &mut usize) -> u32
+pub fn skarrowith_bundle_check(bundle: &[u8], rows: &mut usize) -> u32
     ensures { Gives (check_of bundle.now) rows.old result rows.new }
 {
     match check(bundle) {
@@ -31,8 +30,7 @@ pub extern "C" fn skarrowith_bundle_check(bundle: &[u8], rows: &mut usize) -> u3
 }
 
 // 0 and the record of row i, or 256 plus 21, 30 to 37 or 39.
-#[unsafe(no_mangle)]
-pub extern "C" fn skarrowith_bundle_row(bundle: &[u8], i: usize, out: &mut [u8]) -> u32
+pub fn skarrowith_bundle_row(bundle: &[u8], i: usize, out: &mut [u8]) -> u32
     ensures { GivesRow (row_into bundle.now i out.old) out.old result out.new }
 {
     let found = row(bundle, i);
@@ -40,8 +38,7 @@ pub extern "C" fn skarrowith_bundle_row(bundle: &[u8], i: usize, out: &mut [u8])
 }
 
 // 0, the row added and how many bytes the bundle then fills, or 256 plus 30 to 38.
-#[unsafe(no_mangle)]
-pub extern "C" fn skarrowith_bundle_add(
+pub fn skarrowith_bundle_add(
     buffer: &mut [u8],
     filled: &mut usize,
     position: u8,
@@ -62,8 +59,7 @@ pub extern "C" fn skarrowith_bundle_add(
 }
 
 // 0, the row at its place in time and how many bytes the bundle then fills, or 256 plus 30 to 38.
-#[unsafe(no_mangle)]
-pub extern "C" fn skarrowith_bundle_insert(
+pub fn skarrowith_bundle_insert(
     buffer: &mut [u8],
     filled: &mut usize,
     position: u8,
@@ -84,8 +80,7 @@ pub extern "C" fn skarrowith_bundle_insert(
 }
 
 // 0, the listing in the first places and how many bytes it has, or 256 plus 21.
-#[unsafe(no_mangle)]
-pub extern "C" fn skarrowith_bundle_list(bundle: &[u8], out: &mut [u8], written: &mut usize) -> u32
+pub fn skarrowith_bundle_list(bundle: &[u8], out: &mut [u8], written: &mut usize) -> u32
     ensures { ListsIn bundle.now out.old written.old result out.new written.new }
 {
     match list(bundle, out) {

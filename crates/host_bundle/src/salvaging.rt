@@ -5,8 +5,7 @@ use base_numbers::put_record;
 use bundle_salvage::{SalvageTold, salvage};
 
 // 0, the new bundle, and what is told of it; or 256 plus 21, 30 to 33 or 38.
-#[unsafe(no_mangle)]
-pub extern "C" fn skarrowith_bundle_salvage(damaged: &[u8], out: &mut [u8], told: &mut [u8]) -> u32
+pub fn skarrowith_bundle_salvage(damaged: &[u8], out: &mut [u8], told: &mut [u8]) -> u32
     ensures { SalvagesIn damaged.now out.old told.old result out.new told.new }
 {
     let short = told.len() < 32;

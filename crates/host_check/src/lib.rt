@@ -23,8 +23,7 @@ fn number_of(outline: Outline) -> u32
 }
 
 // 1 ack, 2 read, 3 enter, 4 leave, 5 data, or 256 plus the refusal number.
-#[unsafe(no_mangle)]
-pub extern "C" fn skarrowith_check_line(bytes: &[u8]) -> u32
+pub fn skarrowith_check_line(bytes: &[u8]) -> u32
     ensures { result ≡ host_number bytes.now }
 {
     if bytes.len() % 2 == 1 {

@@ -30,8 +30,7 @@ fn write(telegram: CjtTelegram, out: &mut [u16]) -> u32
 }
 
 // Writes the line of the telegram whose record this is.
-#[unsafe(no_mangle)]
-pub extern "C" fn skarrowith_cjt_write_line(telegram: &[u8], out: &mut [u16]) -> u32
+pub fn skarrowith_cjt_write_line(telegram: &[u8], out: &mut [u16]) -> u32
     ensures { Leaves length (λ line. line) (write_cjt_for telegram.now out.old) out.old out.new result }
 {
     match cjt_from(telegram) {
@@ -41,8 +40,7 @@ pub extern "C" fn skarrowith_cjt_write_line(telegram: &[u8], out: &mut [u16]) ->
 }
 
 // The record of the M-Bus entry for an energy value, a count of its last digit with its unit code.
-#[unsafe(no_mangle)]
-pub extern "C" fn skarrowith_cjt_energy_entry(count: u32, code: u8, place: &mut [u8]) -> u32
+pub fn skarrowith_cjt_energy_entry(count: u32, code: u8, place: &mut [u8]) -> u32
     ensures { Leaves done entry_bytes (entry_cjt_for count code place.old) place.old place.new result }
 {
     let short = place.len() < ENTRY;

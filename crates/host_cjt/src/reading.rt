@@ -22,8 +22,7 @@ fn kind_number(telegram: CjtTelegram) -> u32
 }
 
 // 1 request, 2 answer, or 256 plus the refusal number.
-#[unsafe(no_mangle)]
-pub extern "C" fn skarrowith_cjt_check_line(bytes: &[u8]) -> u32
+pub fn skarrowith_cjt_check_line(bytes: &[u8]) -> u32
     ensures { result ≡ cjt_host_number bytes.now }
 {
     if bytes.len() % 2 == 1 {
@@ -37,8 +36,7 @@ pub extern "C" fn skarrowith_cjt_check_line(bytes: &[u8]) -> u32
 }
 
 // Reads a line into a telegram's record, and answers which of the two it is.
-#[unsafe(no_mangle)]
-pub extern "C" fn skarrowith_cjt_read_line(line: &[u16], telegram: &mut [u8]) -> u32
+pub fn skarrowith_cjt_read_line(line: &[u16], telegram: &mut [u8]) -> u32
     ensures { Leaves cjt_kind_number cjt_bytes (read_cjt_for line.now telegram.old) telegram.old telegram.new result }
 {
     match read_line(line) {

@@ -5,12 +5,7 @@ use host_search::put_spot;
 use mbus_either::{EitherFound, Interface, either_at};
 
 // Which capture has an accepted line, M-Bus before optical, with the place and the length of the first one in it.
-#[unsafe(no_mangle)]
-pub extern "C" fn skarrowith_find_either<'a>(
-    mbus: &'a [u16],
-    optical: &'a [u16],
-    found: &mut [u8],
-) -> u32
+pub fn skarrowith_find_either<'a>(mbus: &'a [u16], optical: &'a [u16], found: &mut [u8]) -> u32
     ensures { FindsEither mbus.now optical.now found.old found.new result }
 {
     let search = either_at(mbus, optical);

@@ -48,8 +48,7 @@ fn hear(slot: Slot, line: &[u16], t: Clock, kept: &mut [u8], reply: &mut [u8]) -
 }
 
 // A send has ended at t: 2 a read, 3 an enter with its method, 4 a leave, to the address.
-#[unsafe(no_mangle)]
-pub extern "C" fn skarrowith_exchange_send_ended(
+pub fn skarrowith_exchange_send_ended(
     kept: &mut [u8],
     kind: u8,
     address: u8,
@@ -71,8 +70,7 @@ pub extern "C" fn skarrowith_exchange_send_ended(
 }
 
 // No line has begun up to t.
-#[unsafe(no_mangle)]
-pub extern "C" fn skarrowith_exchange_tick(kept: &mut [u8], t: u64) -> u32
+pub fn skarrowith_exchange_tick(kept: &mut [u8], t: u64) -> u32
     ensures { Answers (tick_for kept.old t) kept.old kept.new result }
 {
     let stood = slot_from(kept);
@@ -86,13 +84,7 @@ pub extern "C" fn skarrowith_exchange_tick(kept: &mut [u8], t: u64) -> u32
 }
 
 // A line heard at t, the start of its first character. The telegram of a line that ends the exchange well is written to the reply.
-#[unsafe(no_mangle)]
-pub extern "C" fn skarrowith_exchange_heard(
-    kept: &mut [u8],
-    line: &[u16],
-    t: u64,
-    reply: &mut [u8],
-) -> u32
+pub fn skarrowith_exchange_heard(kept: &mut [u8], line: &[u16], t: u64, reply: &mut [u8]) -> u32
     ensures { HearsReply (heard_for kept.old line.now t reply.old) (shown (read_line line.now)).telegram
         kept.old kept.new reply.old reply.new result }
 {

@@ -13,8 +13,7 @@ use mbus_length::{HowLong, line_length};
 pub mod unmarking;
 
 // 0 and how many characters the accepted line has that begins with these; 1 where it is not yet known; or 256 plus 18.
-#[unsafe(no_mangle)]
-pub extern "C" fn skarrowith_line_length(first: &[u16], length: &mut usize) -> u32
+pub fn skarrowith_line_length(first: &[u16], length: &mut usize) -> u32
     ensures { TellsLength (line_length first.now) length.old length.new result }
 {
     match line_length(first) {
@@ -39,13 +38,7 @@ fn put_timed(found: &mut [u8], place: usize, length: usize, time: u64) -> bool
 }
 
 // The lowest place of a capture at which an accepted line begins whose first character began at or after t, with its length and when it began.
-#[unsafe(no_mangle)]
-pub extern "C" fn skarrowith_find_line_after(
-    capture: &[u16],
-    times: &[u64],
-    t: u64,
-    found: &mut [u8],
-) -> u32
+pub fn skarrowith_find_line_after(capture: &[u16], times: &[u64], t: u64, found: &mut [u8]) -> u32
     ensures { FindsAfter t capture.now times.now found.old found.new result }
 {
     let search = find_line_after(capture, times, t);

@@ -4,8 +4,7 @@ ghost use Rattle.host_incoming.specs.Unmarking.{UnmarksFor};
 use serial_marks::unmark;
 
 // 0, always: any bytes get a result. The characters of marked bytes, how many bytes were used for them and how many characters made.
-#[unsafe(no_mangle)]
-pub extern "C" fn skarrowith_unmark(
+pub fn skarrowith_unmark(
     bytes: &[u8],
     characters: &mut [u16],
     used: &mut usize,

@@ -16,8 +16,7 @@ use mbus_telegrams::plain;
 use mbus_writing::write_line;
 
 // Reads a line into a telegram's record, and answers its kind.
-#[unsafe(no_mangle)]
-pub extern "C" fn skarrowith_read_line(line: &[u16], telegram: &mut [u8]) -> u32
+pub fn skarrowith_read_line(line: &[u16], telegram: &mut [u8]) -> u32
     ensures { Leaves kind_of telegram_bytes (read_for line.now telegram.old) telegram.old telegram.new result }
 {
     let reading = read_line(line);
@@ -49,8 +48,7 @@ fn write(telegram: Telegram, out: &mut [u16]) -> u32
 }
 
 // Writes the line of the telegram whose record this is.
-#[unsafe(no_mangle)]
-pub extern "C" fn skarrowith_write_line(telegram: &[u8], out: &mut [u16]) -> u32
+pub fn skarrowith_write_line(telegram: &[u8], out: &mut [u16]) -> u32
     ensures { Leaves length (λ line. line) (write_for telegram.now out.old) out.old out.new result }
 {
     let reading = telegram_from(telegram);
@@ -63,13 +61,7 @@ pub extern "C" fn skarrowith_write_line(telegram: &[u8], out: &mut [u16]) -> u32
 }
 
 // Writes a request's line: 2 a read, 3 an enter with its method, 4 a leave, to the address.
-#[unsafe(no_mangle)]
-pub extern "C" fn skarrowith_write_request(
-    kind: u8,
-    address: u8,
-    method: u8,
-    out: &mut [u16],
-) -> u32
+pub fn skarrowith_write_request(kind: u8, address: u8, method: u8, out: &mut [u16]) -> u32
     ensures { Leaves length (λ line. line) (request_for kind address method out.old) out.old out.new result }
 {
     let kind = kind_in(kind);

@@ -33,8 +33,7 @@ fn power_byte(unit: u8, row: UnitRow) -> u8
 }
 
 // The record of what a unit byte means: 0, or 256 plus 11 where the table has no such byte, or plus 21.
-#[unsafe(no_mangle)]
-pub extern "C" fn skarrowith_entry_meaning(unit: u8, meaning: &mut [u8]) -> u32
+pub fn skarrowith_entry_meaning(unit: u8, meaning: &mut [u8]) -> u32
     ensures { Leaves done meaning_bytes (meaning_for unit meaning.old) meaning.old meaning.new result }
 {
     let row = row_of(unit);

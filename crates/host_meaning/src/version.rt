@@ -9,8 +9,7 @@ const MINOR: u32 = 2;
 const PATCH: u32 = 0;
 
 // The version of the header that the library was made with.
-#[unsafe(no_mangle)]
-pub extern "C" fn skarrowith_version() -> u32
+pub fn skarrowith_version() -> u32
     ensures { result ≡ version }
 {
     MAJOR * 65536 + MINOR * 256 + PATCH

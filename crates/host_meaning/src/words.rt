@@ -6,8 +6,7 @@ use text_words::say_number;
 
 // The words for a refusal number, or for 256 plus one, and a zero byte; the answer is how many bytes the words have, or 256 plus the
 // refusal number.
-#[unsafe(no_mangle)]
-pub extern "C" fn skarrowith_refusal_text(number: u32, out: &mut [u8]) -> u32
+pub fn skarrowith_refusal_text(number: u32, out: &mut [u8]) -> u32
     ensures { Says (text_of (number_asked number)) out.old result out.new }
 {
     let plain = number < 256;

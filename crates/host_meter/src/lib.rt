@@ -87,8 +87,7 @@ fn begin(setup: Setup, kept: &mut [u8]) -> u32
 }
 
 // A meter with its own address and its data template.
-#[unsafe(no_mangle)]
-pub extern "C" fn skarrowith_meter_set_up(kept: &mut [u8], address: u8, template: &[u8]) -> u32
+pub fn skarrowith_meter_set_up(kept: &mut [u8], address: u8, template: &[u8]) -> u32
     ensures { SetsUp (set_up_for kept.old address template.now) kept.old kept.new result }
 {
     let reading = telegram_from(template);
@@ -105,13 +104,7 @@ pub extern "C" fn skarrowith_meter_set_up(kept: &mut [u8], address: u8, template
 }
 
 // A line heard at t. The meter's answer, if it has one, is written to the answer's record.
-#[unsafe(no_mangle)]
-pub extern "C" fn skarrowith_meter_heard(
-    kept: &mut [u8],
-    line: &[u16],
-    t: u64,
-    answer: &mut [u8],
-) -> u32
+pub fn skarrowith_meter_heard(kept: &mut [u8], line: &[u16], t: u64, answer: &mut [u8]) -> u32
     ensures { HearsLine (line_heard_for kept.old line.now (record { 0 = t }) answer.old) (record { 0 = t })
         kept.old kept.new answer.old answer.new result }
 {
@@ -128,8 +121,7 @@ pub extern "C" fn skarrowith_meter_heard(
 }
 
 // Volume and energy measured at t, as counts of the template's last digits.
-#[unsafe(no_mangle)]
-pub extern "C" fn skarrowith_meter_measure(kept: &mut [u8], volume: u64, energy: u64, t: u64) -> u32
+pub fn skarrowith_meter_measure(kept: &mut [u8], volume: u64, energy: u64, t: u64) -> u32
     ensures { Steps (measure_for kept.old volume energy (record { 0 = t })) (record { 0 = t }) kept.old kept.new result }
 {
     let stood = meter_from(kept);

@@ -4,8 +4,7 @@ ghost use Rattle.host_picture.specs.Pictured.{DrawsIn};
 use run_picture::{Drawn, draw};
 
 // 0, the picture in the first places and how many bytes it has, or 256 plus 30 to 37 or 21.
-#[unsafe(no_mangle)]
-pub extern "C" fn skarrowith_picture(bundle: &[u8], out: &mut [u8], written: &mut usize) -> u32
+pub fn skarrowith_picture(bundle: &[u8], out: &mut [u8], written: &mut usize) -> u32
     ensures { DrawsIn bundle.now out.old written.old result out.new written.new }
 {
     match draw(bundle, out) {

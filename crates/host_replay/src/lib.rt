@@ -6,8 +6,7 @@ ghost use Rattle.host_replay.specs.Calls.{replay_for};
 use run_replay::{Replayed, replay};
 
 // The error by C.1 in tenths of a percent.
-#[unsafe(no_mangle)]
-pub extern "C" fn skarrowith_replay_error(
+pub fn skarrowith_replay_error(
     bundle: &[u8],
     position: u8,
     s1: u64,

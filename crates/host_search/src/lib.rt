@@ -20,8 +20,7 @@ pub fn put_spot(found: &mut [u8], place: usize, length: usize) -> bool
 }
 
 // The lowest place of a capture at which an accepted line begins, with its length, both in characters.
-#[unsafe(no_mangle)]
-pub extern "C" fn skarrowith_find_line(capture: &[u16], found: &mut [u8]) -> u32
+pub fn skarrowith_find_line(capture: &[u16], found: &mut [u8]) -> u32
     ensures { Finds capture.now found.old found.new result }
 {
     let search = find_line(capture);

@@ -4,12 +4,7 @@ ghost use Rattle.host_sweep.specs.Sweeping.{SweepsIn};
 use bundle_sweep::{Swept, sweep};
 
 // 0, the rows removed and how many bytes the bundle then fills, or 256 plus 30 to 37.
-#[unsafe(no_mangle)]
-pub extern "C" fn skarrowith_bundle_sweep(
-    buffer: &mut [u8],
-    filled: &mut usize,
-    position: u8,
-) -> u32
+pub fn skarrowith_bundle_sweep(buffer: &mut [u8], filled: &mut usize, position: u8) -> u32
     ensures { SweepsIn buffer.old filled.old position result buffer.new filled.new }
 {
     match sweep(buffer, *filled, position) {

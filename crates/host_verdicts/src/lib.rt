@@ -80,8 +80,7 @@ fn found(all: Verdicts, i: usize) -> VerdictFound
 }
 
 // 0 and the record of row i's verdict, or 256 plus 21, 30 to 37 or 39.
-#[unsafe(no_mangle)]
-pub extern "C" fn skarrowith_verdict(bundle: &[u8], i: usize, verdict: &mut [u8]) -> u32
+pub fn skarrowith_verdict(bundle: &[u8], i: usize, verdict: &mut [u8]) -> u32
     ensures { GivesVerdict (verdict_into (verdicts_in bundle.now) i verdict.old) verdict.old result verdict.new }
 {
     let short = verdict.len() < VERDICT_BYTES;
@@ -99,8 +98,7 @@ pub extern "C" fn skarrowith_verdict(bundle: &[u8], i: usize, verdict: &mut [u8]
 }
 
 // 0, the records of all verdicts and how many there are, or 256 plus 30 to 37 or 21.
-#[unsafe(no_mangle)]
-pub extern "C" fn skarrowith_verdicts(bundle: &[u8], verdicts: &mut [u8], count: &mut usize) -> u32
+pub fn skarrowith_verdicts(bundle: &[u8], verdicts: &mut [u8], count: &mut usize) -> u32
     ensures { GivesVerdicts (verdicts_into (verdicts_in bundle.now) verdicts.old) verdicts.old count.old result
         verdicts.new count.new }
 {
@@ -108,8 +106,7 @@ pub extern "C" fn skarrowith_verdicts(bundle: &[u8], verdicts: &mut [u8], count:
 }
 
 // The same of columns and the bundle that their bodies lie in, or 256 plus 101, 34, 35 or 21.
-#[unsafe(no_mangle)]
-pub extern "C" fn skarrowith_contents_verdicts(
+pub fn skarrowith_contents_verdicts(
     contents: &[u8],
     bundle: &[u8],
     verdicts: &mut [u8],

@@ -5,8 +5,7 @@ use bundle_check::Checked;
 use run_repeats::earlier_rows;
 
 // 0, for each row 0 or 1 + the lowest earlier row with its reading, and the count of rows; or 256 plus 30 to 37 or 21.
-#[unsafe(no_mangle)]
-pub extern "C" fn skarrowith_repeats(bundle: &[u8], rows: &mut [u16], count: &mut usize) -> u32
+pub fn skarrowith_repeats(bundle: &[u8], rows: &mut [u16], count: &mut usize) -> u32
     ensures { RepeatsIn bundle.now rows.old count.old result rows.new count.new }
 {
     match earlier_rows(bundle, rows) {

@@ -1,21 +1,43 @@
 // Reads a run bundle from standard input and prints its listing (document 01, "The run bundle").
-use libc::{STDIN_FILENO, STDOUT_FILENO};
+#![tactic(auto)]
+
+ghost use Rattle.std.specs.Prelude.{◌≤◌, IfOk, length};
+
 use run_listing::Listed;
+use std::io;
+use std::io::Read;
+use std::prelude::Print;
+
+// Reads until the places are full or the input ends, and answers how many bytes were read.
+fn read_full(input: &mut io::Stdin, to: &mut [u8]) -> io::Result<usize>
+    ensures { IfOk result (λ n. n ≤ length to.new) }
+{
+    let mut done = 0;
+    while done < to.len() {
+        let n = input.read(&mut to[done..])?;
+        if n == 0 {
+            break;
+        }
+        done += n;
+    }
+    Ok(done)
+}
 
 // Writes the first bytes of a text.
-fn print(text: &[u8], size: usize) {
+fn print(output: io::Stdout, text: &[u8], size: usize) -> io::Result<()> {
     if size <= text.len() {
-        io::write_all(STDOUT_FILENO, &text[0..size]);
+        output.write_all(&text[0..size])?;
     }
+    Ok(())
 }
 
 // The input has one byte more than a bundle may have, so that a longer one is seen; no listing is longer than the text.
-fn main() {
+fn main(rt: HostRuntime) -> io::Result<()> {
     let mut input = [0u8; 65_537];
     let mut text = [0u8; 15_901];
-    let n = io::read_full(STDIN_FILENO, &mut input);
+    let n = read_full(&mut rt.stdin(), &mut input)?;
     match run_listing::list(&input[..n], &mut text) {
-        Listed::Written(size) => print(&text, size),
-        Listed::Refused(_) => {},
+        Listed::Written(size) => print(rt.stdout(), &text, size),
+        Listed::Refused(_) => Ok(()),
     }
 }

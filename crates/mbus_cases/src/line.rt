@@ -1,10 +1,11 @@
 // A line of standard input, taken apart into words as it comes, and its answer.
 use crate::say::{say, say_one, say_reading};
 use crate::word::Word;
+use std::io;
 
 // A line so far: the word that is being read, how many there are before it, and whether those are
 // a case. A note is answered by itself, as it comes.
-#[derive(Drop)]
+#[derive(Clone, Copy)]
 pub struct Line {
     pub word: Word,
     pub count: usize,
@@ -13,13 +14,14 @@ pub struct Line {
 }
 
 // The first of the words is the case's name, and the others are the characters of its line.
-fn answer_case(words: &[u16], count: usize) {
+fn answer_case(to: io::Stdout, words: &[u16], count: usize) -> io::Result<()> {
     if words.len() < count {
-        return;
+        return Ok(());
     }
     if 0 < count {
-        say_reading(mbus_reading::read_line(&words[1..count]));
+        say_reading(to, mbus_reading::read_line(&words[1..count]))?;
     }
+    Ok(())
 }
 
 impl Line {
@@ -71,29 +73,29 @@ impl Line {
         }
     }
 
-    pub(crate) fn with(self, b: u8, words: &mut [u16; 4096]) -> Line {
+    pub(crate) fn with(self, to: io::Stdout, b: u8, words: &mut [u16; 4096]) -> io::Result<Line> {
         if b == b'\n' {
-            self.answer(words);
-            return Line::new();
+            self.answer(to, words)?;
+            return Ok(Line::new());
         }
         let is_note = self.is_note | (self.is_empty() & (b == b'#'));
         if is_note {
-            say_one(b);
-            return Line {
+            say_one(to, b)?;
+            return Ok(Line {
                 is_note: true,
                 ..self
-            };
+            });
         }
-        self.with_word(b, words)
+        Ok(self.with_word(b, words))
     }
 
-    pub(crate) fn answer(self, words: &mut [u16; 4096]) {
+    pub(crate) fn answer(self, to: io::Stdout, words: &mut [u16; 4096]) -> io::Result<()> {
         let whole = self.end_word(words);
         if whole.is_case {
-            answer_case(words, whole.count);
+            answer_case(to, words, whole.count)?;
         } else if !whole.is_note {
-            say(b"bad case");
+            say(to, b"bad case")?;
         }
-        say(b"\n");
+        say(to, b"\n")
     }
 }

@@ -2,34 +2,40 @@
 //
 // Every function here is proved safe and ending. What a program reads and prints no contract can
 // say: its answers are compared with the second program's.
+#![tactic(auto)]
+
 mod line;
 mod say;
 mod word;
 
-use libc::STDIN_FILENO;
 use line::Line;
+use std::io;
+use std::io::Read;
 
-fn take(line: Line, bytes: &[u8], words: &mut [u16; 4096]) -> Line {
+fn take(line: Line, to: io::Stdout, bytes: &[u8], words: &mut [u16; 4096]) -> io::Result<Line> {
     let mut longer = line;
     for i in 0..bytes.len() {
-        longer = longer.with(bytes[i], words);
+        longer = longer.with(to, bytes[i], words)?;
     }
-    longer
+    Ok(longer)
 }
 
-fn main() {
+fn main(rt: HostRuntime) -> io::Result<()> {
     let mut bytes = [0u8; 4096];
     let mut words = [0u16; 4096];
     let mut line = Line::new();
+    let to = rt.stdout();
+    let mut input = rt.stdin();
     // Nothing says that the input ends; no run counts so far.
     for _ in 0..u64::MAX {
-        let n = io::read_full(STDIN_FILENO, &mut bytes);
+        let n = input.read(&mut bytes)?;
         if n == 0 {
             break;
         }
-        line = take(line, &bytes[..n], &mut words);
+        line = take(line, to, &bytes[..n], &mut words)?;
     }
     if !line.is_empty() {
-        line.answer(&mut words);
+        line.answer(to, &mut words)?;
     }
+    Ok(())
 }

@@ -1,16 +1,17 @@
 // Answers, written to standard output word by word.
 use base_numbers::signed::{is_below_zero, size_of};
 use base_rules::Outcome;
-use libc::STDOUT_FILENO;
 use mbus_rules::{Entry, Header, Kind, Moment, Reading, Telegram, Value};
+use std::io;
+use std::prelude::Print;
 
-pub(crate) fn say(text: &[u8]) {
-    io::write_all(STDOUT_FILENO, text);
+pub(crate) fn say(to: io::Stdout, text: &[u8]) -> io::Result<()> {
+    to.write_all(text)
 }
 
-pub(crate) fn say_one(b: u8) {
+pub(crate) fn say_one(to: io::Stdout, b: u8) -> io::Result<()> {
     let text = [b];
-    say(&text);
+    say(to, &text)
 }
 
 // A hexadecimal digit, of a number's last four bits.
@@ -20,124 +21,125 @@ fn digit(n: u8) -> u8 {
 }
 
 // Two hexadecimal digits behind a space.
-fn say_byte(b: u8) {
+fn say_byte(to: io::Stdout, b: u8) -> io::Result<()> {
     let text = [b' ', digit(b / 16), digit(b)];
-    say(&text);
+    say(to, &text)
 }
 
-fn say_maker(n: u16) {
+fn say_maker(to: io::Stdout, n: u16) -> io::Result<()> {
     let high = (n / 256) as u8;
     let low = (n % 256) as u8;
-    say_byte(high);
+    say_byte(to, high)?;
     let text = [digit(low / 16), digit(low)];
-    say(&text);
+    say(to, &text)
 }
 
 // A decimal number with its sign, behind a space.
-fn say_decimal(n: u64) {
-    say(b" +");
-    io::print_decimal(STDOUT_FILENO, n);
+fn say_decimal(to: io::Stdout, n: u64) -> io::Result<()> {
+    say(to, b" +")?;
+    to.print(n)
 }
 
 // The same for a number that may be below zero.
-fn say_signed(n: i64) {
+fn say_signed(to: io::Stdout, n: i64) -> io::Result<()> {
     let size = size_of(n);
     let below = is_below_zero(n);
     if below {
-        say(b" -");
+        say(to, b" -")?;
     } else {
-        say(b" +");
+        say(to, b" +")?;
     }
-    io::print_decimal(STDOUT_FILENO, size);
+    to.print(size)
 }
 
-fn say_refusal(n: u16) {
-    say(b"refused ");
-    io::print_decimal(STDOUT_FILENO, n as u64);
+fn say_refusal(to: io::Stdout, n: u16) -> io::Result<()> {
+    say(to, b"refused ")?;
+    to.print(n)
 }
 
-pub(crate) fn say_reading(reading: Reading) {
+pub(crate) fn say_reading(to: io::Stdout, reading: Reading) -> io::Result<()> {
     let outcome = reading.outcome;
     let telegram = reading.telegram;
     match outcome {
-        Outcome::Refused(n) => say_refusal(n),
-        Outcome::Accepted => say_telegram(telegram),
+        Outcome::Refused(n) => say_refusal(to, n),
+        Outcome::Accepted => say_telegram(to, telegram),
     }
 }
 
 // The kind, and then what a telegram of this kind carries.
-fn say_telegram(t: Telegram) {
+fn say_telegram(to: io::Stdout, t: Telegram) -> io::Result<()> {
     let kind = t.kind;
     match kind {
-        Kind::Ack => say(b"ack"),
-        Kind::Read => say_addressed(b"read", t.address),
-        Kind::Leave => say_addressed(b"leave", t.address),
+        Kind::Ack => say(to, b"ack"),
+        Kind::Read => say_addressed(to, b"read", t.address),
+        Kind::Leave => say_addressed(to, b"leave", t.address),
         Kind::Enter => {
-            say_addressed(b"enter", t.address);
-            say_byte(t.method);
+            say_addressed(to, b"enter", t.address)?;
+            say_byte(to, t.method)
         }
-        Kind::Data => say_data(t),
+        Kind::Data => say_data(to, t),
     }
 }
 
-fn say_addressed(kind: &[u8], address: u8) {
-    say(kind);
-    say_byte(address);
+fn say_addressed(to: io::Stdout, kind: &[u8], address: u8) -> io::Result<()> {
+    say(to, kind)?;
+    say_byte(to, address)
 }
 
-fn say_data(t: Telegram) {
+fn say_data(to: io::Stdout, t: Telegram) -> io::Result<()> {
     let header = t.header;
     let entries = t.entries;
-    say_addressed(b"data", t.address);
-    say_byte(t.method);
-    say_header(header);
-    say_entries(t.count, entries);
+    say_addressed(to, b"data", t.address)?;
+    say_byte(to, t.method)?;
+    say_header(to, header)?;
+    say_entries(to, t.count, entries)
 }
 
-fn say_header(h: Header) {
-    say_decimal(h.number as u64);
-    say_maker(h.maker);
-    say_byte(h.version);
-    say_byte(h.meter_type);
-    say_byte(h.access);
-    say_byte(h.status);
+fn say_header(to: io::Stdout, h: Header) -> io::Result<()> {
+    say_decimal(to, h.number as u64)?;
+    say_maker(to, h.maker)?;
+    say_byte(to, h.version)?;
+    say_byte(to, h.meter_type)?;
+    say_byte(to, h.access)?;
+    say_byte(to, h.status)
 }
 
-fn say_entries(count: usize, entries: [Entry; 7]) {
-    say_decimal(count as u64);
+fn say_entries(to: io::Stdout, count: usize, entries: [Entry; 7]) -> io::Result<()> {
+    say_decimal(to, count as u64)?;
     for i in 0..7 {
         if i < count {
-            say_entry(entries[i]);
+            say_entry(to, entries[i])?;
         }
     }
+    Ok(())
 }
 
-fn say_entry(e: Entry) {
+fn say_entry(to: io::Stdout, e: Entry) -> io::Result<()> {
     let value = e.value;
-    say_byte(e.structure);
-    say_byte(e.unit);
+    say_byte(to, e.structure)?;
+    say_byte(to, e.unit)?;
     match value {
         Value::Number(d) => {
-            say(b" number");
-            say_signed(d.count);
+            say(to, b" number")?;
+            say_signed(to, d.count)
         }
-        Value::Time(m) => say_moment(m),
+        Value::Time(m) => say_moment(to, m),
         Value::Binary(w) => {
-            say(b" binary");
-            say_signed(w.count);
+            say(to, b" binary")?;
+            say_signed(to, w.count)
         }
     }
 }
 
-fn say_moment(m: Moment) {
-    say(b" time");
-    say_three(m.year, m.month, m.day);
-    say_three(m.hour, m.minute, m.second);
-    say_decimal(m.weekday as u64);
+fn say_moment(to: io::Stdout, m: Moment) -> io::Result<()> {
+    say(to, b" time")?;
+    say_three(to, m.year, m.month, m.day)?;
+    say_three(to, m.hour, m.minute, m.second)?;
+    say_decimal(to, m.weekday as u64)
 }
 
-fn say_three(a: u8, b: u8, c: u8) {
-    say_decimal(a as u64);
-    say_decimal(b as u64);
-    say_decimal(c as u64);
+fn say_three(to: io::Stdout, a: u8, b: u8, c: u8) -> io::Result<()> {
+    say_decimal(to, a as u64)?;
+    say_decimal(to, b as u64)?;
+    say_decimal(to, c as u64)
 }

@@ -2,7 +2,7 @@
 
 // The digits or letters so far, and the number that the digits spell. Where the word is bad the
 // number is larger than any that a case may have.
-#[derive(Drop)]
+#[derive(Clone, Copy)]
 pub struct Word {
     pub is_decimal: bool,
     pub count: usize,
