@@ -16,19 +16,19 @@ pub returns-then-held : goal.returns-then-held
 returns-then-held c =
     let a = c.args in
     let i = c.loop-i.i in
-    let seven : length a.t1 ≡ 7 = search rules in
-    c.count_of.ensures ∙ sym (total_here a.quantity a.t1 i _ (omega arith) (sym c.holds-held.ensures ∙ c.if-held.true))
+    let seven : length a.entries ≡ 7 = search rules in
+    c.count_of.ensures ∙ sym (total_here a.quantity a.entries i _ (omega arith) (sym c.holds-held.ensures ∙ c.if-held.true))
     ∙ c.loop-i.invariant
 
 pub loop-i-preserved : goal.loop-i-preserved
 loop-i-preserved c =
     let a = c.args in
     let i = c.loop-i.i in
-    let seven : length a.t1 ≡ 7 = search rules in
-    total_next a.quantity a.t1 i _ (omega arith) (sym c.holds-held.ensures ∙ c.if-held.false) ∙ c.loop-i.invariant
+    let seven : length a.entries ≡ 7 = search rules in
+    total_next a.quantity a.entries i _ (omega arith) (sym c.holds-held.ensures ∙ c.if-held.false) ∙ c.loop-i.invariant
 
 pub returns : goal.returns
 returns c =
     let a = c.args in
-    let seven : length a.t1 ≡ 7 = search rules in
-    sym (total_none a.quantity a.t1 c.loop-i.i (omega arith)) ∙ c.loop-i.invariant
+    let seven : length a.entries ≡ 7 = search rules in
+    sym (total_none a.quantity a.entries c.loop-i.i (omega arith)) ∙ c.loop-i.invariant

@@ -1,0 +1,13 @@
+-- `mbus_writing::bytes::head_bytes` meets its contract.
+use Rattle.base_digits.specs.Digits.{packed}
+use Rattle.mbus_writing.proofs.bytes.head_bytes.Goals as goal
+
+pub returns : goal.returns
+unfolding packed
+returns c =
+    rw (
+      c.two_digits-first.ensures,
+      c.two_digits-second.ensures,
+      c.two_digits-third.ensures,
+      c.two_digits-fourth.ensures,
+    )
