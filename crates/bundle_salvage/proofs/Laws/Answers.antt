@@ -81,9 +81,9 @@ module _ (b : List ℕ) (n : ℕ) (e : opened b (reads (count_of b)) ≡ reads n
       pub salvage_short : ltb (length out) (new_length l.kept n l.end) ≡ true → Salvages b out (Refused 38) out
       salvage_short s = answered (refusal 38) (rw (salvage_is, s)) refl refl
 
-      pub salvage-done : ltb (length out) (new_length l.kept n l.end) ≡ false → {rule : ℕ} {after : List ℕ}
+      pub salvage_done : ltb (length out) (new_length l.kept n l.end) ≡ false → {rule : ℕ} {after : List ℕ}
           → rule ≡ rule_told l.rule l.kept n l.end (length b) → after ≡ laid out 0 (bundle_of (take l.kept (records_of b)))
           → Salvages b out (Told (record { kept = l.kept; dropped = n - l.kept; rule = rule; filled = new_length l.kept n l.end })) after
-      salvage-done s {rule} t w =
+      salvage_done s {rule} t w =
           answered (reads (tell_of n b l)) (rw (salvage_is, s))
           (ap (λ (x : ℕ). Told (record { kept = l.kept; dropped = n - l.kept; rule = x; filled = new_length l.kept n l.end })) t) w

@@ -25,7 +25,7 @@ put_bytes-count-requires c = (can (goal.at.put_bytes-count-requires c).Else-unwr
 fitting : (c : After-bytes-2-1) → c.put_bytes-count.result ≤ length c.put_bytes-count.new.bytes
 fitting c =
     let n : length c.put_bytes-count.new.bytes ≡ longest = search rules in
-    omega (arith, at_most c.args.telegram (can c) c.put_bytes-count.ensures)
+    omega (arith, at_most c.args.telegram (sym c.is_unwritable-unwritable.ensures ∙ c.if-unwritable.false) c.put_bytes-count.ensures)
 
 pub slice_bounds-write_bytes-end : goal.slice_bounds-write_bytes-end
 slice_bounds-write_bytes-end c = sym (length-take-le c.put_bytes-count.result c.put_bytes-count.new.bytes (fitting (goal.at.slice_bounds-write_bytes-end c).After-bytes-2-1))

@@ -26,19 +26,19 @@ taken c =
 pub returns-in-Refused : goal.returns-in-Refused
 returns-in-Refused c =
     let g = c.gather-taken in
-    ap outlined (sym (taken_as _ g.new.out.0 g.result.sum c.in-Refused.is (taken (goal.at.returns-in-Refused c).After-gather-taken)))
+    ap outlined (sym (taken_as _ g.new.out g.result.sum c.in-Refused.is (taken (goal.at.returns-in-Refused c).After-gather-taken)))
 
 pub slice_bounds-outline_in-end : goal.slice_bounds-outline_in-end
 slice_bounds-outline_in-end c =
     let b = c.args.bytes.now in
     let g = c.gather-taken in
     let size = length_characters b in
-    let t = taken_as (chars b) g.new.out.0 g.result.sum c.in_default.is (taken (goal.at.slice_bounds-outline_in-end c).After-gather-taken) in
-    cut_count (chars b) g.new.1.0 (sym size) (ap (λ (n : ℕ). take n g.new.1.0) (sym size) ∙ t.1)
+    let t = taken_as (chars b) g.new.out g.result.sum c.in_default.is (taken (goal.at.slice_bounds-outline_in-end c).After-gather-taken) in
+    cut_count (chars b) g.new.out (sym size) (ap (λ (n : ℕ). take n g.new.out) (sym size) ∙ t.1)
 
 pub returns : goal.returns
 returns c =
     let b = c.args.bytes.now in
     let g = c.gather-taken in
-    let t = taken_as (chars b) g.new.out.0 g.result.sum c.in_default.is (taken (goal.at.returns c).After-gather-taken) in
-    c.outline_in.ensures ∙ ap outlined (taken_frame (chars b) g.new.1.0 g.result.sum (sym (length_characters b)) t)
+    let t = taken_as (chars b) g.new.out g.result.sum c.in_default.is (taken (goal.at.returns c).After-gather-taken) in
+    c.outline_in.ensures ∙ ap outlined (taken_frame (chars b) g.new.out g.result.sum (sym (length_characters b)) t)

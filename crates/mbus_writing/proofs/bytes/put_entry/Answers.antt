@@ -31,7 +31,7 @@ sized c =
     record { so = w; within = omega (arith, x.most); room = omega (arith, x.width, c.requires.room) }
 
 pub overflow_add-width : goal.overflow_add-width
-overflow_add-width c = let s : Sized c = sized (goal.at.overflow_add-width c).After-width_of-width in omega arith
+overflow_add-width c = let s : Sized (goal.at.overflow_add-width c).After-width_of-width = sized (goal.at.overflow_add-width c).After-width_of-width in omega arith
 
 pub slice_bounds-b-end : goal.slice_bounds-b-end
 slice_bounds-b-end c = (sized (goal.at.slice_bounds-b-end c).After-width_of-width).within
@@ -42,7 +42,7 @@ slice_bounds-lay-end c =
 
 pub overflow_add-result : goal.overflow_add-result
 overflow_add-result c =
-    let s : Sized earlier = sized (goal.at.overflow_add-result c).After-width_of-width in omega arith
+    let s : Sized (goal.at.overflow_add-result c).After-width_of-width = sized (goal.at.overflow_add-result c).After-width_of-width in omega arith
 
 pub returns : goal.returns
 returns c =

@@ -20,7 +20,9 @@ wide c =
     sign_wide c.args.width c.args.count c.requires.0 (below c)
 
 pub overflow_sub-b : goal.overflow_sub-b
-overflow_sub-b c = wide (goal.at.overflow_sub-b c).Then-below
+overflow_sub-b c =
+    let t = to_z-of_z w64 c.args.count c.ranges.count in
+    sign_wide c.args.width c.args.count c.requires.0 (sym (c.is_below_zero-below.ensures ∙ ap below_zero t) ∙ c.if-below.true)
 
 pub overflow_sub-b-then-below : goal.overflow_sub-b-then-below
 overflow_sub-b-then-below c = wide (goal.at.overflow_sub-b-then-below c).Then-below
