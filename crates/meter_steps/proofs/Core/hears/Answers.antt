@@ -12,11 +12,11 @@ use Rattle.meter_steps.specs.Meters.{quiet, returned, asked, hears, taken_at}
 use Rattle.meter_steps.proofs.Core.hears.Goals as goal
 
 -- an outline that is no request gets silence
-no_request : (t : Clock) (k : Core) (v : Outline) → OneOf (0 ∷ 1 ∷ 3 ∷ []) (tag_of told.the_type v) → hears t k v ≡ quiet k
+no_request : (t : Clock) (k : Core) (v : Outline) → ((q : _) → v ≡ outlines.Asks q → ⊥) → hears t k v ≡ quiet k
 no_request t k (outlines.Refused n) one = refl
 no_request t k outlines.Ack one = refl
 no_request t k (outlines.Data a) one = refl
-no_request t k (outlines.Asks q) one = absurd (miss (0 ∷ 1 ∷ 3 ∷ []) 2 tt one)
+no_request t k (outlines.Asks q) one = absurd (one q refl)
 
 pub returns-in-Asks : goal.returns-in-Asks
 returns-in-Asks c =
@@ -28,4 +28,4 @@ returns-in-Asks c =
 pub returns : goal.returns
 returns c =
     let a = c.args in
-    rw (no_request a.t (returned a.t a.self) a.outline c.in-Asks.keys2, ← c.returned-now.ensures) c.replies.ensures
+    rw (no_request a.t (returned a.t a.self) a.outline c.in_default.not-Asks, ← c.returned-now.ensures) c.replies.ensures

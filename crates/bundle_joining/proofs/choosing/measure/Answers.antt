@@ -1,0 +1,28 @@
+-- `bundle_joining::choosing::measure` meets its contract: rows of the position and bytes of their bodies so far.
+use Prim.Native.Nat.{◌-◌}
+use mathlib.Core.Logic.{⊎_elim}
+use native.Mathlib.Omega.{arith}
+use Rattle.bundle_joining.proofs.Laws.Choosing.{measured_none, measured_few, measured_own, measured_other, measured_all}
+use borrow.Author.Tests.{eq-eqb}
+use Rattle.bundle_joining.proofs.choosing.measure.Goals as goal
+
+pub loop-i-init : goal.loop-i-init
+loop-i-init c = measured_none c.requires
+
+pub overflow_add-rows : goal.overflow_add-rows
+overflow_add-rows c = omega (arith, (measured_few c.loop-i.invariant).0)
+
+pub overflow_add-bytes : goal.overflow_add-bytes
+overflow_add-bytes c =
+    let g = measured_own c.loop-i.invariant c.loop-i-test.true c.unchecked_row-row.ensures (eq-eqb _ _ c.if-own.true) in
+    omega (arith, (measured_few g).1)
+
+pub loop-i-preserved : goal.loop-i-preserved
+loop-i-preserved c =
+    let g = c.loop-i.invariant in
+    let h = c.loop-i-test.true in
+    let e = c.unchecked_row-row.ensures in
+    ⊎_elim (λ w. rw (w.2, w.3) (measured_own g h e w.0.taken)) (λ w. rw (w.1, w.2) (measured_other g h e w.0.left)) c.if-own.branch
+
+pub returns : goal.returns
+returns c = measured_all c.loop-i.invariant c.loop-i-test.false
