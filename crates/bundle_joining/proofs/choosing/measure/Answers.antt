@@ -3,7 +3,8 @@ use Prim.Native.Nat.{◌-◌}
 use mathlib.Core.Logic.{⊎_elim}
 use native.Mathlib.Omega.{arith}
 use Rattle.bundle_joining.proofs.Laws.Choosing.{measured_none, measured_few, measured_own, measured_other, measured_all}
-use borrow.Author.Tests.{eq-eqb}
+use borrow.Author.Tests.{eq-eqb, ne_eqb}
+use Rattle.bundle_joining.proofs.choosing.measure.Goals.{then-own, else-own}
 use Rattle.bundle_joining.proofs.choosing.measure.Goals as goal
 
 pub loop-i-init : goal.loop-i-init
@@ -22,7 +23,10 @@ loop-i-preserved c =
     let g = c.loop-i.invariant in
     let h = c.loop-i-test.true in
     let e = c.unchecked_row-row.ensures in
-    ⊎_elim (λ w. rw (w.2, w.3) (measured_own g h e w.0.taken)) (λ w. rw (w.1, w.2) (measured_other g h e w.0.left)) c.if-own.branch
+    elim c.if-own.branch [
+      then-own w ↦ rw (w.rows-is, w.bytes-is) (measured_own g h e (eq-eqb _ _ w.if-own.true))
+    | else-own w ↦ rw (w.rows-is, w.bytes-is) (measured_other g h e (ne_eqb _ _ w.if-own.false))
+    ]
 
 pub returns : goal.returns
 returns c = measured_all c.loop-i.invariant c.loop-i-test.false

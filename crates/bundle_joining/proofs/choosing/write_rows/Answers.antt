@@ -5,7 +5,8 @@ use mathlib.Core.Path.{◌∙◌}
 use native.Mathlib.Omega.{arith}
 use Rattle.bundle_joining.proofs.Laws.Choosing.{rows_few, choosing_none, choosing_length, choosing_room, choosing_own}
 use Rattle.bundle_joining.proofs.Laws.Choosing.{choosing_other, choosing_all, counted}
-use borrow.Author.Tests.{eq-eqb}
+use borrow.Author.Tests.{eq-eqb, ne_eqb}
+use Rattle.bundle_joining.proofs.choosing.write_rows.Goals.{then-own, else-own}
 use Rattle.bundle_joining.proofs.choosing.write_rows.Goals as goal
 
 pub overflow_mul-at : goal.overflow_mul-at
@@ -38,8 +39,10 @@ loop-i-preserved c =
     let g = c.loop-i.invariant in
     let h = c.loop-i-test.true in
     let e = c.unchecked_row-row.ensures in
-    ⊎_elim (λ w. rw (w.5, w.6, w.7) (choosing_own g h e w.0.taken w.2.ensures.0 w.2.ensures.1))
-    (λ w. rw (w.1, w.2, w.3) (choosing_other g h e w.0.left)) c.if-own.branch
+    elim c.if-own.branch [
+      then-own w ↦ rw (w.out-is, w.at-is, w.k-is) (choosing_own g h e (eq-eqb _ _ w.if-own.true) w.put_row-at.ensures.0 w.put_row-at.ensures.1)
+    | else-own w ↦ rw (w.out-is, w.at-is, w.k-is) (choosing_other g h e (ne_eqb _ _ w.if-own.false))
+    ]
 
 pub shape_of-out : goal.shape_of-out
 shape_of-out c =

@@ -5,6 +5,7 @@ use mathlib.Core.Path.{sym, ◌∙◌}
 use native.Mathlib.Omega.{arith}
 use Rattle.bundle_joining.proofs.Laws.Joining.{joining_none, joining_length, more_b, room-b, joining-b, more_a, room-a, joining-a, joining_all}
 use Rattle.bundle_joining.proofs.Laws.Joining.{counted}
+use Rattle.bundle_joining.proofs.joining.write_rows.Goals.{then-of_b, else-of_b}
 use Rattle.bundle_joining.proofs.joining.write_rows.Goals as goal
 
 pub overflow_add-rows : goal.overflow_add-rows
@@ -44,8 +45,14 @@ loop-k-preserved c =
     let g = c.loop-k.invariant in
     let h = c.loop-k-test.true in
     let e = sym c.is_from_b-of_b.ensures in
-    ⊎_elim (λ w. rw (w.6, w.7, w.8, w.9) (joining-b g h (e ∙ w.0.taken) w.1.ensures w.3.ensures.0 w.3.ensures.1))
-    (λ w. rw (w.6, w.7, w.8, w.9) (joining-a g h (e ∙ w.0.left) w.1.ensures w.3.ensures.0 w.3.ensures.1)) c.if-of_b.branch
+    elim c.if-of_b.branch [
+      then-of_b w ↦
+        rw (w.out-is, w.at-is, w.i-is, w.j-is)
+        (joining-b g h (e ∙ w.if-of_b.true) w.unchecked_row-row.ensures w.put_row-at.ensures.0 w.put_row-at.ensures.1)
+    | else-of_b w ↦
+        rw (w.out-is, w.at-is, w.i-is, w.j-is)
+        (joining-a g h (e ∙ w.if-of_b.false) w.unchecked_row-row-else-of_b.ensures w.put_row-at-else-of_b.ensures.0 w.put_row-at-else-of_b.ensures.1)
+    ]
 
 pub shape_of-out : goal.shape_of-out
 shape_of-out c =
