@@ -50,7 +50,7 @@ use Rattle.mbus_rules.specs.Writing.{write_line}
 abbrev pub Settled : {R : Type 0} → (R → Type 0) → Type 0
 Settled {R} promise = (x y : R) → promise x → promise y → x ≡ y
 
--- ---- an equation: every promise `r ≡ ..`, and every `now out.exit ≡ ..`
+-- ---- an equation: every promise `result ≡ ..`, and every `out.new ≡ ..`
 
 module _ {R : Type 0} (a : R) where
   abbrev pub Equation : Type 0
