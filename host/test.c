@@ -93,7 +93,7 @@ static void expect_version(void)
     char text[32];
     snprintf(text, sizeof text, "%u.%u.%u", SKARROWITH_VERSION_MAJOR, SKARROWITH_VERSION_MINOR, SKARROWITH_VERSION_PATCH);
     hold("the version", skarrowith_version(), SKARROWITH_VERSION);
-    hold("its number", SKARROWITH_VERSION, 65536 + 2 * 256);
+    hold("its number", SKARROWITH_VERSION, 65536 + 256);
     hold("its text", strcmp(text, SKARROWITH_VERSION_TEXT), 0);
 }
 

@@ -58,10 +58,10 @@ extern "C" {
 
 /* The version of this header, as a number and as text. */
 #define SKARROWITH_VERSION_MAJOR 1u
-#define SKARROWITH_VERSION_MINOR 2u
+#define SKARROWITH_VERSION_MINOR 1u
 #define SKARROWITH_VERSION_PATCH 0u
 #define SKARROWITH_VERSION (SKARROWITH_VERSION_MAJOR * 65536u + SKARROWITH_VERSION_MINOR * 256u + SKARROWITH_VERSION_PATCH)
-#define SKARROWITH_VERSION_TEXT "1.2.0"
+#define SKARROWITH_VERSION_TEXT "1.1.0"
 
 /* Answers the version of the library that is linked: 65536 times major, 256 times minor, and patch. */
 uint32_t skarrowith_version(void);
@@ -87,7 +87,7 @@ uint32_t skarrowith_version(void);
                                     nor L >= 15 with C 08 and CI 72 */
 #define SKARROWITH_WRONG_HEADER 10u /* header rule broken */
 #define SKARROWITH_WRONG_ENTRY 11u /* one byte left, unknown structure or unit, wrong pair, or value past the end */
-#define SKARROWITH_WRONG_VALUE 12u /* a BCD digit over 9 in an entry, minus zero, or a negative value where none is allowed */
+#define SKARROWITH_WRONG_VALUE 12u /* a BCD digit over 9 in an entry, or a negative value where none is allowed */
 #define SKARROWITH_WRONG_TIME 13u /* time rule broken */
 #define SKARROWITH_QUANTITY_TWICE 14u /* quantity already seen */
 #define SKARROWITH_QUANTITY_MISSING 16u /* a required quantity missing */
