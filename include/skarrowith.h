@@ -314,12 +314,10 @@ uint32_t skarrowith_find_line(const uint16_t *capture, size_t count, struct skar
 
 /*
  * How many characters the accepted line has that begins with these, so that a host reads no character too many and waits
- * for none. length is not null. Answers 0 and the length; SKARROWITH_NOT_YET, before the first character and after a first
- * 68; or refuses by 18 where no accepted line begins so. By up to three characters it refuses exactly there: 68 FF begins
- * none, since L is 4, 35 to 79, 81 or 83. By more it asks for even parity in every character of the line, and after 68 for
- * a fourth byte 68, and for no other byte: whether the line is accepted is for reading to say, once it is there. A length
- * that is told is the only one that an accepted line can have here. When more characters come it stays the same or
- * becomes a refusal by 18; a refusal stays, and once the whole line is there what stands behind its end changes nothing.
+ * for none. length is not null. Answers 0 and the length, which stays the same when more characters come, those behind the
+ * line's end too; SKARROWITH_NOT_YET, before the first character and after a first 68; or refuses by 18 where no accepted
+ * line begins so. A length that is told is the only one that an accepted line can have here; whether the line is accepted
+ * is for reading to say, once it is there.
  */
 uint32_t skarrowith_line_length(const uint16_t *first, size_t count, size_t *length);
 
