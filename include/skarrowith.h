@@ -58,10 +58,10 @@ extern "C" {
 
 /* The version of this header, as a number and as text. */
 #define SKARROWITH_VERSION_MAJOR 1u
-#define SKARROWITH_VERSION_MINOR 2u
+#define SKARROWITH_VERSION_MINOR 1u
 #define SKARROWITH_VERSION_PATCH 0u
 #define SKARROWITH_VERSION (SKARROWITH_VERSION_MAJOR * 65536u + SKARROWITH_VERSION_MINOR * 256u + SKARROWITH_VERSION_PATCH)
-#define SKARROWITH_VERSION_TEXT "1.2.0"
+#define SKARROWITH_VERSION_TEXT "1.1.0"
 
 /* Answers the version of the library that is linked: 65536 times major, 256 times minor, and patch. */
 uint32_t skarrowith_version(void);
@@ -87,7 +87,7 @@ uint32_t skarrowith_version(void);
                                     nor L >= 15 with C 08 and CI 72 */
 #define SKARROWITH_WRONG_HEADER 10u /* header rule broken */
 #define SKARROWITH_WRONG_ENTRY 11u /* one byte left, unknown structure or unit, wrong pair, or value past the end */
-#define SKARROWITH_WRONG_VALUE 12u /* a BCD digit over 9 in an entry, minus zero, or a negative value where none is allowed */
+#define SKARROWITH_WRONG_VALUE 12u /* a BCD digit over 9 in an entry, or a negative value where none is allowed */
 #define SKARROWITH_WRONG_TIME 13u /* time rule broken */
 #define SKARROWITH_QUANTITY_TWICE 14u /* quantity already seen */
 #define SKARROWITH_QUANTITY_MISSING 16u /* a required quantity missing */
@@ -314,12 +314,10 @@ uint32_t skarrowith_find_line(const uint16_t *capture, size_t count, struct skar
 
 /*
  * How many characters the accepted line has that begins with these, so that a host reads no character too many and waits
- * for none. length is not null. Answers 0 and the length; SKARROWITH_NOT_YET, before the first character and after a first
- * 68; or refuses by 18 where no accepted line begins so. By up to three characters it refuses exactly there: 68 FF begins
- * none, since L is 4, 35 to 79, 81 or 83. By more it asks for even parity in every character of the line, and after 68 for
- * a fourth byte 68, and for no other byte: whether the line is accepted is for reading to say, once it is there. A length
- * that is told is the only one that an accepted line can have here. When more characters come it stays the same or
- * becomes a refusal by 18; a refusal stays, and once the whole line is there what stands behind its end changes nothing.
+ * for none. length is not null. Answers 0 and the length, which stays the same when more characters come, those behind the
+ * line's end too; SKARROWITH_NOT_YET, before the first character and after a first 68; or refuses by 18 where no accepted
+ * line begins so. A length that is told is the only one that an accepted line can have here; whether the line is accepted
+ * is for reading to say, once it is there.
  */
 uint32_t skarrowith_line_length(const uint16_t *first, size_t count, size_t *length);
 

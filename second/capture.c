@@ -5,30 +5,6 @@
 
 enum { FRAME = 6, COUNTED_MOST = 255, WHOLE_MOST = COUNTED_MOST + FRAME };
 
-/* So many values, each behind its structure and unit byte, take so many bytes. */
-static int fills(int values, int bytes)
-{
-    static const int widths[] = {1, 2, 3, 4, 6, 8};
-    if (values == 0)
-        return bytes == 0;
-    for (size_t i = 0; i < sizeof widths / sizeof widths[0]; i++)
-        if (bytes >= 2 + widths[i] && fills(values - 1, bytes - 2 - widths[i]))
-            return 1;
-    return 0;
-}
-
-/* A command has 4 bytes from C on; data has C, A, CI, the header of 12, the time of 8, and four to six values. */
-static int is_counted(int counted)
-{
-    static signed char known[COUNTED_MOST + 1]; /* 0: not yet asked */
-    if (known[counted] == 0) {
-        int values = counted - 3 - 12 - 8;
-        int can_be = counted == 4 || fills(4, values) || fills(5, values) || fills(6, values);
-        known[counted] = can_be ? 1 : -1;
-    }
-    return known[counted] == 1;
-}
-
 /* The byte that a line of so many characters has at a place; -1 where it may be any, -2 where there is no such line. */
 static int asked_at(size_t length, size_t place)
 {
@@ -36,7 +12,7 @@ static int asked_at(size_t length, size_t place)
     if (length == 1)
         return 0xE5;
     if (length == 5)
-        return place == 0 ? 0x10 : place == 1 ? 0x5B : -1;
+        return place == 0 ? 0x10 : -1;
     if (counted < 0)
         return -2;
     switch (place) {
@@ -55,8 +31,6 @@ static int asked_at(size_t length, size_t place)
 static int may_be(size_t length, const uint16_t *first, size_t n)
 {
     if (asked_at(length, 0) == -2)
-        return 0;
-    if (n > 1 && length > 5 && !is_counted((int)length - FRAME))
         return 0;
     for (size_t i = 0; i < n && i < length; i++) {
         int asked = asked_at(length, i);

@@ -21,7 +21,7 @@ const char *second_words(unsigned long number)
         [9] = "short form: C not 5B. Long form: neither L = 4 with C 53, CI 50 and an S above, nor L >= 15 with C 08 and CI 72",
         [10] = "header rule broken",
         [11] = "one byte left, unknown structure or unit, wrong pair, or value past the end",
-        [12] = "a BCD digit over 9 in an entry, minus zero, or a negative value where none is allowed",
+        [12] = "a BCD digit over 9 in an entry, or a negative value where none is allowed",
         [13] = "time rule broken",
         [14] = "quantity already seen",
         [16] = "a required quantity missing",

@@ -3,8 +3,11 @@ pub mod AddLaws
 pub mod Shown
 pub mod Writing
 pub mod Grown
-pub mod InsertingLaws
 pub mod AddingLaws
+pub mod Trying
+pub mod Opening
+pub mod Opened
+pub mod InsertingLaws
 pub mod Growing
 pub mod Inserted
 pub mod Commuting

@@ -29,19 +29,15 @@ abbrev pub no_room : List ℕ → ℕ → ℕ → Bool
 no_room buffer rows bytes = leb most_rows rows || ltb (length buffer) bytes || ltb most_bytes bytes
 
 -- The bytes that the new bundle fills, or the refusal: more than the buffer has is 30; it tries the old bundle first, then the new
--- row (34 where it is wrong, 37, 38).
-unfoldable pub try_of : Bool → List ℕ → ℕ → Recorded → Answer ℕ
-try_of wrong buffer filled k =
+-- row (34, 37, 38).
+unfoldable pub add_of : List ℕ → ℕ → Recorded → Answer ℕ
+add_of buffer filled k =
     refuse 30 (ltb (length buffer) filled)
     (follow (check_of (take filled buffer)) (λ n.
-    refuse 34 wrong
+    refuse 34 (wrong_row (last_time (contents_of (take filled buffer))) (row_for (filled + 12) k))
     (refuse 37 (any over (chars k.body))
     (refuse 38 (no_room buffer n (grown filled k))
     (reads (grown filled k))))))
-
--- Adding: the row is wrong by its fields, or by a time below that of the last row.
-abbrev pub add_of : List ℕ → ℕ → Recorded → Answer ℕ
-add_of buffer filled k = try_of (wrong_row (last_time (contents_of (take filled buffer))) (row_for (filled + 12) k)) buffer filled k
 
 -- What the buffer then holds: the bundle of what the old one held and of what is added, last, and the bytes past the new end as they
 -- were; after a refusal, what it held.

@@ -1,10 +1,13 @@
 -- Inserting: like adding, but the time of a row is no reason for 34, and the row goes behind the last row whose time is not above its own.
-use Rattle.std.specs.Prelude.{ℕ, zero, suc, cond, List, ◌∷◌, ◌++◌, ltb, length, get_or, take, drop}
-use Rattle.base_rules.specs.Answers.{Answer}
+use Rattle.std.specs.Prelude.{ℕ, zero, suc, Bool, cond, List, ◌∷◌, ◌++◌, ltb, length, get_or, take, drop}
+use Rattle.base_rules.specs.Answers.{Answer, reads, refuse, follow}
+use Rattle.base_rules.specs.Lists.{any}
+use Rattle.base_characters.specs.Characters.{over, chars}
 use Rattle.base_lent.specs.Lent.{stored}
 use Rattle.bundle_rows.specs.Fields.{wrong_field}
+use Rattle.bundle_check.specs.Bundles.{check_of}
 use Rattle.bundle_check.specs.Records.{Recorded, blank_record, records_of, bundle_of}
-use Rattle.bundle_adding.specs.Adding.{try_of}
+use Rattle.bundle_adding.specs.Adding.{grown, no_room}
 
 -- the place behind the last of the first n whose time is not above t; the first place where there is none
 unfoldable pub place_behind : ℕ → List Recorded → ℕ → ℕ
@@ -17,6 +20,17 @@ place_for k ks = place_behind k.time ks (length ks)
 -- the old ones with the new one in a place
 abbrev pub put_at : {A : Type 0} → ℕ → A → List A → List A
 put_at place k ks = take place ks ++ (k ∷ drop place ks)
+
+-- What is answered where a row more is tried, by whether it is wrong: as in adding, more than the buffer has is 30, then the old bundle
+-- is tried, then the new row (34 where it is wrong, 37, 38).
+unfoldable pub try_of : Bool → List ℕ → ℕ → Recorded → Answer ℕ
+try_of wrong buffer filled k =
+    refuse 30 (ltb (length buffer) filled)
+    (follow (check_of (take filled buffer)) (λ n.
+    refuse 34 wrong
+    (refuse 37 (any over (chars k.body))
+    (refuse 38 (no_room buffer n (grown filled k))
+    (reads (grown filled k))))))
 
 -- The bytes that the new bundle fills, or the refusal: the row is wrong by its fields alone.
 abbrev pub insert_of : List ℕ → ℕ → Recorded → Answer ℕ

@@ -3,3 +3,4 @@ pub mod Adding
 pub mod Inserting
 pub mod Shown
 pub mod Writing
+pub mod Opening

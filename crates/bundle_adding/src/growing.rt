@@ -1,16 +1,15 @@
 // The contents rows in front of bodies that have moved.
-ghost use Rattle.std.specs.Prelude.{◌≡◌, ◌+◌, ◌≤◌, ◌<◌, length};
+ghost use Rattle.std.specs.Prelude.{◌≡◌, ◌+◌, ◌≤◌, length};
 ghost use Rattle.bundle_rows.specs.Rows.{most_rows, first_offset};
 ghost use Rattle.bundle_check.specs.Bundles.{most_bytes};
-ghost use Rattle.bundle_adding.specs.Writing.{rows_placed, row_opened, contents_grown};
+ghost use Rattle.bundle_adding.specs.Writing.{rows_placed, contents_grown};
 
-use crate::bodies::move_by_twelve;
 use base_lent::lay;
 use base_numbers::put_number;
 use bundle_rows::{Row, row_bytes, unchecked_row};
 
 // Each row gets the offset that its body has, the first body at a place and each next one behind it.
-fn place_rows(buffer: &mut [u8], count: usize, first: usize)
+pub(crate) fn place_rows(buffer: &mut [u8], count: usize, first: usize)
     requires { (count ≤ most_rows) × (first_offset count ≤ length buffer.old) × (first ≤ most_bytes) }
     ensures { buffer.new ≡ rows_placed count first buffer.old }
 {
@@ -24,22 +23,13 @@ fn place_rows(buffer: &mut [u8], count: usize, first: usize)
     }
 }
 
-// A row stands among the others, and those behind it move by 12.
-fn open_row(buffer: &mut [u8], count: usize, place: usize, row: Row)
-    requires { (count ≤ most_rows) × (place ≤ count) × (first_offset count + 12 ≤ length buffer.old) }
-    ensures { buffer.new ≡ row_opened count place row buffer.old }
+// The rows get their new offsets, the new row stands last, and the count is one more.
+pub(crate) fn grow_contents(buffer: &mut [u8], count: usize, row: Row)
+    requires { (count ≤ most_rows) × (first_offset count + 12 ≤ length buffer.old) }
+    ensures { buffer.new ≡ contents_grown count row buffer.old }
 {
-    let first = 2 + 12 * place;
-    move_by_twelve(buffer, first, 2 + 12 * count);
+    let first = 2 + 12 * count;
+    place_rows(buffer, count, first + 12);
     lay(buffer, first, &row_bytes(row));
-}
-
-// The new row stands in its place, all rows get their new offsets, and the count is one more.
-pub(crate) fn grow_contents(buffer: &mut [u8], count: usize, place: usize, row: Row)
-    requires { (count < most_rows) × (place ≤ count) × (first_offset count + 12 ≤ length buffer.old) }
-    ensures { buffer.new ≡ contents_grown count place row buffer.old }
-{
-    open_row(buffer, count, place, row);
-    place_rows(buffer, count + 1, 2 + 12 * count + 12);
     put_number(buffer, 0, 2, (count + 1) as u64);
 }

@@ -49,7 +49,6 @@ pub mod Structures
 pub mod Entered
 pub mod Box
 pub mod CjtTables
-pub mod Beginnings
 pub mod Succeeds
 pub mod Writable
 pub mod Orders

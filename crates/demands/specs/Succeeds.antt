@@ -93,6 +93,6 @@ WordsAreSaid =
     → (words : List ℕ) × (text_of n ≡ reads words) × ((out : List ℕ) → length words < length out → follow (text_of n) (fitted out) ≡ reads words))
     × ((n : ℕ) → any (eqb n) worded_numbers ≡ false → text_of n ≡ refusal 100)
 
--- The version is 1.2.0.
+-- The version is 1.1.0.
 abbrev pub VersionIs : Type 0
-VersionIs = version ≡ 65536 + 512
+VersionIs = version ≡ 65536 + 256

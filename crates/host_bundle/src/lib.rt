@@ -3,15 +3,16 @@ ghost use Rattle.bundle_check.specs.Bundles.{check_of};
 ghost use Rattle.bundle_adding.specs.Adding.{new_record};
 ghost use Rattle.host_bundle.specs.Lent.{Gives};
 ghost use Rattle.host_bundle.specs.Rows.{row_into, GivesRow};
-ghost use Rattle.host_bundle.specs.Bundled.{AddsIn, InsertsIn, ListsIn};
+ghost use Rattle.host_bundle.specs.Bundled.{AddsIn, ListsIn};
 
 use crate::record::put_row;
-use bundle_adding::{Added, add, insert};
+use bundle_adding::{Added, add};
 use bundle_check::rows::row;
 use bundle_check::{Checked, check};
 use run_listing::{Listed, list};
 
 pub mod contents;
+pub mod inserting;
 pub mod joining;
 mod record;
 pub mod salvaging;
@@ -50,27 +51,6 @@ pub fn skarrowith_bundle_add(
         filled.new }
 {
     match add(buffer, *filled, position, direction, time, body) {
-        Added::Filled(bytes) => {
-            *filled = bytes;
-            0
-        },
-        Added::Refused(number) => 256 + number as u32,
-    }
-}
-
-// 0, the row at its place in time and how many bytes the bundle then fills, or 256 plus 30 to 38.
-pub fn skarrowith_bundle_insert(
-    buffer: &mut [u8],
-    filled: &mut usize,
-    position: u8,
-    direction: u8,
-    time: u32,
-    body: &[u8],
-) -> u32
-    ensures { InsertsIn buffer.old filled.old (new_record position direction time body.now) result buffer.new
-        filled.new }
-{
-    match insert(buffer, *filled, position, direction, time, body) {
         Added::Filled(bytes) => {
             *filled = bytes;
             0

@@ -5,6 +5,6 @@ use Rattle.std.specs.Prelude.{ℕ, ◌+◌, ◌*◌}
 abbrev pub version_of : ℕ → ℕ → ℕ → ℕ
 version_of major minor patch = major * 65536 + minor * 256 + patch
 
--- 1.2.0
+-- 1.1.0
 abbrev pub version : ℕ
-version = version_of 1 2 0
+version = version_of 1 1 0

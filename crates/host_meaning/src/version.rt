@@ -4,7 +4,7 @@ ghost use Rattle.host_meaning.specs.Version.{version};
 
 const MAJOR: u32 = 1;
 
-const MINOR: u32 = 2;
+const MINOR: u32 = 1;
 
 const PATCH: u32 = 0;
 

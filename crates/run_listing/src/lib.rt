@@ -1,11 +1,14 @@
 // The listing of a run bundle: its bytes, as document 01 words them.
 ghost use Rattle.std.specs.Prelude.{◌≡◌, ◌≤◌, length, take};
-ghost use Rattle.run_listing.specs.Listings.{listing_of};
+ghost use Rattle.base_characters.specs.Characters.{chars};
+ghost use Rattle.text_filling.specs.Putting.{PutAt};
+ghost use Rattle.run_listing.specs.Listings.{word_of, listing_of};
 ghost use Rattle.run_listing.specs.Shown.{Lists};
 
 use base_lent::{lay, store};
 use bundle_check::{Checked, check};
-use lines::{put_rows, refused};
+use lines::{put_rows, refused, word_of};
+use text_filling::put;
 use texts::with;
 
 pub mod line_column;
@@ -17,6 +20,16 @@ mod texts;
 pub enum Listed {
     Written(usize),
     Refused(u16),
+}
+
+// Puts the word for a body from a place on, as far as there is room, and answers the place behind it.
+pub fn put_word(out: &mut [u8], at: usize, body: &[u8]) -> usize
+    ensures { PutAt (word_of (chars body.now)) out.old at result out.new }
+{
+    let word = word_of(body);
+    let size = word.size;
+    let bytes = word.bytes;
+    put(out, at, &bytes[..size])
 }
 
 // The first line and 512 lines of 48 bytes fit; no listing is as long.

@@ -39,7 +39,7 @@ fn word_for(outline: Outline) -> Line
 }
 
 // The word for a body.
-fn word_of(body: &[u8]) -> Line
+pub(crate) fn word_of(body: &[u8]) -> Line
     ensures { Holds 18 result (word_of (chars body.now)) }
 {
     match column_of(body) {

@@ -27,7 +27,7 @@ refusal_texts =
     ∷ row 9 "short form: C not 5B. Long form: neither L = 4 with C 53, CI 50 and an S above, nor L >= 15 with C 08 and CI 72"
     ∷ row 10 "header rule broken"
     ∷ row 11 "one byte left, unknown structure or unit, wrong pair, or value past the end"
-    ∷ row 12 "a BCD digit over 9 in an entry, minus zero, or a negative value where none is allowed"
+    ∷ row 12 "a BCD digit over 9 in an entry, or a negative value where none is allowed"
     ∷ row 13 "time rule broken"
     ∷ row 14 "quantity already seen"
     ∷ row 16 "a required quantity missing"

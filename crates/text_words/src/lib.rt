@@ -90,7 +90,7 @@ fn say_of_lines(out: &mut [u8], number: u32) -> u32
         short form: C not 5B. Long form: neither L = 4 with C 53, CI 50 and an S above, nor L >= 15 with C 08 and CI 72\n\
         header rule broken\n\
         one byte left, unknown structure or unit, wrong pair, or value past the end\n\
-        a BCD digit over 9 in an entry, minus zero, or a negative value where none is allowed\n\
+        a BCD digit over 9 in an entry, or a negative value where none is allowed\n\
         time rule broken\n\
         quantity already seen\n\
         \n\

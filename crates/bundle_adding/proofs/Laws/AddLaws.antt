@@ -1,4 +1,4 @@
--- What adding and inserting answer, by the tests of the old bundle and of the new row.
+-- What adding answers, by the tests of the old bundle and of the new row.
 use Prim.Native.Nat.{ℕ, zero, suc, ◌+◌, ◌-◌, ◌≤◌, ◌<◌}
 use mathlib.Core.Bool.{Bool, true, false}
 use mathlib.Core.List.{List, [], ◌∷◌}
@@ -19,7 +19,7 @@ use Rattle.bundle_check.specs.Bundles.{most_bytes, count_of, contents_of, check_
 use Rattle.bundle_check.specs.Records.{Recorded, row_for}
 use Rattle.bundle_check.specs.RowRules.{wrong_row, row_time}
 use Rattle.bundle_check.specs.Walks.{end_of}
-use Rattle.bundle_adding.specs.Adding.{last_time, grown, no_room, try_of, add_of}
+use Rattle.bundle_adding.specs.Adding.{last_time, grown, no_room, add_of}
 
 -- Law: where there are rows, the last time is that of the last one.
 pub last_row : (s i : ℕ) (rows : List Row) (d : Row) → length rows ≡ suc i → end_of row_time s rows ≡ (get_or rows i d).time
@@ -41,51 +41,37 @@ module _ (b : List ℕ) (n : ℕ) (e : check_of b ≡ reads n) where
       ∙ sym (last_row 0 (n - 1) (contents_of b) blank_row (omega (arith, length_rows (count_of b) (drop 2 b), (accepted_sound b n e).1)))
 
 -- What is answered: past the buffer, the check's refusal, or what the tests of the new row say.
-module _ (wrong : Bool) (buffer : List ℕ) (filled : ℕ) (k : Recorded) where
-  pub try_past : ltb (length buffer) filled ≡ true → try_of wrong buffer filled k ≡ refusal 30
-  unfolding try_of
-  try_past p = rw p
+module _ (buffer : List ℕ) (filled : ℕ) (k : Recorded) where
+  pub add_past : ltb (length buffer) filled ≡ true → add_of buffer filled k ≡ refusal 30
+  unfolding add_of
+  add_past p = rw p
 
-  pub try_refused : (n : ℕ) → filled ≤ length buffer → check_of (take filled buffer) ≡ refusal n → try_of wrong buffer filled k ≡ refusal n
-  unfolding try_of
-  try_refused n h e = rw (le-ltb (length buffer) filled h, e)
+  pub add_refused : (n : ℕ) → filled ≤ length buffer → check_of (take filled buffer) ≡ refusal n → add_of buffer filled k ≡ refusal n
+  unfolding add_of
+  add_refused n h e = rw (le-ltb (length buffer) filled h, e)
 
   module _ (n : ℕ) (h : filled ≤ length buffer) (e : check_of (take filled buffer) ≡ reads n) where
+    abbrev wrong : Bool
+    wrong = wrong_row (last_time (contents_of (take filled buffer))) (row_for (filled + 12) k)
+
     abbrev wide : Bool
     wide = any over (chars k.body)
 
-    pub try_wrong : wrong ≡ true → try_of wrong buffer filled k ≡ refusal 34
-    unfolding try_of
-    try_wrong p = rw (le-ltb (length buffer) filled h, e, p)
+    pub add_wrong : wrong ≡ true → add_of buffer filled k ≡ refusal 34
+    unfolding add_of
+    add_wrong p = rw (le-ltb (length buffer) filled h, e, p)
 
-    pub try_wide : wrong ≡ false → wide ≡ true → try_of wrong buffer filled k ≡ refusal 37
-    unfolding try_of
-    try_wide p q = rw (le-ltb (length buffer) filled h, e, p, q)
+    pub add_wide : wrong ≡ false → wide ≡ true → add_of buffer filled k ≡ refusal 37
+    unfolding add_of
+    add_wide p q = rw (le-ltb (length buffer) filled h, e, p, q)
 
-    pub try_full : wrong ≡ false → wide ≡ false → no_room buffer n (grown filled k) ≡ true → try_of wrong buffer filled k ≡ refusal 38
-    unfolding try_of
-    try_full p q r = rw (le-ltb (length buffer) filled h, e, p, q, r)
+    pub add_full : wrong ≡ false → wide ≡ false → no_room buffer n (grown filled k) ≡ true → add_of buffer filled k ≡ refusal 38
+    unfolding add_of
+    add_full p q r = rw (le-ltb (length buffer) filled h, e, p, q, r)
 
-    pub try_grown : wrong ≡ false → wide ≡ false → no_room buffer n (grown filled k) ≡ false → try_of wrong buffer filled k ≡ reads (grown filled k)
-    unfolding try_of
-    try_grown p q r = rw (le-ltb (length buffer) filled h, e, p, q, r)
-
--- and adding, by the test of its own
-module _ (buffer : List ℕ) (filled : ℕ) (k : Recorded) (n : ℕ) (h : filled ≤ length buffer) (e : check_of (take filled buffer) ≡ reads n) where
-  abbrev late : Bool
-  late = wrong_row (last_time (contents_of (take filled buffer))) (row_for (filled + 12) k)
-
-  pub add_wrong : late ≡ true → add_of buffer filled k ≡ refusal 34
-  add_wrong = try_wrong late buffer filled k n h e
-
-  pub add_wide : late ≡ false → any over (chars k.body) ≡ true → add_of buffer filled k ≡ refusal 37
-  add_wide = try_wide late buffer filled k n h e
-
-  pub add_full : late ≡ false → any over (chars k.body) ≡ false → no_room buffer n (grown filled k) ≡ true → add_of buffer filled k ≡ refusal 38
-  add_full = try_full late buffer filled k n h e
-
-  pub add_grown : late ≡ false → any over (chars k.body) ≡ false → no_room buffer n (grown filled k) ≡ false → add_of buffer filled k ≡ reads (grown filled k)
-  add_grown = try_grown late buffer filled k n h e
+    pub add_grown : wrong ≡ false → wide ≡ false → no_room buffer n (grown filled k) ≡ false → add_of buffer filled k ≡ reads (grown filled k)
+    unfolding add_of
+    add_grown p q r = rw (le-ltb (length buffer) filled h, e, p, q, r)
 
 -- what is left where there is room
 pub room_left : (buffer : List ℕ) (n m : ℕ) → no_room buffer n m ≡ false → (n < most_rows) × (m ≤ length buffer) × (m ≤ most_bytes)

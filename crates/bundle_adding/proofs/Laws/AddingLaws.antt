@@ -24,38 +24,42 @@ use Rattle.bundle_check.proofs.Laws.BodyLaws.{times_end, body_held}
 use Rattle.bundle_check.specs.Bundles.{most_bytes, count_of, contents_of, bodies_of, check_of}
 use Rattle.bundle_check.specs.Handing.{body_at}
 use Rattle.bundle_check.proofs.Laws.HoldingLaws.{placed_raised, length_bodies, length_held, holdable_held, timely_held, bodies_held}
-use Rattle.bundle_check.specs.Records.{blank_record, Recorded, records_in, records_of, row_for, rows_for, bodies_for, bundle_of, moved_to}
 use Rattle.bundle_check.proofs.Laws.RecordLaws.{Timely, Holdable, contents_back, held_back, length_bundle, holdable_last, holdable_accepted}
+use Rattle.bundle_check.specs.Records.{blank_record, Recorded, records_in, records_of, row_for, rows_for, bodies_for, bundle_of, moved_to}
 use Rattle.bundle_check.specs.RowRules.{wrong_row}
 use Rattle.bundle_check.specs.Stretches.{bytes_at}
 use Rattle.bundle_check.specs.Walks.{some_wrong, end_of}
 use Rattle.bundle_adding.proofs.Laws.AddLaws.{room_left}
-use Rattle.bundle_adding.specs.Adding.{last_time, grown, no_room, try_of, add_of, buffer_after}
+use Rattle.bundle_adding.specs.Adding.{last_time, grown, no_room, add_of, buffer_after}
 use Rattle.bundle_adding.proofs.Laws.Grown.{one_more, rows_grown, bodies_grown}
 
 -- ---- what is known where something was added
-pub record Taken (wrong : Bool) (buffer : List ℕ) (filled : ℕ) (k : Recorded) (n : ℕ) : Type 0 where
+pub record Taken (buffer : List ℕ) (filled : ℕ) (k : Recorded) (n : ℕ) : Type 0 where
   pub rows : ℕ
   pub inside : filled ≤ length buffer
   pub old : check_of (take filled buffer) ≡ reads rows
-  pub right : wrong ≡ false
+  pub right : wrong_row (last_time (contents_of (take filled buffer))) (row_for (filled + 12) k) ≡ false
   pub range : any over (chars k.body) ≡ false
   pub room : no_room buffer rows (grown filled k) ≡ false
   pub size : n ≡ grown filled k
 
-pub tried : (wrong : Bool) (buffer : List ℕ) (filled : ℕ) (k : Recorded) (n : ℕ) → try_of wrong buffer filled k ≡ reads n → Taken wrong buffer filled k n
-unfolding try_of
-tried wrong buffer filled k n e = past (ltb (length buffer) filled) refl e
+pub taken : (buffer : List ℕ) (filled : ℕ) (k : Recorded) (n : ℕ) → add_of buffer filled k ≡ reads n → Taken buffer filled k n
+unfolding add_of
+taken buffer filled k n e = past (ltb (length buffer) filled) refl e
   where
     tests : ℕ → Answer ℕ
     tests m =
-        refuse 34 wrong (refuse 37 (any over (chars k.body)) (refuse 38 (no_room buffer m (grown filled k)) (reads (grown filled k))))
+        refuse 34 (wrong_row (last_time (contents_of (take filled buffer))) (row_for (filled + 12) k))
+        (refuse 37 (any over (chars k.body)) (refuse 38 (no_room buffer m (grown filled k)) (reads (grown filled k))))
 
-    checked : (a : Answer ℕ) → ltb (length buffer) filled ≡ false → check_of (take filled buffer) ≡ a → follow a tests ≡ reads n → Taken wrong buffer filled k n
+    checked : (a : Answer ℕ) → ltb (length buffer) filled ≡ false → check_of (take filled buffer) ≡ a → follow a tests ≡ reads n → Taken buffer filled k n
     checked (refusal m) h o g = absurd (not_refused g)
     checked (reads m) h o g =
         let p =
-        all_passed ((34, wrong) ∷ ((37, any over (chars k.body)) ∷ ((38, no_room buffer m (grown filled k)) ∷ []))) (reads (grown filled k)) g in
+        all_passed
+        ((34, wrong_row (last_time (contents_of (take filled buffer))) (row_for (filled + 12) k))
+        ∷ ((37, any over (chars k.body)) ∷ ((38, no_room buffer m (grown filled k)) ∷ [])))
+        (reads (grown filled k)) g in
         record {
           rows = m;
           inside = ltb-false (length buffer) filled h;
@@ -66,16 +70,9 @@ tried wrong buffer filled k n e = past (ltb (length buffer) filled) refl e
           size = sym (reads_same p.1);
         }
 
-    past : (t : Bool) → ltb (length buffer) filled ≡ t → refuse 30 t (follow (check_of (take filled buffer)) tests) ≡ reads n → Taken wrong buffer filled k n
+    past : (t : Bool) → ltb (length buffer) filled ≡ t → refuse 30 t (follow (check_of (take filled buffer)) tests) ≡ reads n → Taken buffer filled k n
     past true h g = absurd (not_refused g)
     past false h g = checked (check_of (take filled buffer)) h refl g
-
--- 34 of adding
-abbrev pub wrong_last : List ℕ → ℕ → Recorded → Bool
-wrong_last buffer filled k = wrong_row (last_time (contents_of (take filled buffer))) (row_for (filled + 12) k)
-
-pub taken : (buffer : List ℕ) (filled : ℕ) (k : Recorded) (n : ℕ) → add_of buffer filled k ≡ reads n → Taken (wrong_last buffer filled k) buffer filled k n
-taken buffer filled k n e = tried (wrong_last buffer filled k) buffer filled k n e
 
 -- ---- what is left
 
@@ -94,7 +91,7 @@ module _ (buffer : List ℕ) (filled : ℕ) (k : Recorded) (n : ℕ) (e : add_of
   abbrev all : List Recorded
   all = records_of old ++ (k ∷ [])
 
-  t : Taken (wrong_last buffer filled k) buffer filled k n
+  t : Taken buffer filled k n
   t = taken buffer filled k n e
 
   abbrev sound : SoundBundle old

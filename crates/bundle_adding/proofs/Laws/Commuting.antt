@@ -19,8 +19,8 @@ use Rattle.bundle_check.proofs.Laws.Accepted.{accepted_sound}
 use Rattle.bundle_check.specs.Bundles.{most_bytes, count_of, check_of}
 use Rattle.bundle_check.specs.Records.{Recorded, records_of, bundle_of}
 use Rattle.bundle_check.proofs.Laws.RecordLaws.{Timely}
-use Rattle.bundle_adding.proofs.Laws.AddLaws.{room_left, try_grown}
-use Rattle.bundle_adding.proofs.Laws.AddingLaws.{Taken}
+use Rattle.bundle_adding.proofs.Laws.AddLaws.{room_left}
+use Rattle.bundle_adding.proofs.Laws.Trying.{Tried, try_grown}
 use Rattle.bundle_adding.proofs.Laws.Inserted
 use Rattle.bundle_adding.proofs.Laws.Inserted.{inserted_in}
 use Rattle.bundle_adding.proofs.Laws.InsertingLaws.{InOrder, all_later, none_behind, one_on, Later}
@@ -98,10 +98,10 @@ room_there buffer n m h l b = rw (lt-leb most_rows n h, le-ltb (length buffer) m
 
 module _ (buffer : List ℕ) (filled : ℕ) (times : All Timely (records_of (take filled buffer))) (j k : Recorded) (timely : Timely j) (n m : ℕ)
     (e : insert_of buffer filled j ≡ reads n) (f : insert_of (after buffer filled j n) n k ≡ reads m) where
-  first : Taken (wrong_field j.position j.direction (length j.body)) buffer filled j n
+  first : Tried (wrong_field j.position j.direction (length j.body)) buffer filled j n
   first = Inserted.t buffer filled j n e
 
-  second : Taken (wrong_field k.position k.direction (length k.body)) (after buffer filled j n) n k m
+  second : Tried (wrong_field k.position k.direction (length k.body)) (after buffer filled j n) n k m
   second = Inserted.t (after buffer filled j n) n k m f
 
   -- both at once

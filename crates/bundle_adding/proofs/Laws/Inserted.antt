@@ -1,5 +1,5 @@
 -- What inserting leaves: it is accepted, and holds the old rows with the new one in its place.
-use Prim.Native.Nat.{ℕ, ◌+◌, ◌-◌, ◌%◌, ◌≤◌, ◌<◌}
+use Prim.Native.Nat.{ℕ, ◌+◌, ◌%◌, ◌≤◌, ◌<◌}
 use mathlib.Core.Bool.{false}
 use mathlib.Core.List.{List, [], ◌∷◌, ◌++◌}
 use mathlib.Core.Path.{◌≡◌, refl, sym, ap, ◌∙◌, subst}
@@ -29,9 +29,9 @@ use Rattle.bundle_check.specs.Stretches.{bytes_at}
 use Rattle.bundle_check.specs.Walks.{some_wrong, end_of}
 use Rattle.bundle_check.proofs.Laws.Walks.{some_append}
 use Rattle.bundle_adding.proofs.Laws.AddLaws.{room_left}
-use Rattle.bundle_adding.proofs.Laws.AddingLaws.{Taken, tried}
-use Rattle.bundle_adding.proofs.Laws.Grown.{length_put, bodies_put, bodies_parts, size_put}
+use Rattle.bundle_adding.proofs.Laws.Opened.{length_put, bodies_put, bodies_parts, size_put}
 use Rattle.bundle_adding.proofs.Laws.InsertingLaws.{InOrder, in_order, Later, NotLater, place_parts}
+use Rattle.bundle_adding.proofs.Laws.Trying.{Tried, tried}
 use Rattle.bundle_adding.specs.Adding.{grown}
 use Rattle.bundle_adding.specs.Inserting.{place_for, put_at, insert_of, buffer_inserted}
 
@@ -129,7 +129,7 @@ module _ (buffer : List ℕ) (filled : ℕ) (k : Recorded) (n : ℕ) (e : insert
   abbrev old : List ℕ
   old = take filled buffer
 
-  pub t : Taken (wrong_field k.position k.direction (length k.body)) buffer filled k n
+  pub t : Tried (wrong_field k.position k.direction (length k.body)) buffer filled k n
   t = tried (wrong_field k.position k.direction (length k.body)) buffer filled k n e
 
   abbrev sound : SoundBundle old

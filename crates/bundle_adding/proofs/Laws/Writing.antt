@@ -1,83 +1,80 @@
 -- Laws of `specs/Writing`.
-use Prim.Native.Nat.{ℕ, zero, suc, ◌+◌, ◌*◌, ◌-◌, ◌≤◌, ◌<◌, zero-le}
+use Prim.Native.Nat.{ℕ, suc, ◌+◌, ◌*◌, ◌-◌, ◌≤◌, ◌<◌, zero-le}
 use mathlib.Core.List.{List, [], ◌∷◌, ◌++◌, append_assoc, append-nil}
 use mathlib.Core.Path.{◌≡◌, refl, sym, ap, ap₂, ◌∙◌, subst}
-use native.Mathlib.Nat.{zero-add}
 use native.Mathlib.Numerals.{add-one}
 use native.Mathlib.Omega.{arith}
 use lib.ListN.{length, get_or, take, drop, set, length-set, length-append, length-drop, take-append-drop, get_or-append, drop_of_length-le}
 use lib.Seq.{slice, slice_empty, slice-cons, take-suc, set_at, length-take-le, get_or-take, append_snoc}
-use lib.Seq.{take_at, drop_at, drop-drop, drop-cons, length-slice, take-append-le, take-take}
+use lib.Seq.{take_at, drop_at, drop-drop, drop-cons, length-slice}
 use Rattle.base_lent.specs.Copying.{copied}
 use Rattle.base_lent.proofs.Laws.Copying.{copied_fits}
 use Rattle.bundle_rows.specs.declared.Row.{Row}
 use Rattle.base_numbers.specs.Numbers.{bytes_of}
 use Rattle.base_numbers.proofs.Laws.Numbers.{length_bytes}
 use Rattle.bundle_rows.specs.Rows.{most_rows, row_of, rows_of, first_offset, blank_row, unchecked_row, bytes_of_row, bytes_of_rows}
-use Rattle.base_rules.proofs.Laws.ListLaws.{drop_take}
-use Rattle.bundle_rows.proofs.Laws.RowLaws.{Fitting, length_rows, row_at_lem, row_in, row_back, length_row, rows_front, rows_same}
+use Rattle.bundle_rows.proofs.Laws.RowLaws.{length_rows, row_at_lem, row_in, length_row, length_rows_bytes}
 use Rattle.bundle_check.specs.Bundles.{most_bytes}
 use Rattle.bundle_check.specs.Records.{moved_to, placed_from}
-use Rattle.bundle_adding.specs.Inserting.{put_at}
-use Rattle.bundle_adding.specs.Writing.{shifted, bodies_moved, bodies_opened, rows_placed, row_opened, contents_grown}
+use Rattle.bundle_check.proofs.Laws.HoldingLaws.{length_placed}
+use Rattle.bundle_adding.specs.Writing.{shifted, bodies_moved, rows_placed, contents_grown}
 
--- ---- a loop that moves up, from the end down
-pub record Shifting (by : ℕ) (d : List ℕ) (from to i : ℕ) (e : List ℕ) : Type 0 where
+-- ---- a loop that moves by 12, from the end down
+pub record Shifting (d : List ℕ) (from to i : ℕ) (e : List ℕ) : Type 0 where
   pub down : from ≤ i
   pub inside : i ≤ to
-  pub room : to + by ≤ length d
+  pub room : to + 12 ≤ length d
   pub same : length e ≡ length d
-  pub so : e ≡ shifted by i to d
+  pub so : e ≡ shifted i to d
 
-module _ {by : ℕ} {d : List ℕ} {from to : ℕ} where
-  pub shifting_none : from ≤ to → to + by ≤ length d → Shifting by d from to to d
-  shifting_none l h = record { down = l; inside = omega arith; room = h; same = refl; so = rw (slice_empty to d) (sym (take-append-drop (to + by) d)) }
+module _ {d : List ℕ} {from to : ℕ} where
+  pub shifting_none : from ≤ to → to + 12 ≤ length d → Shifting d from to to d
+  shifting_none l h = record { down = l; inside = omega arith; room = h; same = refl; so = rw (slice_empty to d) (sym (take-append-drop (to + 12) d)) }
 
-  shifting_step : {i : ℕ} {e : List ℕ} → Shifting by d from to (suc i) e → from ≤ i → Shifting by d from to i (set e (i + by) (get_or e i 0))
+  shifting_step : {i : ℕ} {e : List ℕ} → Shifting d from to (suc i) e → from ≤ i → Shifting d from to i (set e (i + 12) (get_or e i 0))
   shifting_step {i} {e} g l = record {
     down = l;
     inside = omega (arith, g.inside);
     room = g.room;
-    same = length-set e (i + by) (get_or e i 0) ∙ g.same;
+    same = length-set e (i + 12) (get_or e i 0) ∙ g.same;
     so =
-        ap (set e (i + by)) moves ∙ ap (λ (l : List ℕ). set l (i + by) (get_or d i 0)) parts
-        ∙ set_at (take (i + by) d) (get_or d (i + by) 0) rest (get_or d i 0) (i + by) (length-take-le (i + by) d (omega (arith, g.inside, g.room)))
-        ∙ ap (λ (l : List ℕ). take (i + by) d ++ (l ++ drop (to + by) d)) (sym (slice-cons i to d 0 (omega (arith, g.inside)) (omega (arith, g.room))));
+        ap (set e (i + 12)) moves ∙ ap (λ (l : List ℕ). set l (i + 12) (get_or d i 0)) parts
+        ∙ set_at (take (i + 12) d) (get_or d (i + 12) 0) rest (get_or d i 0) (i + 12) (length-take-le (i + 12) d (omega (arith, g.inside, g.room)))
+        ∙ ap (λ (l : List ℕ). take (i + 12) d ++ (l ++ drop (to + 12) d)) (sym (slice-cons i to d 0 (omega (arith, g.inside)) (omega (arith, g.room))));
   }
     where
       rest : List ℕ
-      rest = slice (suc i) to d ++ drop (to + by) d
+      rest = slice (suc i) to d ++ drop (to + 12) d
 
-      one : suc i + by ≡ suc (i + by)
+      one : suc i + 12 ≡ suc (i + 12)
       one = omega arith
 
       -- the byte that moves is still the old one
       moves : get_or e i 0 ≡ get_or d i 0
       moves =
           rw g.so
-          (get_or-append (take (suc i + by) d) rest 0 i
-          (omega (arith, g.inside, g.room, length-take-le (suc i + by) d (omega (arith, g.inside, g.room))))
-          ∙ get_or-take (suc i + by) d i 0 (omega arith))
+          (get_or-append (take (suc i + 12) d) rest 0 i
+          (omega (arith, g.inside, g.room, length-take-le (suc i + 12) d (omega (arith, g.inside, g.room))))
+          ∙ get_or-take (suc i + 12) d i 0 (omega arith))
 
       -- the byte that it is written over
-      parts : e ≡ take (i + by) d ++ (get_or d (i + by) 0 ∷ rest)
+      parts : e ≡ take (i + 12) d ++ (get_or d (i + 12) 0 ∷ rest)
       parts =
           g.so ∙ ap (λ (n : ℕ). take n d ++ rest) one
-          ∙ ap (λ (l : List ℕ). l ++ rest) (take-suc d (i + by) 0 (omega (arith, g.inside, g.room))) ∙ append_snoc (take (i + by) d) (get_or d (i + by) 0) rest
+          ∙ ap (λ (l : List ℕ). l ++ rest) (take-suc d (i + 12) 0 (omega (arith, g.inside, g.room))) ∙ append_snoc (take (i + 12) d) (get_or d (i + 12) 0) rest
 
-  pub shifting_next : {i : ℕ} {e : List ℕ} → Shifting by d from to i e → from < i → Shifting by d from to (i - 1) (set e (i - 1 + by) (get_or e (i - 1) 0))
+  pub shifting_next : {i : ℕ} {e : List ℕ} → Shifting d from to i e → from < i → Shifting d from to (i - 1) (set e (i - 1 + 12) (get_or e (i - 1) 0))
   shifting_next {i} {e} g h =
       let one : i ≡ suc (i - 1) = omega arith in
-      shifting_step (subst (λ (n : ℕ). Shifting by d from to n e) one g) (omega arith)
+      shifting_step (subst (λ (n : ℕ). Shifting d from to n e) one g) (omega arith)
 
-  pub shifting_all : {i : ℕ} {e : List ℕ} → Shifting by d from to i e → i ≤ from → e ≡ shifted by from to d
+  pub shifting_all : {i : ℕ} {e : List ℕ} → Shifting d from to i e → i ≤ from → e ≡ shifted from to d
   shifting_all {i} {e} g h =
       let all : i ≡ from = omega (arith, g.down) in
-      g.so ∙ ap (λ (n : ℕ). shifted by n to d) all
+      g.so ∙ ap (λ (n : ℕ). shifted n to d) all
 
 -- ---- the bodies move, and a body stands behind them
-pub bodies_moved_lem : (from to : ℕ) (s d : List ℕ) → from ≤ to → to + 12 + length s ≤ length d → copied (shifted 12 from to d) (to + 12) s
-    ≡ bodies_moved from to s d
+pub bodies_moved_lem : (from to : ℕ) (s d : List ℕ) → from ≤ to → to + 12 + length s ≤ length d → copied (shifted from to d) (to + 12) s ≡ bodies_moved from to s d
 bodies_moved_lem from to s d l h =
     rw (regroup, copied_fits (head ++ drop (to + 12) d) (to + 12) s (omega (arith, all)), front, back)
     (append_assoc (take (from + 12) d) (slice from to d) (s ++ drop (to + 12 + length s) d))
@@ -85,7 +82,7 @@ bodies_moved_lem from to s d l h =
     head : List ℕ
     head = take (from + 12) d ++ slice from to d
 
-    regroup : shifted 12 from to d ≡ head ++ drop (to + 12) d
+    regroup : shifted from to d ≡ head ++ drop (to + 12) d
     regroup = sym (append_assoc (take (from + 12) d) (slice from to d) (drop (to + 12) d))
 
     size : length head ≡ to + 12
@@ -100,30 +97,6 @@ bodies_moved_lem from to s d l h =
 
     back : drop (length s) (drop (to + 12) (head ++ drop (to + 12) d)) ≡ drop (to + 12 + length s) d
     back = ap (drop (length s)) (drop_at head (drop (to + 12) d) (to + 12) size) ∙ drop-drop (length s) (to + 12) d
-
--- ---- and those behind it move further
-slice_front : (f t m : ℕ) (l r : List ℕ) → t ≤ m → m ≤ length l → slice f t (take m l ++ r) ≡ slice f t l
-slice_front f t m l r k j =
-    ap (drop f) (take-append-le t (take m l) r (omega (arith, length-take-le m l j)) ∙ take-take t m l k)
-
-pub bodies_opened_lem : (from at to : ℕ) (s d : List ℕ) → from ≤ at → at ≤ to → to + 12 + length s ≤ length d
-    → bodies_moved from at s (shifted (12 + length s) at to d) ≡ bodies_opened from at to s d
-bodies_opened_lem from at to s d l m h =
-    let size : length (take (at + by) d) ≡ at + by = length-take-le (at + by) d (omega arith) in
-    let past : to + (12 + length s) ≡ to + 12 + length s = omega arith in
-    rw (
-      take-append-le (from + 12) (take (at + by) d) behind (omega arith),
-      take-take (from + 12) (at + by) d (omega arith),
-      slice_front from at (at + by) d behind (omega arith) (omega arith),
-      drop_at (take (at + by) d) behind (at + 12 + length s) (omega arith),
-      past,
-    )
-  where
-    by : ℕ
-    by = 12 + length s
-
-    behind : List ℕ
-    behind = slice at to d ++ drop (to + by) d
 
 -- ---- a loop that gives the rows their offsets
 pub record Placing (d : List ℕ) (n first i at : ℕ) (e : List ℕ) : Type 0 where
@@ -216,110 +189,48 @@ module _ {d : List ℕ} {n first : ℕ} where
       sym (append-nil g.written) ∙ rw none at g.whole in
       g.so ∙ rw (whole, all)
 
--- ---- the new row among the others
-
-pub rows_split : (p m : ℕ) (s : List ℕ) → rows_of (p + m) s ≡ rows_of p s ++ rows_of m (drop (12 * p) s)
-unfolding rows_of
-rows_split zero m s = rw (zero-add m)
-rows_split (suc p) m s =
-    let one : suc p + m ≡ suc (p + m) = omega arith in
-    let next : 12 + 12 * p ≡ 12 * suc p = omega arith in
-    rw one
-    (ap (λ (l : List Row). row_of s ∷ l)
-    (rows_split p m (drop 12 s) ∙ ap (λ (l : List ℕ). rows_of p (drop 12 s) ++ rows_of m l) (drop-drop (12 * p) 12 s ∙ ap (λ (k : ℕ). drop k s) next)))
-
-pub row_opened_lem : (n p : ℕ) (r : Row) (d : List ℕ) → p ≤ n → first_offset n + 12 ≤ length d
-    → copied (shifted 12 (first_offset p) (first_offset n) d) (first_offset p) (bytes_of_row r) ≡ row_opened n p r d
-row_opened_lem n p r d l h =
-    rw (
-      copied_fits (front ++ behind) (first_offset p) (bytes_of_row r) (omega (arith, length_row r, length-append front behind, size)),
-      take-append-le (first_offset p) front behind (omega (arith, size)),
-      take-take (first_offset p) (first_offset p + 12) d (omega arith),
-      length_row r,
-      drop-drop 12 (first_offset p) (front ++ behind),
-      drop_at front behind (first_offset p + 12) size,
-    )
+-- ---- the new row behind them, and the count
+pub contents_grown_lem : (n : ℕ) (r : Row) (d : List ℕ) → first_offset n + 12 ≤ length d
+    → copied (copied (rows_placed n (first_offset n + 12) d) (first_offset n) (bytes_of_row r)) 0 (bytes_of 2 (n + 1)) ≡ contents_grown n r d
+contents_grown_lem n r d h =
+    rw (regroup, copied_fits ((take 2 d ++ rows) ++ drop (first_offset n) d) (first_offset n) (bytes_of_row r) (omega (arith, all, length_row r)), front, back)
+    (copied_fits behind 0 (bytes_of 2 (n + 1))
+    (omega (arith, length_bytes 2 (n + 1), length-append (take 2 d ++ rows) (bytes_of_row r ++ drop (first_offset n + 12) d), size))
+    ∙ ap (λ (l : List ℕ). bytes_of 2 (n + 1) ++ l) tail)
   where
-    front : List ℕ
-    front = take (first_offset p + 12) d
+    rows : List ℕ
+    rows = bytes_of_rows (placed_from (first_offset n + 12) (rows_of n (drop 2 d)))
 
     behind : List ℕ
-    behind = slice (first_offset p) (first_offset n) d ++ drop (first_offset n + 12) d
+    behind = (take 2 d ++ rows) ++ (bytes_of_row r ++ drop (first_offset n + 12) d)
 
-    size : length front ≡ first_offset p + 12
-    size = length-take-le (first_offset p + 12) d (omega arith)
+    count : length (take 2 d) ≡ 2
+    count = length-take-le 2 d (omega arith)
 
-module _ (n p : ℕ) (r : Row) (d : List ℕ) (l : p ≤ n) (h : first_offset n + 12 ≤ length d) where
-  abbrev rest : List ℕ
-  rest = slice (first_offset p) (first_offset n) d ++ drop (first_offset n + 12) d
+    size : length (take 2 d ++ rows) ≡ first_offset n
+    size =
+        omega (
+          arith,
+          length-append (take 2 d) rows,
+          count,
+          length_rows_bytes (placed_from (first_offset n + 12) (rows_of n (drop 2 d)))
+              ∙ ap (λ (k : ℕ). 12 * k) (length_placed (first_offset n + 12) (rows_of n (drop 2 d)) ∙ length_rows n (drop 2 d)),
+        )
 
-  size_front : length (take (first_offset p) d) ≡ first_offset p
-  size_front = length-take-le (first_offset p) d (omega arith)
+    all : length ((take 2 d ++ rows) ++ drop (first_offset n) d) ≡ length d
+    all = omega (arith, length-append (take 2 d ++ rows) (drop (first_offset n) d), size, length-drop (first_offset n) d)
 
-  -- the rows in front of it and behind it are the old ones
-  rows_parts : rows_of n (drop 2 d) ≡ rows_of p (drop 2 d) ++ rows_of (n - p) (drop (first_offset p) d)
-  rows_parts =
-      let all : n ≡ p + (n - p) = omega arith in
-      ap (λ (m : ℕ). rows_of m (drop 2 d)) all ∙ rows_split p (n - p) (drop 2 d)
-      ∙ ap (λ (s : List ℕ). rows_of p (drop 2 d) ++ rows_of (n - p) s) (drop-drop (12 * p) 2 d)
+    regroup : rows_placed n (first_offset n + 12) d ≡ (take 2 d ++ rows) ++ drop (first_offset n) d
+    regroup = sym (append_assoc (take 2 d) rows (drop (first_offset n) d))
 
-  pub behind_contents : drop (first_offset n + 12) (row_opened n p r d) ≡ drop (first_offset n + 12) d
-  behind_contents =
-      ap (drop (first_offset n + 12))
-      (sym (append_assoc (take (first_offset p) d) (bytes_of_row r) rest)
-      ∙ sym (append_assoc (take (first_offset p) d ++ bytes_of_row r) (slice (first_offset p) (first_offset n) d) (drop (first_offset n + 12) d)))
-      ∙ drop_at ((take (first_offset p) d ++ bytes_of_row r) ++ slice (first_offset p) (first_offset n) d) (drop (first_offset n + 12) d) (first_offset n + 12)
-      (omega (
-        arith,
-        length-append (take (first_offset p) d ++ bytes_of_row r) (slice (first_offset p) (first_offset n) d),
-        length-append (take (first_offset p) d) (bytes_of_row r),
-        length_row r,
-        size_front,
-        length-slice (first_offset p) (first_offset n) d (omega arith),
-      ))
+    front : take (first_offset n) ((take 2 d ++ rows) ++ drop (first_offset n) d) ≡ take 2 d ++ rows
+    front = take_at (take 2 d ++ rows) (drop (first_offset n) d) (first_offset n) size
 
-  pub rows_opened : Fitting r → rows_of (n + 1) (drop 2 (row_opened n p r d)) ≡ put_at p r (rows_of n (drop 2 d))
-  unfolding rows_of
-  rows_opened f =
-      let all : n + 1 ≡ p + suc (n - p) = omega arith in
-      let front : take (first_offset p) (row_opened n p r d) ≡ take (first_offset p) d =
-      take_at (take (first_offset p) d) (bytes_of_row r ++ rest) (first_offset p) size_front in
-      let behind : drop (first_offset p) (row_opened n p r d) ≡ bytes_of_row r ++ rest =
-      drop_at (take (first_offset p) d) (bytes_of_row r ++ rest) (first_offset p) size_front in
-      let there : length (rows_of p (drop 2 d)) ≡ p = length_rows p (drop 2 d) in
-      rw (all, rows_split p (suc (n - p)) (drop 2 (row_opened n p r d)), drop-drop (12 * p) 2 (row_opened n p r d), behind)
-      (ap₂ (λ (x y : List Row). x ++ y) (rows_same p (row_opened n p r d) d front)
-      (ap₂ (λ (x : Row) (y : List Row). x ∷ y) (row_back r rest f) (ap (rows_of (n - p)) (drop_at (bytes_of_row r) rest 12 (length_row r)) ∙ old))
-      ∙ sym (ap₂ (λ (x y : List Row). x ++ (r ∷ y))
-      (ap (take p) rows_parts ∙ take_at (rows_of p (drop 2 d)) (rows_of (n - p) (drop (first_offset p) d)) p there)
-      (ap (drop p) rows_parts ∙ drop_at (rows_of p (drop 2 d)) (rows_of (n - p) (drop (first_offset p) d)) p there)))
-    where
-      old : rows_of (n - p) rest ≡ rows_of (n - p) (drop (first_offset p) d)
-      old =
-          let size : length (slice (first_offset p) (first_offset n) d)
-          ≡ first_offset n - first_offset p = length-slice (first_offset p) (first_offset n) d (omega arith) in
-          sym (rows_front (n - p) (first_offset n - first_offset p) rest (omega arith))
-          ∙ ap (rows_of (n - p))
-          (take_at (slice (first_offset p) (first_offset n) d) (drop (first_offset n + 12) d) (first_offset n - first_offset p) size)
-          ∙ ap (rows_of (n - p)) (drop_take (first_offset p) (first_offset n) d)
-          ∙ rows_front (n - p) (first_offset n - first_offset p) (drop (first_offset p) d) (omega arith)
+    back : drop (length (bytes_of_row r)) (drop (first_offset n) ((take 2 d ++ rows) ++ drop (first_offset n) d)) ≡ drop (first_offset n + 12) d
+    back =
+        ap₂ drop (length_row r) (drop_at (take 2 d ++ rows) (drop (first_offset n) d) (first_offset n) size) ∙ drop-drop 12 (first_offset n) d
 
-  -- and all with their offsets, and the count
-  pub contents_grown_lem : Fitting r
-      → copied (rows_placed (n + 1) (first_offset n + 12) (row_opened n p r d)) 0 (bytes_of 2 (n + 1)) ≡ contents_grown n p r d
-  contents_grown_lem f =
-      let next : first_offset (n + 1) ≡ first_offset n + 12 = omega arith in
-      rw (rows_opened f, next, behind_contents)
-      (copied_fits (two ++ (rows ++ drop (first_offset n + 12) d)) 0 (bytes_of 2 (n + 1))
-      (omega (arith, length_bytes 2 (n + 1), length-append two (rows ++ drop (first_offset n + 12) d), count))
-      ∙ ap (λ (s : List ℕ). bytes_of 2 (n + 1) ++ s)
-      (ap₂ drop (length_bytes 2 (n + 1)) refl ∙ drop_at two (rows ++ drop (first_offset n + 12) d) 2 count))
-    where
-      two : List ℕ
-      two = take 2 (row_opened n p r d)
-
-      rows : List ℕ
-      rows = bytes_of_rows (placed_from (first_offset n + 12) (put_at p r (rows_of n (drop 2 d))))
-
-      count : length two ≡ 2
-      count = length-take-le 2 (row_opened n p r d) (omega (arith, length-append (take (first_offset p) d) (bytes_of_row r ++ rest), size_front))
+    tail : drop (length (bytes_of 2 (n + 1))) behind ≡ rows ++ (bytes_of_row r ++ drop (first_offset n + 12) d)
+    tail =
+        let rest : List ℕ = bytes_of_row r ++ drop (first_offset n + 12) d in
+        ap₂ drop (length_bytes 2 (n + 1)) (append_assoc (take 2 d) rows rest) ∙ drop_at (take 2 d) (rows ++ rest) 2 count

@@ -9,7 +9,6 @@ use lib.ListN.{take}
 use Rattle.base_rules.specs.Lists.{any}
 use Rattle.base_characters.specs.Characters.{over, odd}
 use Rattle.base_rules.proofs.Laws.Tests.{neither}
-use Rattle.mbus_length.specs.declared.HowLong.{HowLong}
 use Rattle.mbus_length.specs.declared.HowLong.TheVariants.{Known, NotYet, NoLine}
 use Rattle.mbus_length.specs.Lengths.{unsound_in}
 

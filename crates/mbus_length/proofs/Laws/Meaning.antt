@@ -1,18 +1,18 @@
 -- What the length of a line by its first characters means.
 use Prim.Native.Nat.{ℕ, ◌≤◌, ◌<◌}
-use mathlib.Core.Bool.{Bool, true, false, ◌||◌, and-false, and-eq-true_iff}
+use mathlib.Core.Bool.{true, false, ◌||◌, true≢false, and-false, and-eq-true_iff}
 use mathlib.Core.List.{List, map}
 use mathlib.Core.Logic.{◌≢◌}
 use mathlib.Core.Path.{◌≡◌, refl, sym, ap, ap₂, ◌∙◌}
 use native.Mathlib.Nat.{le_refl}
 use native.Mathlib.Omega.{arith}
-use borrow.Author.Tests.{eqb-true, eqb-false, eq-eqb, ne_eqb, ltb-true, ltb-false, le-ltb, lt-ltb}
+use borrow.Author.Tests.{eqb-true, eqb-false, eq-eqb, ne_eqb, ltb-true, ltb-false, le-ltb}
 use lib.Dec.{eqb, ltb}
 use lib.ListN.{length, take, length-map}
-use lib.Seq.{get_or-take, length-take-le, take_all, take-length, take-take}
+use lib.Seq.{length-take-le, take_all, take-length, take-take}
 use Rattle.base_rules.specs.Lists.{at, any}
 use Rattle.base_characters.specs.Characters.{over, odd, byte_of}
-use Rattle.mbus_rules.specs.Lines.{is_short, is_long, Accepted}
+use Rattle.mbus_rules.specs.Lines.{is_long, Accepted}
 use Rattle.base_characters.proofs.Laws.Codes.{Sound}
 use Rattle.mbus_rules.proofs.Laws.Frames.{Framed}
 use Rattle.mbus_rules.proofs.Laws.LineCode.{line_code}
@@ -22,15 +22,14 @@ use Rattle.mbus_shape.specs.First.{left_by}
 use Rattle.mbus_shape.proofs.Laws.FirstLaws.{framed_some, long_six, left_framed, same_long, left_before, left_grows, left_same, left_past}
 use Rattle.mbus_length.specs.declared.HowLong.{HowLong}
 use Rattle.mbus_length.specs.declared.HowLong.TheVariants.{Known, NotYet, NoLine}
-use Rattle.mbus_length.specs.Lengths.{unsound_in, wrong_pair, wrong_second, lacks_count, length_by, line_length, Agree}
+use Rattle.mbus_length.specs.Lengths.{unsound_in, lacks_count, length_by, line_length, Agree}
 use Rattle.mbus_length.proofs.Laws.Beginnings
-use Rattle.mbus_length.proofs.Laws.Seconds.{second_accepted}
 
-pub answer : (s : List ℕ) → 1 ≤ length s → line_length s ≡ length_by s (left_by (map byte_of s))
+answer : (s : List ℕ) → 1 ≤ length s → line_length s ≡ length_by s (left_by (map byte_of s))
 unfolding line_length
 answer s h = rw (ne_eqb (length s) 0 (omega arith))
 
-pub nothing_yet : (s : List ℕ) → length s ≡ 0 → line_length s ≡ NotYet
+nothing_yet : (s : List ℕ) → length s ≡ 0 → line_length s ≡ NotYet
 unfolding line_length
 nothing_yet s h = rw (eq-eqb (length s) 0 h)
 
@@ -46,67 +45,18 @@ pub record KnownBy (s : List ℕ) (n : ℕ) : Type 0 where
   pub some : 0 < n
   pub clean : unsound_in n s ≡ false
   pub there : lacks_count (map byte_of s) ≡ false
-  pub second : wrong_second (map byte_of s) ≡ false
-
--- no line begins so
-abbrev pub none : List ℕ → Bool
-none s = eqb (left_by (map byte_of s)) 0 || unsound_in (left_by (map byte_of s)) s || wrong_second (map byte_of s)
 
 known_tells : (s : List ℕ) (n : ℕ) → line_length s ≡ Known n → KnownBy s n
 known_tells s n e =
-    let b = map byte_of s in
-    let k = Beginnings.known_by (none s) (lacks_count b) (left_by b) n (sym (answer s (known_some s n e)) ∙ e) in
-    let pair = neither (eqb (left_by b) 0 || unsound_in (left_by b) s) (wrong_second b) k.0 in
-    let both = neither (eqb (left_by b) 0) (unsound_in (left_by b) s) pair.0 in
-    let ne = eqb-false (left_by b) 0 both.0 in
-    record {
-      left = k.2;
-      some = omega (arith, k.2);
-      clean = ap (λ (m : ℕ). unsound_in m s) (sym k.2) ∙ both.1;
-      there = k.1;
-      second = pair.1;
-    }
+    let k = Beginnings.known_by _ _ _ n (sym (answer s (known_some s n e)) ∙ e) in
+    let both = neither (eqb (left_by (map byte_of s)) 0) (unsound_in (left_by (map byte_of s)) s) k.0 in
+    let ne = eqb-false (left_by (map byte_of s)) 0 both.0 in
+    record { left = k.2; some = omega (arith, k.2); clean = ap (λ (m : ℕ). unsound_in m s) (sym k.2) ∙ both.1; there = k.1 }
 
 known_when : (s : List ℕ) (n : ℕ) → 1 ≤ length s → KnownBy s n → line_length s ≡ Known n
-known_when s n h k = let ne : eqb n 0 ≡ false = ne_eqb n 0 (λ z. omega (arith, k.some)) in answer s h ∙ rw (k.left, ne, k.clean, k.second, k.there)
+known_when s n h k = let ne : eqb n 0 ≡ false = ne_eqb n 0 (λ z. omega (arith, k.some)) in answer s h ∙ rw (k.left, ne, k.clean, k.there)
 
 -- ---- more characters
-
-refuted : (t : Bool) → (t ≡ true → ⊥) → t ≡ false
-refuted true n = absurd (n refl)
-refuted false n = refl
-
--- a second byte that is wrong stays wrong
-second_stays : (b : List ℕ) (k : ℕ) → k ≤ length b → wrong_second (take k b) ≡ true → wrong_second b ≡ true
-second_stays b k inside e =
-    let both = (and-eq-true_iff (ltb 1 (length (take k b))) (wrong_pair (at (take k b) 0) (at (take k b) 1))).0 e in
-    let there : 1 < k = omega (arith, length-take-le k b inside, ltb-true 1 (length (take k b)) both.0) in
-    rw (lt-ltb 1 (length b) (omega arith), ← get_or-take k b 0 0 (omega arith), ← get_or-take k b 1 0 there) both.1
-
-short_five : (b : List ℕ) → is_short b ≡ true → left_by b ≡ 5
-short_five b e = let first : at b 0 ≡ 0x10 = eqb-true _ _ e in rw first
-
--- and one that is right, or that the line does not have, stays so once all of the line is there
-second_past : (b : List ℕ) (k : ℕ) → 1 ≤ k → k ≤ length b → 0 < left_by (take k b) → left_by (take k b) ≤ k → wrong_second (take k b) ≡ false
-    → wrong_second b ≡ false
-second_past b k some inside left past e = by_test (ltb 1 k) two one
-  where
-    start : at (take k b) 0 ≡ at b 0
-    start = get_or-take k b 0 0 some
-
-    two : ltb 1 k ≡ true → wrong_second b ≡ false
-    two t =
-        let there = ltb-true 1 k t in
-        let pair : wrong_pair (at (take k b) 0) (at (take k b) 1) ≡ false = rw (lt-ltb 1 (length (take k b)) (omega (arith, length-take-le k b inside))) at e in
-        let same : wrong_pair (at b 0) (at b 1) ≡ false = rw (start, get_or-take k b 1 0 there) at pair in
-        rw same (and-false (ltb 1 (length b)))
-
-    one : ltb 1 k ≡ false → wrong_second b ≡ false
-    one t =
-        let alone = ltb-false 1 k t in
-        let short : eqb (at b 0) 0x10 ≡ false = refuted (eqb (at b 0) 0x10) (λ s. omega (arith, short_five (take k b) (rw start s))) in
-        let long : eqb (at b 0) 0x68 ≡ false = refuted (eqb (at b 0) 0x68) (λ s. omega (arith, long_six (take k b) left (rw start s))) in
-        rw (short, long) (and-false (ltb 1 (length b)))
 
 module _ (w : List ℕ) (k : ℕ) (inside : k ≤ length w) where
   abbrev few : List ℕ
@@ -125,17 +75,16 @@ module _ (w : List ℕ) (k : ℕ) (inside : k ≤ length w) where
   none_stays e =
       let there = told_some (take k w) (λ y. let z : ◌≡◌ {A = ℕ} 0 1 = cc in omega arith) in
       let some = few_some there in
-      let bad : (eqb (left_by few) 0 || unsound_in (left_by few) (take k w) || wrong_second few) ≡ true =
+      let bad : (eqb (left_by few) 0 || unsound_in (left_by few) (take k w)) ≡ true =
       Beginnings.none_by _ (lacks_count few) (left_by few) (rw (map_take byte_of k w) at (sym (answer (take k w) there) ∙ e)) in
       answer w (omega arith) ∙ by_test (eqb (left_by all) 0) (λ t. rw t)
       (λ t. let ne = eqb-false (left_by all) 0 t in
       let left : 0 < left_by all = omega arith in
-      let some_left : eqb (left_by few) 0 ≡ false = ne_eqb (left_by few) 0 (λ z. omega (arith, left_before all k some there_all left)) in
+      let unsound : unsound_in (left_by few) (take k w) ≡ true =
+      rw (ne_eqb (left_by few) 0 (λ z. omega (arith, left_before all k some there_all left))) at bad in
       rw t (by_test (unsound_in (left_by all) w) (λ u. rw u)
       (λ u. let both = neither (any over (take (left_by all) w)) (any odd (take (left_by all) w)) u in
-      let sound : unsound_in (left_by few) (take k w) ≡ false =
-      Beginnings.sound_first w (left_by few) (left_by all) k (left_grows all k some there_all left) both.0 both.1 in
-      rw (u, second_stays all k there_all (rw (some_left, sound) at bad)))))
+      absurd (true≢false (sym unsound ∙ Beginnings.sound_first w (left_by few) (left_by all) k (left_grows all k some there_all left) both.0 both.1)))))
 
   -- the second byte is there where it is asked for
   second_there : lacks_count few ≡ false → is_long few ≡ true → 2 ≤ k
@@ -170,16 +119,13 @@ module _ (w : List ℕ) (k : ℕ) (inside : k ≤ length w) where
         there = by_test (is_long all)
             (λ l. rw (le-ltb (length all) 2 (omega (arith, there_all, there_few n e (same_long all k some there_all ∙ l))), and-false))
             (λ l. rw l);
-        second =
-            second_past all k some there_all (omega (arith, left_few n e, a.some)) (omega (arith, left_few n e))
-            (ap wrong_second (sym (map_take byte_of k w)) ∙ a.second);
       })
 
 -- two characters tell
 pub knows_after_two : (s : List ℕ) → 2 ≤ length s → line_length s ≢ NotYet
 knows_after_two s h e =
     let b = map byte_of s in
-    let lacks : lacks_count b ≡ true = Beginnings.not_yet_by (none s) (lacks_count b) (left_by b) (sym (answer s (omega arith)) ∙ e) in
+    let lacks : lacks_count b ≡ true = Beginnings.not_yet_by (eqb (left_by b) 0 || unsound_in (left_by b) s) _ _ (sym (answer s (omega arith)) ∙ e) in
     let few = ltb-true (length b) 2 ((and-eq-true_iff (is_long b) (ltb (length b) 2)).0 lacks).1 in
     omega (arith, length-map s byte_of)
 
@@ -187,15 +133,14 @@ knows_after_two s h e =
 pub knows_after_one : (s : List ℕ) → 1 ≤ length s → at (map byte_of s) 0 ≢ 0x68 → line_length s ≢ NotYet
 knows_after_one s h n e =
     let b = map byte_of s in
-    let lacks : lacks_count b ≡ true = Beginnings.not_yet_by (none s) (lacks_count b) (left_by b) (sym (answer s h) ∙ e) in
+    let lacks : lacks_count b ≡ true = Beginnings.not_yet_by (eqb (left_by b) 0 || unsound_in (left_by b) s) _ _ (sym (answer s h) ∙ e) in
     n (eqb-true _ _ ((and-eq-true_iff (is_long b) (ltb (length b) 2)).0 lacks).0)
 
 -- ---- accepted lines
 
 -- an accepted line is known by all of its characters
-pub accepted_known : (l : List ℕ) → Accepted l → line_length l ≡ Known (length l)
-accepted_known l a =
-    let f : Sound Framed l = line_code.sound l a in
+sound_known : (l : List ℕ) → Sound Framed l → line_length l ≡ Known (length l)
+sound_known l f =
     let b = map byte_of l in
     let left = left_framed b f.bytes in
     let some = framed_some b f.bytes in
@@ -204,8 +149,10 @@ accepted_known l a =
       some = omega (arith, length-map l byte_of);
       clean = ap (λ (s : List ℕ). any over s || any odd s) (take-length l) ∙ ap₂ ◌||◌ f.in_range f.even;
       there = by_test (is_long b) (λ t. rw (le-ltb (length b) 2 (omega (arith, long_six b some t)), and-false)) (λ t. rw t);
-      second = second_accepted l a;
     })
+
+pub accepted_known : (l : List ℕ) → Accepted l → line_length l ≡ Known (length l)
+accepted_known l a = sound_known l (line_code.sound l a)
 
 -- first characters that agree with an accepted line: not refused, and where they tell a length it is the line's
 module _ (f l : List ℕ) (agree : Agree f l) (a : Accepted l) where

@@ -1,11 +1,11 @@
 -- Laws of `specs/Wholes`: the ways out of the functions.
-use Prim.Native.Nat.{ℕ, ◌≤◌, ◌<◌}
-use mathlib.Core.Bool.{Bool, true, false, cond, not, ◌&&◌, ◌||◌, or-true, or-false, and-false}
+use Prim.Native.Nat.{ℕ, ◌<◌}
+use mathlib.Core.Bool.{Bool, true, false, cond, ◌&&◌, ◌||◌}
 use mathlib.Core.List.{List, map}
 use mathlib.Core.Path.{◌≡◌, refl, sym, ap, ◌∙◌}
 use native.Mathlib.Omega.{arith}
-use borrow.Author.Tests.{eq-eqb, ne_eqb, le-ltb, lt-ltb}
-use lib.Dec.{eqb}
+use borrow.Author.Tests.{eq-eqb, ne_eqb}
+use lib.Dec.{eqb, ltb}
 use lib.ListN.{length, take, length-map}
 use lib.Seq.{take_all}
 use Rattle.base_rules.specs.Lists.{at, any}
@@ -16,7 +16,7 @@ use Rattle.base_rules.specs.declared.Outcome.TheVariants.{Accepted, Refused}
 use Rattle.base_characters.specs.Gathering.{sound}
 use Rattle.mbus_length.specs.declared.HowLong.TheVariants.{Known, NotYet, NoLine}
 use Rattle.mbus_shape.specs.First.{left_by}
-use Rattle.mbus_length.specs.Lengths.{unsound_in, is_length, wrong_pair, wrong_second, lacks_count, line_length}
+use Rattle.mbus_length.specs.Lengths.{unsound_in, lacks_count, line_length}
 
 -- ---- the characters that are there
 
@@ -53,46 +53,15 @@ module _ (s : List ℕ) where
     unfolding line_length
     whole_refused z = rw (ne_eqb _ _ some, ← e, z)
 
-    module _ (left : n ≡ 0 → ⊥) where
-      pub whole-second : wrong_second (map byte_of s) ≡ true → NoLine ≡ line_length s
+    module _ (left : n ≡ 0 → ⊥) {u : Bool} (f : u ≡ unsound_in n s) where
+      pub whole-unsound : u ≡ true → NoLine ≡ line_length s
       unfolding line_length
-      whole-second t = rw (ne_eqb _ _ some, ← e, ne_eqb _ _ left, t, or-true)
+      whole-unsound t = rw (ne_eqb _ _ some, ← e, ne_eqb _ _ left, ← f, t)
 
-      module _ {u : Bool} (f : u ≡ unsound_in n s) where
-        pub whole-unsound : u ≡ true → NoLine ≡ line_length s
+      module _ (h : u ≡ false) {start : ℕ} (g : start ≡ at (map byte_of s) 0) {lacks : Bool} (k : (eqb start 0x68 && ltb (length s) 2) ≡ lacks) where
+        lacking : lacks_count (map byte_of s) ≡ lacks
+        lacking = rw (length-map s byte_of, ← g) k
+
+        pub whole-lacking : cond lacks NotYet (Known n) ≡ line_length s
         unfolding line_length
-        whole-unsound t = rw (ne_eqb _ _ some, ← e, ne_eqb _ _ left, ← f, t)
-
-        pub whole_told : u ≡ false → wrong_second (map byte_of s) ≡ false → {lacks : Bool} → lacks_count (map byte_of s) ≡ lacks
-            → cond lacks NotYet (Known n) ≡ line_length s
-        unfolding line_length
-        whole_told h second lacking = rw (ne_eqb _ _ some, ← e, ne_eqb _ _ left, ← f, h, second, lacking)
-
-  -- ---- the second byte
-
-  module _ {start : ℕ} (g : start ≡ at (map byte_of s) 0) where
-    pub lacks_second : length s < 2 → start ≡ 0x68 → lacks_count (map byte_of s) ≡ true
-    lacks_second h e = rw (length-map s byte_of, ← g, e, lt-ltb (length s) 2 h)
-
-    pub no_second : length s < 2 → (start ≡ 0x68 → ⊥) → lacks_count (map byte_of s) ≡ false
-    no_second h e = rw (← g, ne_eqb _ _ e)
-
-    pub second_there : 2 ≤ length s → {second : ℕ} → second ≡ at (map byte_of s) 1 → {v : Bool} → v ≡ wrong_pair start second
-        → wrong_second (map byte_of s) ≡ v
-    second_there h f e = rw (length-map s byte_of, lt-ltb 1 (length s) h, ← g, ← f, e)
-
-  pub second_early : length s < 2 → wrong_second (map byte_of s) ≡ false
-  second_early h = rw (length-map s byte_of, le-ltb 1 (length s) (omega arith))
-
-  pub second_told : 2 ≤ length s → lacks_count (map byte_of s) ≡ false
-  second_told h = rw (length-map s byte_of, le-ltb (length s) 2 h, and-false)
-
--- the pair that the code asks about
-pub long_pair : {start : ℕ} (second : ℕ) {r : Bool} → start ≡ 0x68 → r ≡ is_length second → not r ≡ wrong_pair start second
-long_pair second e f = rw (e, f)
-
-pub other_pair : (start second : ℕ) → (start ≡ 0x68 → ⊥) → (eqb start 0x10 && not (eqb second 0x5B)) ≡ wrong_pair start second
-other_pair start second n = rw (ne_eqb start 0x68 n) (sym (or-false (eqb start 0x10 && not (eqb second 0x5B))))
-
-pub not_none : {n : ℕ} → 2 ≤ n → n ≡ 0 → ⊥
-not_none h e = omega arith
+        whole-lacking = rw (ne_eqb _ _ some, ← e, ne_eqb _ _ left, ← f, h, lacking)

@@ -1,5 +1,4 @@
 -- `bundle_adding::bodies::move_by_twelve` meets its contract: the loop moves from the end down.
-use Prim.Native.Nat.{◌-◌}
 use Rattle.bundle_adding.proofs.Laws.Writing.{shifting_none, shifting_next, shifting_all}
 use Rattle.bundle_adding.proofs.bodies.move_by_twelve.Goals as goal
 

@@ -4,7 +4,7 @@ use Rattle.bundle_adding.proofs.Laws.Writing.{Shifting}
 use Rattle.bundle_adding.proofs.bodies.move_by_twelve.Given as goal
 
 abbrev pub invariant-loop-i : goal.invariant-loop-i
-invariant-loop-i l = Shifting 12 l.initial.buffer l.from l.to l.i l.buffer
+invariant-loop-i l = Shifting l.initial.buffer l.from l.to l.i l.buffer
 
 abbrev pub decreases-loop-i : goal.decreases-loop-i
 decreases-loop-i l = l.i - l.from

@@ -2,7 +2,7 @@
 use mathlib.Core.Path.{ap, ◌∙◌}
 use native.Mathlib.Omega.{arith}
 use Rattle.bundle_rows.specs.declared.Row.{Row}
-use Rattle.bundle_adding.proofs.Laws.Grown.{end_row, end_whole}
+use Rattle.bundle_adding.proofs.Laws.Opened.{end_row, end_whole}
 use Rattle.bundle_adding.proofs.placing.bodies_end.Goals as goal
 
 pub returns-then-place-count : goal.returns-then-place-count

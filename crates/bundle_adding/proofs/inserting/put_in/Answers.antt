@@ -1,4 +1,4 @@
--- `bundle_adding::put_in` meets its contract: what the steps leave is the bundle with a row more.
+-- `bundle_adding::inserting::put_in` meets its contract: what the steps leave is the bundle with a row more.
 use Prim.Native.Nat.{◌≤◌}
 use mathlib.Core.Path.{sym}
 use native.Mathlib.Omega.{arith}
@@ -7,9 +7,10 @@ use lib.Seq.{length-take-le}
 use Rattle.bundle_rows.specs.Rows.{first_offset}
 use Rattle.bundle_check.specs.Records.{Recorded}
 use Rattle.bundle_adding.specs.Adding.{new_record}
-use Rattle.bundle_adding.proofs.Laws.Grown.{old_first, at_held, steps_held}
-use Rattle.bundle_adding.proofs.put_in.Goals.{Start}
-use Rattle.bundle_adding.proofs.put_in.Goals as goal
+use Rattle.bundle_adding.proofs.Laws.Grown.{old_first}
+use Rattle.bundle_adding.proofs.Laws.Opened.{at_held, steps_held}
+use Rattle.bundle_adding.proofs.inserting.put_in.Goals.{Start}
+use Rattle.bundle_adding.proofs.inserting.put_in.Goals as goal
 
 abbrev row : Start → Recorded
 row c = new_record c.args.position c.args.direction c.args.time c.args.body.now
@@ -33,12 +34,12 @@ open_bodies-requires c =
       c.requires.3,
     )
 
-pub grow_contents-requires : goal.grow_contents-requires
-grow_contents-requires c =
-    (c.requires.1, c.requires.2, omega (arith, first (goal.at.grow_contents-requires c).Start, c.requires.3, c.open_bodies.auto.0))
+pub open_contents-requires : goal.open_contents-requires
+open_contents-requires c =
+    (c.requires.1, c.requires.2, omega (arith, first (goal.at.open_contents-requires c).Start, c.requires.3, c.open_bodies.auto.buffer))
 
 pub returns : goal.returns
 returns c =
     let a = c.args in
-    rw (c.grow_contents.ensures, c.open_bodies.ensures, c.bodies_end-at.ensures)
+    rw (c.open_contents.ensures, c.open_bodies.ensures, c.bodies_end-at.ensures)
     (steps_held a.buffer.now a.filled a.count (inside (goal.at.returns c).Start) c.requires.0 (row (goal.at.returns c).Start) a.place c.requires.3)

@@ -1,8 +1,8 @@
--- `host_bundle::skarrowith_bundle_insert` meets its contract, by the two cases of inserting. Assumes nothing.
+-- `host_bundle::inserting::skarrowith_bundle_insert` meets its contract, by the two cases of inserting. Assumes nothing.
 use borrow.Author.Rules.{rules}
 use Rattle.host_bundle.proofs.Laws.Bundled.{inserts_value, inserts_number}
-use Rattle.host_bundle.proofs.skarrowith_bundle_insert.Statement.{statement}
-use Rattle.host_bundle.proofs.skarrowith_bundle_insert.Tie as tie
+use Rattle.host_bundle.proofs.inserting.skarrowith_bundle_insert.Statement.{statement}
+use Rattle.host_bundle.proofs.inserting.skarrowith_bundle_insert.Tie as tie
 
 returns : tie.Need-returns
 returns c =

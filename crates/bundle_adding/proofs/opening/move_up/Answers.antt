@@ -1,7 +1,6 @@
--- `bundle_adding::bodies::move_up` meets its contract: the loop moves from the end down.
-use Prim.Native.Nat.{◌-◌}
-use Rattle.bundle_adding.proofs.Laws.Writing.{shifting_none, shifting_next, shifting_all}
-use Rattle.bundle_adding.proofs.bodies.move_up.Goals as goal
+-- `bundle_adding::opening::move_up` meets its contract: the loop moves from the end down.
+use Rattle.bundle_adding.proofs.Laws.Opening.{shifting_none, shifting_next, shifting_all}
+use Rattle.bundle_adding.proofs.opening.move_up.Goals as goal
 
 pub loop-i-init : goal.loop-i-init
 loop-i-init c = shifting_none c.requires.0 c.requires.1

@@ -1,9 +1,0 @@
--- `bundle_adding::bodies::open_bodies` meets its contract: what the two steps leave, one upon the other.
-use Rattle.bundle_adding.proofs.Laws.Writing.{bodies_opened_lem}
-use Rattle.bundle_adding.proofs.bodies.open_bodies.Goals as goal
-
-pub returns : goal.returns
-returns c =
-    let a = c.args in
-    rw (c.move_bodies.ensures, c.move_up.ensures)
-    (bodies_opened_lem a.from a.at a.to a.body.now a.buffer.now c.requires.0 c.requires.1 c.requires.2)

@@ -1,9 +1,0 @@
--- `bundle_adding::growing::open_row` meets its contract: what the two steps leave, one upon the other.
-use Rattle.bundle_adding.proofs.Laws.Writing.{row_opened_lem}
-use Rattle.bundle_adding.proofs.growing.open_row.Goals as goal
-
-pub returns : goal.returns
-returns c =
-    let a = c.args in
-    rw (c.lay.ensures, c.row_bytes.ensures, c.move_by_twelve.ensures)
-    (row_opened_lem a.count a.place a.row a.buffer.now c.requires.1 c.requires.2)

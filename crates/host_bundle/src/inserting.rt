@@ -1,0 +1,27 @@
+// Inserting a row into a run bundle for the bench host.
+ghost use Rattle.bundle_adding.specs.Adding.{new_record};
+ghost use Rattle.host_bundle.specs.Bundled.{InsertsIn};
+
+use bundle_adding::Added;
+use bundle_adding::inserting::insert;
+
+// 0, the row at its place in time and how many bytes the bundle then fills, or 256 plus 30 to 38.
+pub fn skarrowith_bundle_insert(
+    buffer: &mut [u8],
+    filled: &mut usize,
+    position: u8,
+    direction: u8,
+    time: u32,
+    body: &[u8],
+) -> u32
+    ensures { InsertsIn buffer.old filled.old (new_record position direction time body.now) result buffer.new
+        filled.new }
+{
+    match insert(buffer, *filled, position, direction, time, body) {
+        Added::Filled(bytes) => {
+            *filled = bytes;
+            0
+        },
+        Added::Refused(number) => 256 + number as u32,
+    }
+}
