@@ -1,4 +1,6 @@
 // The Gregorian calendar.
+#![tactic(auto)]
+
 ghost use Rattle.std.specs.Prelude.{◌≡◌};
 ghost use Rattle.base_calendar.specs.Months.{days_in};
 

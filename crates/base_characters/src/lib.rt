@@ -1,6 +1,8 @@
 // The edge between characters and bytes. A line's characters come as numbers, or as bytes, two per character, low byte first; the rules
 // behind 3 are rules on bytes. One walk over a line gathers range, parity and sum and stores the bytes; it only gathers, so that the back
 // end can take many characters at a time.
+#![tactic(auto)]
+
 ghost use Rattle.std.specs.Prelude.{◌≡◌, ◌+◌, ◌%◌, [], ◌∷◌, if◌then◌else◌, bit_or, nat_lt};
 ghost use Rattle.base_rules.specs.Lists.{total};
 ghost use Rattle.base_characters.specs.Characters.{odd};

@@ -1,4 +1,6 @@
 // Packed digits, read from a word of eight bytes and written two in a byte.
+#![tactic(auto)]
+
 ghost use Rattle.std.specs.Prelude.{◌≡◌, ◌+◌, ◌*◌, ◌/◌, ◌%◌};
 ghost use Rattle.base_rules.specs.Lists.{any};
 ghost use Rattle.base_digits.specs.Digits.{over_nine, digits_of, packed_of};

@@ -1,4 +1,6 @@
 // Bytes that a caller lends: compared, and copied to a place if they fit there.
+#![tactic(auto)]
+
 ghost use Rattle.std.specs.Prelude.{◌≡◌, ◌+◌, ltb, length};
 ghost use Rattle.base_lent.specs.Copying.{copied};
 ghost use Rattle.base_lent.specs.Same.{same};

@@ -1,4 +1,6 @@
 // Numbers low byte first: from bytes, and to them.
+#![tactic(auto)]
+
 ghost use Rattle.std.specs.Prelude.{◌≡◌, ◌+◌, ◌*◌, ◌≤◌, min, ltb, length, get_or};
 ghost use Rattle.base_lent.specs.Copying.{laid, copied};
 ghost use Rattle.base_numbers.specs.Numbers.{number, bytes_of, Numbered};

@@ -1,5 +1,5 @@
 -- 01, "Refusal numbers": a refusal hands back the number alone.
-use Rattle.std.specs.Prelude.{ℕ, Bool, cond, ◌-◌}
+use Rattle.std.specs.Prelude.{ℕ, Bool, cond}
 use Rattle.base_rules.specs.declared.Outcome.{Outcome}
 use Rattle.base_rules.specs.declared.Outcome.TheVariants.{Accepted, Refused}
 

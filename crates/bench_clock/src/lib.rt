@@ -1,4 +1,6 @@
 // The line clock of document 01, the wake-up that opens an optical interface, and the gap between the two.
+#![tactic(auto)]
+
 ghost use Rattle.std.specs.Prelude.{◌≡◌, ◌-◌};
 ghost use Rattle.base_characters.specs.Characters.{chars};
 ghost use Rattle.base_lent.specs.Lent.{stored};

@@ -1,4 +1,6 @@
 // The error of indication of document 01, by formulas A.1 and B.1 of 000.
+#![tactic(auto)]
+
 ghost use Rattle.std.specs.Prelude.{◌≡◌, ◌≤◌, ◌<◌, ◌^◌, pos, neg_ℤ};
 ghost use Rattle.base_numbers.specs.Rounding.{nearest};
 ghost use Rattle.bench_indication.specs.Errors.{tenths, indication_of, rise_most, shown_indication};

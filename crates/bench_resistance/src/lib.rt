@@ -1,4 +1,6 @@
 // Setting the resistance box: a Pt1000 resistance for a temperature in hundredths of a degree, 0 to 200 °C, and the other way round.
+#![tactic(auto)]
+
 ghost use Rattle.std.specs.Prelude.{◌≡◌, ◌+◌, ◌≤◌, ◌<◌};
 ghost use Rattle.bench_resistance.specs.Resistances.{stored_for, card, line, resistance_of, temperature_of, shown_resistance, shown_temperature};
 

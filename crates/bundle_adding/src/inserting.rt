@@ -99,9 +99,7 @@ pub fn insert(
         return Added::Refused(30);
     }
     match check(&buffer[..filled]) {
-        Checked::Rows(count) => insert_row(
-            buffer, filled, count, position, direction, time, body,
-        ),
+        Checked::Rows(count) => insert_row(buffer, filled, count, position, direction, time, body),
         Checked::Refused(number) => Added::Refused(number),
     }
 }

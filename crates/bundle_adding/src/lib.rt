@@ -1,4 +1,6 @@
 // Adding a row to a run bundle of document 01, in the caller's own buffer.
+#![tactic(auto)]
+
 ghost use Rattle.std.specs.Prelude.{◌≡◌, ◌+◌, ◌≤◌, length, take};
 ghost use Rattle.base_rules.specs.Answers.{reads};
 ghost use Rattle.bundle_check.specs.Bundles.{most_bytes, contents_of, check_of};

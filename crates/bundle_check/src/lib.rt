@@ -1,4 +1,6 @@
 // The run bundle of document 01, on lent bytes: checking it, and what it holds.
+#![tactic(auto)]
+
 ghost use Rattle.std.specs.Prelude.{◌≡◌, ◌≤◌, length};
 ghost use Rattle.bundle_rows.specs.Rows.{most_rows, first_offset};
 ghost use Rattle.base_rules.specs.Answers.{reads};

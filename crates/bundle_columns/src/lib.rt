@@ -1,4 +1,6 @@
 // The contents of a run bundle kept in columns (2026-10 of document 02): a count and five lists of 512 places, as the bytes of their record.
+#![tactic(auto)]
+
 ghost use Rattle.std.specs.Prelude.{◌≡◌, ◌<◌, length};
 ghost use Rattle.bundle_rows.specs.Rows.{most_rows};
 ghost use Rattle.bundle_check.specs.RowsShown.{shown_row, shown_body};

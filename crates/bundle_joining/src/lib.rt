@@ -1,4 +1,6 @@
 // The rows of two bundles by time, as one bundle in a third buffer.
+#![tactic(auto)]
+
 ghost use Rattle.std.specs.Prelude.{◌≡◌};
 ghost use Rattle.base_rules.specs.Answers.{reads};
 ghost use Rattle.bundle_check.specs.Bundles.{check_of};

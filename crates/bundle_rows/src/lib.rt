@@ -1,4 +1,6 @@
 // The contents rows of a run bundle of document 01, each read where it stands, and the ranges of their fields.
+#![tactic(auto)]
+
 ghost use Rattle.std.specs.Prelude.{◌≡◌, ◌+◌, ◌≤◌, min, length, take, drop};
 ghost use Rattle.base_characters.specs.Characters.{chars};
 ghost use Rattle.bundle_rows.specs.Fields.{wrong_position, wrong_field};

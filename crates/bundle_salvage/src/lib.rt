@@ -1,4 +1,6 @@
 // Salvaging a run bundle cut short (2026-11 of document 02) into a second buffer.
+#![tactic(auto)]
+
 ghost use Rattle.std.specs.Prelude.{◌≡◌};
 ghost use Rattle.base_rules.specs.Answers.{reads};
 ghost use Rattle.bundle_check.specs.Bundles.{count_of, opened};

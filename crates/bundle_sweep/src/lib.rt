@@ -1,4 +1,6 @@
 // The sweep of a run bundle (2026-12 of document 02), in the caller's own buffer.
+#![tactic(auto)]
+
 ghost use Rattle.std.specs.Prelude.{◌≡◌, length};
 ghost use Rattle.base_rules.specs.Answers.{reads};
 ghost use Rattle.base_lent.specs.Copying.{laid};

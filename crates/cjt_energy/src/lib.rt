@@ -1,4 +1,6 @@
 // An energy value of a CJ/T 188 meter turned into an M-Bus entry.
+#![tactic(auto)]
+
 ghost use Rattle.std.specs.Prelude.{◌≡◌, true, ◌*◌, ◌/◌};
 ghost use Rattle.cjt_rules.specs.CjtUnits.{energy_code};
 ghost use Rattle.cjt_energy.specs.Energies.{unit_for, code_digit, entry_digit, entry_for, shown_entry};

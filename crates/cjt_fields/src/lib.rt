@@ -1,4 +1,6 @@
 // The parts of a CJ/T 188 telegram, each with the test of its rule: reader, writer and conversion share them.
+#![tactic(auto)]
+
 ghost use Rattle.std.specs.Prelude.{◌≡◌};
 ghost use Rattle.cjt_rules.specs.CjtAddresses.{heat_type};
 ghost use Rattle.cjt_rules.specs.CjtClocks.{wrong_clock};

@@ -1,4 +1,6 @@
 // CJ/T 188 line reading: the whole answer of 02's rules, and which telegram a line is.
+#![tactic(auto)]
+
 ghost use Rattle.std.specs.Prelude.{◌≡◌};
 ghost use Rattle.cjt_rules.specs.CjtLines.{read_cjt_line};
 ghost use Rattle.cjt_rules.specs.CjtOutlines.{cjt_shown};

@@ -1,4 +1,6 @@
 // The record of a CJ/T 188 telegram.
+#![tactic(auto)]
+
 ghost use Rattle.std.specs.Prelude.{◌≡◌, ◌++◌, ◌+◌, ◌≤◌, length};
 ghost use Rattle.base_lent.specs.Pieces.{pieces};
 ghost use Rattle.base_numbers.specs.Numbers.{bytes_of};

@@ -1,4 +1,5 @@
 // What 02, 2026-08, with documents 001 and 002, says of a CJ/T 188 line: here the types, in specs/ the definitions.
+#![tactic(auto)]
 
 // The address that a request names: one meter, fourteen digits as a number, or every meter.
 #[derive(Clone, Copy)]

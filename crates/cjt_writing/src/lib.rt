@@ -1,4 +1,6 @@
 // Writing of CJ/T 188 lines.
+#![tactic(auto)]
+
 ghost use Rattle.std.specs.Prelude.{length};
 ghost use Rattle.cjt_rules.specs.CjtWriting.{write_cjt_line};
 ghost use Rattle.base_characters.specs.Carrying.{Writes};

@@ -1,4 +1,6 @@
 // The record of an exchange, or of none: bytes of a fixed size, numbers low byte first.
+#![tactic(auto)]
+
 ghost use Rattle.std.specs.Prelude.{◌≡◌, length};
 ghost use Rattle.exchange_steps.specs.Steps.{shown_step};
 ghost use Rattle.exchange_record.specs.Exchanges.{request_bytes, cause_number, state_number, cause_in, exchange_head, exchange_bytes, request_of};

@@ -1,4 +1,6 @@
 // Which reply fits which request, whatever the state and the time.
+#![tactic(auto)]
+
 ghost use Rattle.std.specs.Prelude.{◌≡◌};
 ghost use Rattle.exchange_replies.specs.Fits.{ack_fits, data_fits, fits};
 

@@ -1,4 +1,6 @@
 // The exchange of document 01: a request, at most three sends of it, and how it ends; and one after another, as 2026-09 of document 02 has it.
+#![tactic(auto)]
+
 ghost use Rattle.std.specs.Prelude.{cond, ◌≡◌};
 ghost use Rattle.base_rules.specs.Answers.{reads};
 ghost use Rattle.mbus_rules.specs.Lines.{read_line};

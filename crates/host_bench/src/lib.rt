@@ -1,4 +1,6 @@
 // What a bench does around a line, for C: the wake-up, the gap after it, the error of indication. include/skarrowith.h says how.
+#![tactic(auto)]
+
 ghost use Rattle.std.specs.Prelude.{◌≡◌, [], ◌∷◌};
 ghost use Rattle.bench_clock.specs.Gaps.{gap_of};
 ghost use Rattle.bench_clock.specs.Wakes.{wake_of, wake_line};

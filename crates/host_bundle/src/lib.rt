@@ -1,4 +1,6 @@
 // The run bundle for the bench host, a C program: include/skarrowith.h says how its functions are called.
+#![tactic(auto)]
+
 ghost use Rattle.bundle_check.specs.Bundles.{check_of};
 ghost use Rattle.bundle_adding.specs.Adding.{new_record};
 ghost use Rattle.host_bundle.specs.Lent.{Gives};

@@ -1,4 +1,6 @@
 // Line checking for the bench host, a C program that calls it on bytes: include/skarrowith.h says how.
+#![tactic(auto)]
+
 ghost use Rattle.std.specs.Prelude.{◌≡◌};
 ghost use Rattle.mbus_rules.specs.Host.{host_number};
 ghost use Rattle.host_check.specs.Numbers.{outline_number};

@@ -1,4 +1,6 @@
 // CJ/T 188 lines and energies for C: include/skarrowith.h says how.
+#![tactic(auto)]
+
 ghost use Rattle.std.specs.Prelude.{length};
 ghost use Rattle.base_lent.specs.Lent.{done, Leaves};
 ghost use Rattle.cjt_rules.specs.CjtWriting.{write_cjt_line};

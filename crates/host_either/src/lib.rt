@@ -1,4 +1,6 @@
 // The line of whichever of a position's captures has one, for C: include/skarrowith.h says how.
+#![tactic(auto)]
+
 ghost use Rattle.host_either.specs.Finding.{FindsEither};
 
 use host_search::put_spot;

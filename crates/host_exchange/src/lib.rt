@@ -1,4 +1,6 @@
 // The exchange for C: include/skarrowith.h says how.
+#![tactic(auto)]
+
 ghost use Rattle.std.specs.Prelude.{◌≤◌, length};
 ghost use Rattle.mbus_rules.specs.Lines.{read_line};
 ghost use Rattle.mbus_rules.specs.Telegrams.{shown};

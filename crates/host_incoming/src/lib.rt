@@ -1,4 +1,6 @@
 // What a capture has, while it comes in and once it is there, for C: include/skarrowith.h says how.
+#![tactic(auto)]
+
 ghost use Rattle.std.specs.Prelude.{◌≡◌, ltb};
 ghost use Rattle.std.proofs.Math.ListN;
 ghost use Rattle.base_lent.specs.Copying.{copied};

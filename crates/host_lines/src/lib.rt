@@ -1,4 +1,6 @@
 // Lines for C, read into a telegram's record and written from it: include/skarrowith.h says how.
+#![tactic(auto)]
+
 ghost use Rattle.std.specs.Prelude.{length};
 ghost use Rattle.mbus_rules.specs.Writing.{write_line};
 ghost use Rattle.base_lent.specs.Lent.{Leaves};

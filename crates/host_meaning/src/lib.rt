@@ -1,5 +1,7 @@
 // What a bench host would otherwise look up, for C: the words for a refusal number, the meaning of a unit byte, and the library's version.
 // include/skarrowith.h says how.
+#![tactic(auto)]
+
 ghost use Rattle.std.specs.Prelude.{◌≡◌, [], ◌∷◌};
 ghost use Rattle.std.proofs.Math.IntN.{sub_ℕ};
 ghost use Rattle.base_lent.specs.Lent.{done, Leaves};

@@ -1,4 +1,6 @@
 // The simulated meter for C: include/skarrowith.h says how.
+#![tactic(auto)]
+
 ghost use Rattle.std.specs.Prelude.{◌≡◌, ◌≤◌, length};
 ghost use Rattle.meter_steps.specs.Meters.{heard_at};
 ghost use Rattle.host_meter.specs.Calls.{set_up_for, line_heard_for, measure_for, SetsUp, Steps, HearsLine};

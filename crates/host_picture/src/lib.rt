@@ -1,4 +1,6 @@
 // The picture of a run for the bench host, a C program: include/skarrowith.h says how it is called.
+#![tactic(auto)]
+
 ghost use Rattle.host_picture.specs.Pictured.{DrawsIn};
 
 use run_picture::{Drawn, draw};

@@ -1,4 +1,6 @@
 // The replay of a run bundle for the bench host, a C program: include/skarrowith.h says how its function is called.
+#![tactic(auto)]
+
 ghost use Rattle.std.specs.Prelude.{[], ◌∷◌};
 ghost use Rattle.base_lent.specs.Lent.{done, Leaves};
 ghost use Rattle.host_replay.specs.Calls.{replay_for};

@@ -1,4 +1,6 @@
 // The search of a capture for C: include/skarrowith.h says how.
+#![tactic(auto)]
+
 ghost use Rattle.std.specs.Prelude.{◌≡◌, ltb};
 ghost use Rattle.std.proofs.Math.ListN;
 ghost use Rattle.base_lent.specs.Copying.{copied};

@@ -1,4 +1,6 @@
 // The sweep of a run bundle for the bench host, a C program: include/skarrowith.h says how its function is called.
+#![tactic(auto)]
+
 ghost use Rattle.host_sweep.specs.Sweeping.{SweepsIn};
 
 use bundle_sweep::{Swept, sweep};

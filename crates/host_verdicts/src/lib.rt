@@ -1,4 +1,6 @@
 // The verdicts of the rows of a run for the bench host, a C program: include/skarrowith.h says how its functions are called.
+#![tactic(auto)]
+
 ghost use Rattle.std.specs.Prelude.{◌≡◌, ◌≤◌, ◌*◌, length};
 ghost use Rattle.bundle_rows.specs.Rows.{most_rows};
 ghost use Rattle.run_verdicts.specs.Answering.{verdicts_in, verdicts_kept};

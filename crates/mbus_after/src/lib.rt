@@ -1,4 +1,6 @@
 // The first accepted line of a capture that began at or after a time.
+#![tactic(auto)]
+
 ghost use Rattle.std.specs.Prelude.{◌≡◌, ◌+◌, drop};
 ghost use Rattle.mbus_search.specs.Searching.{found_shown};
 ghost use Rattle.mbus_after.specs.After.{early_first, began_since, find_from, find_after, after_shown};

@@ -1,4 +1,6 @@
 // Both interfaces on one position: the line of whichever capture has one, as a stretch of the caller's own memory.
+#![tactic(auto)]
+
 ghost use Rattle.std.specs.Prelude.{◌+◌, ◌≤◌, ◌≡◌};
 ghost use Rattle.std.proofs.Math.ListN;
 ghost use Rattle.mbus_search.specs.Searching.{spot_at};

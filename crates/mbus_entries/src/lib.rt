@@ -1,4 +1,6 @@
 // The entries of a data telegram.
+#![tactic(auto)]
+
 mod entry;
 
 ghost use Rattle.std.specs.Prelude.{◌≡◌, []};

@@ -1,4 +1,6 @@
 // When a line is whole: how many characters it has, by the first of them.
+#![tactic(auto)]
+
 ghost use Rattle.std.specs.Prelude.{◌≡◌};
 ghost use Rattle.mbus_length.specs.Lengths.{unsound_in, line_length};
 

@@ -1,4 +1,6 @@
 // Line reading. `outline_of` gives kind, address and method of a line, or its refusal; `read_line` the whole answer of 01's rules.
+#![tactic(auto)]
+
 ghost use Rattle.std.specs.Prelude.{◌≡◌, ◌≤◌, length};
 ghost use Rattle.mbus_rules.specs.Lines.{read_line};
 ghost use Rattle.mbus_rules.specs.Telegrams.{shown};

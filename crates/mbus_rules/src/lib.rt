@@ -1,4 +1,6 @@
 // What document 01 says of a line: here the types, in specs/ the definitions and the laws about them.
+#![tactic(auto)]
+
 use base_rules::Outcome;
 
 // The five telegrams.

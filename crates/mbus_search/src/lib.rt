@@ -1,4 +1,6 @@
 // The search for a line in a capture.
+#![tactic(auto)]
+
 ghost use Rattle.std.specs.Prelude.{◌≡◌, map};
 ghost use Rattle.mbus_search.specs.Searching.{accepts, find_in, found_shown};
 ghost use Rattle.base_characters.specs.Characters.{byte_of};

@@ -1,4 +1,6 @@
 // The shape of a line, on its bytes: the rules 4 to 9.
+#![tactic(auto)]
+
 ghost use Rattle.std.specs.Prelude.{◌≡◌, ◌+◌, ◌≤◌, [], ◌∷◌, length};
 ghost use Rattle.base_rules.specs.Answers.{refuse};
 ghost use Rattle.base_rules.specs.Lists.{at};

@@ -1,5 +1,7 @@
 // The five telegrams: those without header and entries, their methods and the address of all, the host's numbers of their kinds, and the
 // numbers of quantities and structures.
+#![tactic(auto)]
+
 ghost use Rattle.std.specs.Prelude.{◌≡◌};
 ghost use Rattle.base_rules.specs.Answers.{reads, refusal};
 ghost use Rattle.mbus_rules.specs.Lines.{is_method};

@@ -1,4 +1,6 @@
 // 20: the telegrams that no accepted line reads as.
+#![tactic(auto)]
+
 ghost use Rattle.std.specs.Prelude.{◌≡◌, take, drop, ◌^◌, ◌≤◌, not};
 ghost use Rattle.base_rules.specs.Lists.{any};
 ghost use Rattle.mbus_rules.specs.Quantities.{width_of};

@@ -1,4 +1,6 @@
 // Line writing.
+#![tactic(auto)]
+
 mod bytes;
 
 ghost use Rattle.std.specs.Prelude.{length};

@@ -1,4 +1,6 @@
 // The record of a simulated meter: bytes of a fixed size, numbers low byte first.
+#![tactic(auto)]
+
 ghost use Rattle.std.specs.Prelude.{◌≡◌, length, drop};
 ghost use Rattle.base_rules.specs.Answers.{refusal};
 ghost use Rattle.mbus_rules.specs.Lines.{is_method};

@@ -1,5 +1,7 @@
 // The simulated meter of document 01: set-up, line heard and measure, each with its whole answer. A meter goes in and comes back
 // by value; a refused step hands it back as it stood.
+#![tactic(auto)]
+
 ghost use Rattle.std.specs.Prelude.{◌≡◌};
 ghost use Rattle.meter_steps.specs.Meters.{begun_meter, set_up, heard_at, measured_at, shown_setup, shown_meter_step};
 

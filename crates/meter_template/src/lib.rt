@@ -1,4 +1,6 @@
 // The data template of a simulated meter, and its pairs of totals.
+#![tactic(auto)]
+
 ghost use Rattle.std.specs.Prelude.{◌≡◌, ◌||◌};
 ghost use Rattle.mbus_rules.specs.Quantities.{energy, volume};
 ghost use Rattle.meter_template.specs.Templates.{is_data_kind, holds, unfit_template, value_count, total_in, pair_in, counted, filled_entry, filled};

@@ -1,4 +1,6 @@
 // How far two points in time of document 01 are apart, in milliseconds.
+#![tactic(auto)]
+
 ghost use Rattle.std.specs.Prelude.{◌≡◌, ◌+◌, ◌-◌, ◌≤◌};
 ghost use Rattle.run_calendar.specs.Days.{year_days, month_days, days_before, milliseconds_at, interval};
 

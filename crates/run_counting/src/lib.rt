@@ -1,4 +1,6 @@
 // Which answers of a position count, by document 02's request 2026-04: a walk along the rows of a run bundle.
+#![tactic(auto)]
+
 ghost use Rattle.std.specs.Prelude.{◌≡◌, replicate};
 ghost use Rattle.base_rules.specs.Answers.{reads, refusal};
 ghost use Rattle.bundle_rows.specs.Rows.{most_rows};

@@ -1,4 +1,6 @@
 // The listing of a run bundle: its bytes, as document 01 words them.
+#![tactic(auto)]
+
 ghost use Rattle.std.specs.Prelude.{◌≡◌, ◌≤◌, length, take};
 ghost use Rattle.base_characters.specs.Characters.{chars};
 ghost use Rattle.text_filling.specs.Putting.{PutAt};

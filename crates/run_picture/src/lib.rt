@@ -1,4 +1,6 @@
 // The picture of a run bundle, as SVG text.
+#![tactic(auto)]
+
 ghost use Rattle.std.specs.Prelude.{◌≡◌, leb, length};
 ghost use Rattle.base_rules.specs.Answers.{reads};
 ghost use Rattle.bundle_check.specs.Bundles.{check_of};

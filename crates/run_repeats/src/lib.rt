@@ -1,4 +1,6 @@
 // Rows of a run bundle that repeat a reading: for each row the lowest earlier one with the same meter number and the same entries.
+#![tactic(auto)]
+
 ghost use Rattle.std.specs.Prelude.{◌≡◌, ◌≤◌, ◌<◌, length, get_or, replicate, take};
 ghost use Rattle.base_rules.specs.Answers.{reads};
 ghost use Rattle.base_lent.specs.Lent.{stored};

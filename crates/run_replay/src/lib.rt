@@ -1,4 +1,6 @@
 // The real-time method from the record, document 02's request 2026-04: the error by formula C.1 of 000, from a run bundle.
+#![tactic(auto)]
+
 ghost use Rattle.std.specs.Prelude.{◌≡◌};
 ghost use Rattle.bundle_check.specs.Records.{records_of};
 ghost use Rattle.bench_indication.specs.Errors.{shown_indication};

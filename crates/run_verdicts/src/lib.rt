@@ -1,4 +1,6 @@
 // The verdict of each row of a run bundle: what became of what was sent and heard, by the exchange of its position.
+#![tactic(auto)]
+
 ghost use Rattle.std.specs.Prelude.{◌≡◌};
 ghost use Rattle.base_rules.specs.Answers.{refusal};
 ghost use Rattle.run_verdicts.specs.Answering.{verdicts_in};

@@ -1,5 +1,7 @@
 // From a serial port to characters. With PARENB, INPCK and PARMRK set and IGNPAR and ISTRIP clear (termios(3)) a port marks the bytes that
 // came with wrong parity; what it hands over is taken apart again into characters with the parity bit as it was received.
+#![tactic(auto)]
+
 ghost use Rattle.std.specs.Prelude.{◌≡◌, drop};
 ghost use Rattle.base_characters.specs.Characters.{carrier};
 ghost use Rattle.serial_marks.specs.Marks.{wronged};

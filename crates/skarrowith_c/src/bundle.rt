@@ -53,7 +53,9 @@ pub extern "C" fn skarrowith_bundle_insert(
     ensures { InsertsIn buffer.old filled.old (new_record position direction time body.now) result buffer.new
         filled.new }
 {
-    host_bundle::inserting::skarrowith_bundle_insert(buffer, filled, position, direction, time, body)
+    host_bundle::inserting::skarrowith_bundle_insert(
+        buffer, filled, position, direction, time, body,
+    )
 }
 
 // 0, the rows removed and how many bytes the bundle then fills, or 256 plus 30 to 37.

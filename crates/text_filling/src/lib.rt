@@ -1,5 +1,7 @@
 // Text put into lent memory: bytes, numbers in decimal, and texts with holes for them. What has no room is left out and counted all the
 // same, so that one set of functions measures a text (in no memory at all) and writes it.
+#![tactic(auto)]
+
 ghost use Rattle.std.specs.Prelude.{◌≡◌, [], ◌∷◌, ◌+◌, ◌≤◌, length, get_or, drop};
 ghost use Rattle.text_filling.specs.Decimals.{decimal};
 ghost use Rattle.text_filling.specs.Holes.{filled_with};

@@ -1,4 +1,6 @@
 // Text put into lent memory by stretches: nowhere where there is no room, at once where there is room for all of it.
+#![tactic(auto)]
+
 ghost use Rattle.std.specs.Prelude.{◌≡◌, ◌+◌, length};
 ghost use Rattle.text_filling.specs.Decimals.{decimal};
 ghost use Rattle.text_filling.specs.Putting.{tallied, PutAt};

@@ -1,4 +1,6 @@
 // The words for a refusal number, those of documents 01 and 02 and the library's own.
+#![tactic(auto)]
+
 ghost use Rattle.std.specs.Prelude.{◌≡◌, ◌<◌, ◌≤◌, length, take, drop};
 ghost use Rattle.base_rules.specs.Answers.{reads};
 ghost use Rattle.text_words.specs.Refusals.{text_of};

@@ -1,5 +1,4 @@
 -- `base_lent::is_same` meets its contract: whether the bytes are alike up to the place that the loop has reached.
-use Prim.Native.Nat.{◌-◌}
 use native.Mathlib.Omega.{arith}
 use Rattle.base_lent.proofs.Laws.Same.{alike_none, alike_next, alike_all, differ_length}
 use Rattle.base_lent.proofs.is_same.Goals as goal

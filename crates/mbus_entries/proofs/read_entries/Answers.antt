@@ -22,10 +22,10 @@ turn c =
 ends : (c : Left-loop-at) → Ended c.args.rest.now c.loop-at.at c.loop-at-test.outcome
 ends c =
     elim c.loop-at-test.branch [
-      else-loop-at-test w ↦ whole (w.outcome-is ∙ c.loop-at.invariant.1) w.loop-at-test.false
-    | then-loop-at-test+in-Refused w ↦
-        refused w.in-Refused.n w.outcome-is
-        (halted c.loop-at.invariant.0 w.loop-at-test.true w.next_entry-next.ensures w.in-Refused.is)
+      | else-loop-at-test w ↦ whole (w.outcome-is ∙ c.loop-at.invariant.1) w.loop-at-test.false
+      | then-loop-at-test+in-Refused w ↦
+          refused w.in-Refused.n w.outcome-is
+          (halted c.loop-at.invariant.0 w.loop-at-test.true w.next_entry-next.ensures w.in-Refused.is)
     ]
 
 pub loop-at-init : goal.loop-at-init

@@ -22,22 +22,22 @@ none_yet c =
     let capture = c.args.capture.now in
     let rest = take (ListN.length capture - c.places.place) (drop c.places.place capture) in
     elim c.if-length-gt0.branch [
-      then-length-gt0+then-ended+else-loop-i-test w ↦ (
+      | then-length-gt0+then-ended+else-loop-i-test w ↦ (
         w.found-is ∙ w.loop-i.invariant.nothing,
         w.loop-i.invariant.none (omega (arith, w.loop-i-test.false)),
         ap ListN.length w.bytes-is ∙ w.loop-i.invariant.gathers.places,
       )
-    | then-length-gt0+then-ended+then-loop-i-test+then-c-counts_odd w ↦ (
+      | then-length-gt0+then-ended+then-loop-i-test+then-c-counts_odd w ↦ (
         w.found-is ∙ w.loop-i.invariant.nothing,
         walked_unsound w.loop-i.invariant (walked_on w.loop-i.invariant w.loop-i-test.true) w.counts_odd.ensures w.if-c-counts_odd.true,
         ap ListN.length w.bytes-is ∙ w.loop-i.invariant.gathers.places,
       )
-    | then-length-gt0+else-ended w ↦ (
+      | then-length-gt0+else-ended w ↦ (
         w.found-is ∙ c.places.invariant.0.nothing,
         walked_open rest c.left_by-length.ensures w.is_ended-ended.ensures w.if-ended.false,
         ap ListN.length w.bytes-is ∙ c.places.invariant.1,
       )
-    | else-length-gt0 w ↦ (
+      | else-length-gt0 w ↦ (
         w.found-is ∙ c.places.invariant.0.nothing,
         walked_no rest c.left_by-length.ensures (λ p. omega (arith, w.if-length-gt0.false)),
         ap ListN.length w.bytes-is ∙ c.places.invariant.1,
@@ -89,12 +89,11 @@ loop-i-preserved c =
     c.counts_odd.ensures c.if-c-counts_odd.false c.if-i-length.false)
 
 pub places-preserved : goal.places-preserved
-places-preserved c =
-    (
-      searched_next c.places.invariant.0 (none_yet (goal.at.places-preserved c).Joined-length-gt0).0 c.places-test.true
-          (none_yet (goal.at.places-preserved c).Joined-length-gt0).1,
-      (none_yet (goal.at.places-preserved c).Joined-length-gt0).2,
-    )
+places-preserved c = (
+  searched_next c.places.invariant.0 (none_yet (goal.at.places-preserved c).Joined-length-gt0).0 c.places-test.true
+      (none_yet (goal.at.places-preserved c).Joined-length-gt0).1,
+  (none_yet (goal.at.places-preserved c).Joined-length-gt0).2,
+)
 
 pub returns-after-places : goal.returns-after-places
 returns-after-places c = searched_all c.places.invariant.0 c.places-test.false

@@ -24,8 +24,8 @@ loop-i-preserved c =
     let h = c.loop-i-test.true in
     let e = c.unchecked_row-row.ensures in
     elim c.if-own.branch [
-      then-own w ↦ rw (w.rows-is, w.bytes-is) (measured_own g h e (eq-eqb _ _ w.if-own.true))
-    | else-own w ↦ rw (w.rows-is, w.bytes-is) (measured_other g h e (ne_eqb _ _ w.if-own.false))
+      | then-own w ↦ rw (w.rows-is, w.bytes-is) (measured_own g h e (eq-eqb _ _ w.if-own.true))
+      | else-own w ↦ rw (w.rows-is, w.bytes-is) (measured_other g h e (ne_eqb _ _ w.if-own.false))
     ]
 
 pub returns : goal.returns

@@ -40,8 +40,8 @@ loop-i-preserved c =
     let h = c.loop-i-test.true in
     let e = c.unchecked_row-row.ensures in
     elim c.if-own.branch [
-      then-own w ↦ rw (w.out-is, w.at-is, w.k-is) (choosing_own g h e (eq-eqb _ _ w.if-own.true) w.put_row-at.ensures.0 w.put_row-at.ensures.1)
-    | else-own w ↦ rw (w.out-is, w.at-is, w.k-is) (choosing_other g h e (ne_eqb _ _ w.if-own.false))
+      | then-own w ↦ rw (w.out-is, w.at-is, w.k-is) (choosing_own g h e (eq-eqb _ _ w.if-own.true) w.put_row-at.ensures.0 w.put_row-at.ensures.1)
+      | else-own w ↦ rw (w.out-is, w.at-is, w.k-is) (choosing_other g h e (ne_eqb _ _ w.if-own.false))
     ]
 
 pub shape_of-out : goal.shape_of-out

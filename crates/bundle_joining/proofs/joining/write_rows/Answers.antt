@@ -46,12 +46,12 @@ loop-k-preserved c =
     let h = c.loop-k-test.true in
     let e = sym c.is_from_b-of_b.ensures in
     elim c.if-of_b.branch [
-      then-of_b w ↦
-        rw (w.out-is, w.at-is, w.i-is, w.j-is)
-        (joining-b g h (e ∙ w.if-of_b.true) w.unchecked_row-row.ensures w.put_row-at.ensures.0 w.put_row-at.ensures.1)
-    | else-of_b w ↦
-        rw (w.out-is, w.at-is, w.i-is, w.j-is)
-        (joining-a g h (e ∙ w.if-of_b.false) w.unchecked_row-row-else-of_b.ensures w.put_row-at-else-of_b.ensures.0 w.put_row-at-else-of_b.ensures.1)
+      | then-of_b w ↦
+          rw (w.out-is, w.at-is, w.i-is, w.j-is)
+          (joining-b g h (e ∙ w.if-of_b.true) w.unchecked_row-row.ensures w.put_row-at.ensures.0 w.put_row-at.ensures.1)
+      | else-of_b w ↦
+          rw (w.out-is, w.at-is, w.i-is, w.j-is)
+          (joining-a g h (e ∙ w.if-of_b.false) w.unchecked_row-row-else-of_b.ensures w.put_row-at-else-of_b.ensures.0 w.put_row-at-else-of_b.ensures.1)
     ]
 
 pub shape_of-out : goal.shape_of-out

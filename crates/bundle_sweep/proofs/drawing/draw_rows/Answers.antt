@@ -43,8 +43,8 @@ loop-i-preserved c =
     let h = c.loop-i-test.true in
     let e = c.goes_at-gone.ensures in
     elim c.if-not-gone.branch [
-      then-not-gone w ↦ rw (w.bundle-is, w.kept-is) (drawing-next c.loop-i.invariant h e w.if-not-gone.true w.move_down.ensures)
-    | else-not-gone w ↦ rw (w.bundle-is, w.kept-is) (drawing-gone c.loop-i.invariant h e w.if-not-gone.false)
+      | then-not-gone w ↦ rw (w.bundle-is, w.kept-is) (drawing-next c.loop-i.invariant h e w.if-not-gone.true w.move_down.ensures)
+      | else-not-gone w ↦ rw (w.bundle-is, w.kept-is) (drawing-gone c.loop-i.invariant h e w.if-not-gone.false)
     ]
 
 pub shape_of-bundle : goal.shape_of-bundle

@@ -20,26 +20,26 @@ returns-then-start-ne-LONG c = rw (
 
 pub returns-then-second-third : goal.returns-then-second-third
 returns-then-second-third c = rw (
-      length-map,
-      ← c.low_at-start.ensures,
-      c.if-start-ne-LONG.false,
-      third_there c.if-first-lt4.false,
-      lt-ltb 3 _ c.if-first-lt4.false,
-      ← c.low_at-second.ensures,
-      ← c.low_at-third.ensures,
-      ← c.low_at-fourth.ensures,
-      c.if-second-third.true,
-    )
+  length-map,
+  ← c.low_at-start.ensures,
+  c.if-start-ne-LONG.false,
+  third_there c.if-first-lt4.false,
+  lt-ltb 3 _ c.if-first-lt4.false,
+  ← c.low_at-second.ensures,
+  ← c.low_at-third.ensures,
+  ← c.low_at-fourth.ensures,
+  c.if-second-third.true,
+)
 
 pub returns : goal.returns
 returns c = rw (
-      length-map,
-      ← c.low_at-start.ensures,
-      c.if-start-ne-LONG.false,
-      third_there c.if-first-lt4.false,
-      lt-ltb 3 _ c.if-first-lt4.false,
-      ← c.low_at-second.ensures,
-      ← c.low_at-third.ensures,
-      ← c.low_at-fourth.ensures,
-      c.if-second-third.false,
-    )
+  length-map,
+  ← c.low_at-start.ensures,
+  c.if-start-ne-LONG.false,
+  third_there c.if-first-lt4.false,
+  lt-ltb 3 _ c.if-first-lt4.false,
+  ← c.low_at-second.ensures,
+  ← c.low_at-third.ensures,
+  ← c.low_at-fourth.ensures,
+  c.if-second-third.false,
+)

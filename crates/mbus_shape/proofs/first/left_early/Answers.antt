@@ -8,10 +8,10 @@ returns-then-first-second c = rw (length-map, c.requires.0, ← c.low_at-second.
 
 pub returns : goal.returns
 returns c = rw (
-      length-map,
-      c.requires.0,
-      ← c.low_at-second.ensures,
-      ← c.low_at-third.ensures,
-      c.if-first-second.false,
-      le-ltb 3 _ (le_of_suc-le-suc c.requires.1),
-    )
+  length-map,
+  c.requires.0,
+  ← c.low_at-second.ensures,
+  ← c.low_at-third.ensures,
+  c.if-first-second.false,
+  le-ltb 3 _ (le_of_suc-le-suc c.requires.1),
+)

@@ -22,7 +22,6 @@ record Sized (c : After-width_of-width) : Type 0 where
   pub within : 2 + c.width_of-width.result ≤ length c.entry_bytes-b.result
   pub room : c.args.at + (2 + c.width_of-width.result) + 2 ≤ longest
 
-
 sized : (c : After-width_of-width) → Sized c
 sized c =
     let n : length c.entry_bytes-b.result ≡ 10 = search rules in
