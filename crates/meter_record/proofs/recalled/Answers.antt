@@ -7,6 +7,8 @@ use Rattle.meter_steps.specs.Meters.{shown_setup}
 use Rattle.mbus_records.specs.Telegrams.{telegram_bytes}
 use Rattle.meter_record.specs.MeterRecords.{recalled}
 use Rattle.meter_record.proofs.Laws.Recalling.{template_in, recalled_other, recalled_unreached, recalled_same}
+use mathlib.Core.Path.{ap}
+use mathlib.Core.Bool.{not}
 use Rattle.meter_record.proofs.recalled.Goals.{After-meter_in-meter}
 use Rattle.meter_record.proofs.recalled.Goals as goal
 
@@ -26,7 +28,7 @@ returns-then-other c =
     let b = c.args.b.now in
     c.no_meter.ensures ∙ sym (ap shown_setup (recalled_other b c.meter_in-meter.result
     (behind (goal.at.returns-then-other c).After-meter_in-meter)
-    c.front_bytes-again.ensures c.is_same-same.ensures c.if-other.true))
+    c.front_bytes-again.ensures c.is_same-same.ensures (ap not c.if-other.true)))
     ∙ ap (λ (m : Meter). shown_setup (recalled b m)) c.meter_in-meter.ensures
 
 pub returns-then-unreached : goal.returns-then-unreached
@@ -35,7 +37,7 @@ returns-then-unreached c =
     c.no_meter-then-unreached.ensures ∙ sym (ap shown_setup (recalled_unreached b c.meter_in-meter.result
     (behind (goal.at.returns-then-unreached c).After-meter_in-meter)
     c.front_bytes-again.ensures c.is_same-same.ensures
-    c.is_unreached-unreached.ensures c.if-other.false c.if-unreached.true))
+    c.is_unreached-unreached.ensures (ap not c.if-other.false) c.if-unreached.true))
     ∙ ap (λ (m : Meter). shown_setup (recalled b m)) c.meter_in-meter.ensures
 
 pub returns : goal.returns
@@ -44,5 +46,5 @@ returns c =
     sym (ap shown_setup (recalled_same b c.meter_in-meter.result
     (behind (goal.at.returns c).After-meter_in-meter)
     c.front_bytes-again.ensures c.is_same-same.ensures c.is_unreached-unreached.ensures
-    c.if-other.false c.if-unreached.false))
+    (ap not c.if-other.false) c.if-unreached.false))
     ∙ ap (λ (m : Meter). shown_setup (recalled b m)) c.meter_in-meter.ensures
