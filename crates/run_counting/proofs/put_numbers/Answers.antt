@@ -4,6 +4,7 @@ use mathlib.Core.Logic.{⊎_elim}
 use native.Mathlib.Omega.{arith}
 use Rattle.bundle_check.proofs.Laws.BodyLaws.{few_rows, unchecked_inside}
 use Rattle.run_counting.proofs.Laws.Walking.{noted_none, noted_not, noted_next, noted_all}
+use Rattle.run_counting.proofs.put_numbers.Goals.{then-turn, else-turn}
 use Rattle.run_counting.proofs.put_numbers.Goals as goal
 
 pub loop-i-init : goal.loop-i-init
@@ -30,10 +31,12 @@ bounds-rows-found c =
 
 pub loop-i-preserved : goal.loop-i-preserved
 loop-i-preserved c =
-    ⊎_elim
-    (λ w. rw (w.1, w.2) (noted_next c.loop-i.invariant c.loop-i-test.true c.turn_at-turn.ensures w.0.taken))
-    (λ w. rw (w.1, w.2) (noted_not c.loop-i.invariant c.loop-i-test.true c.turn_at-turn.ensures w.0.left))
-    c.if-turn.branch
+    elim c.if-turn.branch [
+      then-turn w ↦
+        rw (w.rows-is, w.found-is) (noted_next c.loop-i.invariant c.loop-i-test.true c.turn_at-turn.ensures w.if-turn.true)
+    | else-turn w ↦
+        rw (w.rows-is, w.found-is) (noted_not c.loop-i.invariant c.loop-i-test.true c.turn_at-turn.ensures w.if-turn.false)
+    ]
 
 pub returns : goal.returns
 returns c = noted_all c.loop-i.invariant c.loop-i-test.false

@@ -9,4 +9,4 @@ pub returns-in-Deaf : goal.returns-in-Deaf
 returns-in-Deaf c = rw c.in-Deaf.is
 
 pub returns-else-early : goal.returns-else-early
-returns-else-early c = rw (c.in-Open.is, (le-ltb _ _ c.if-early.false), c.fits.ensures)
+returns-else-early c = rw (c.in-Open.is, (le-ltb _ _ c.if-early.false), c.fits_in_time-counts.ensures)
