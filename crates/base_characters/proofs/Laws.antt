@@ -11,5 +11,6 @@ pub mod CharacterLaws
 pub mod Folding
 pub mod FlipLaws
 pub mod Codes
+pub mod Sent
 pub mod Closing
 pub mod Carrying

@@ -105,12 +105,6 @@ module _ {Accepted Rule : List ℕ → Type 0} (code : Code Accepted Rule) where
   flips_refused s (p ∷ q ∷ r ∷ []) a places some few b = odd_flips s (p ∷ q ∷ r ∷ []) a places b refl
   flips_refused s (p ∷ q ∷ r ∷ t ∷ ps) a places some few b = omega arith
 
-  -- A received line with at most three flips that is accepted is the line that was sent.
-  pub accepted_is_sent : (s : List ℕ) (ps : List Place) → Accepted s → Places s ps → length ps ≤ 3 → Accepted (flips ps s) → flips ps s ≡ s
-  unfolding flips
-  accepted_is_sent s [] a places few b = refl
-  accepted_is_sent s (p ∷ ps) a places few b = absurd (flips_refused s (p ∷ ps) a places (omega arith) few b)
-
   -- No accepted line is a proper beginning of another.
   pub no_proper_beginning : (s t : List ℕ) → Accepted s → Accepted (s ++ t) → t ≡ []
   no_proper_beginning s t a b =

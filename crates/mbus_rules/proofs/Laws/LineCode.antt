@@ -12,6 +12,7 @@ use Rattle.mbus_rules.specs.Lines.{wrong_start, wrong_count, wrong_lengths, wron
 use Rattle.base_characters.specs.Flips.{Place, flips, Places}
 use Rattle.base_characters.proofs.Laws.Codes
 use Rattle.base_characters.proofs.Laws.Codes.{Sound, Code}
+use Rattle.base_characters.proofs.Laws.Sent
 use Rattle.base_rules.specs.Each.{Each}
 use Rattle.base_rules.proofs.Laws.Tests.{passed}
 use Rattle.mbus_rules.proofs.Laws.Frames.{Framed, framed_byte, framed_longer}
@@ -59,7 +60,7 @@ flips_refused = Codes.flips_refused line_code
 
 -- So a received line with at most three flips that is accepted is the line that was sent.
 pub accepted_is_sent : (s : List ℕ) (ps : List Place) → Accepted s → Places s ps → length ps ≤ 3 → Accepted (flips ps s) → flips ps s ≡ s
-accepted_is_sent = Codes.accepted_is_sent line_code
+accepted_is_sent = Sent.accepted_is_sent line_code
 
 -- No accepted line is a proper beginning of another.
 pub no_proper_beginning : (s t : List ℕ) → Accepted s → Accepted (s ++ t) → t ≡ []
