@@ -14,13 +14,14 @@ use Rattle.bench_clock.specs.Wakes.{is_wake}
 use Rattle.base_numbers.specs.Rounding.{Nearest}
 use Rattle.exchange_replies.specs.Fits.{fits}
 use Rattle.exchange_steps.specs.Steps.{begun}
+use Rattle.bundle_rows.specs.Fields.{wrong_position}
 use Rattle.bundle_check.specs.Bundles.{check_of}
 use Rattle.bundle_check.specs.Records.{Recorded, records_of}
 use Rattle.run_counting.specs.Counting.{is_sent, row_outline, looked, send_end, begins_from, counts, kept_if, looked_at, counted_after, answers_of, numbers_of}
 use Rattle.run_counting.specs.Exchanges.{row_clock, told_rows, ends_well_by}
 use Rattle.run_calendar.specs.Days.{days_before, interval}
 use Rattle.run_replay.specs.Figures.{millilitre_power}
-use Rattle.run_replay.specs.Errors.{error_of_figures, replay_of}
+use Rattle.run_replay.specs.Errors.{error_of_figures, error_between, row_tells, last_of, replay_of}
 
 -- ---- which rows count
 
@@ -99,6 +100,13 @@ abbrev pub WholeMillilitres : Type 0
 WholeMillilitres = (u : ℕ) → u < 256 → quantity_of u ≡ volume → power_of u +ℤ pos 6 ≡ pos (millilitre_power u)
 
 -- ---- the error
+
+-- An accepted bundle and a position in its range with two answers that count or more give the error between the first and the last.
+abbrev pub FirstAndLast : Type 0
+FirstAndLast =
+    (b : List ℕ) (n position s1 s2 elapsed : ℕ) (first second : Recorded) (later : List Recorded)
+    → check_of b ≡ reads n → wrong_position position ≡ false → answers_of position (records_of b) ≡ first ∷ (second ∷ later)
+    → replay_of b position s1 s2 elapsed ≡ error_between (row_tells first) (row_tells (last_of second later)) s1 s2 elapsed
 
 -- No integer is nearer to the error by C.1 in tenths of a percent, and of two as near it is the one farther from zero.
 abbrev pub ErrorIsNearest : Type 0

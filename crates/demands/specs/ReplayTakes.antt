@@ -62,8 +62,8 @@ abbrev pub WhatARowTells : Type 0
 WhatARowTells = (k : Recorded) (millilitres : ℕ) (time : Moment) → Tells k millilitres time → ((row_tells k).volume ≡ millilitres) × ((row_tells k).time ≡ time)
 
 -- It is taken from the first and the last of the answers that count, and from no other: of an accepted bundle, for a position from 1 to 48.
-abbrev pub FirstAndLast : Type 0
-FirstAndLast =
+abbrev pub FirstAndLastTell : Type 0
+FirstAndLastTell =
     (b : List ℕ) (n position s1 s2 elapsed v1 v2 : ℕ) (t1 t2 : Moment) (first last : Recorded) (between : List Recorded)
     → check_of b ≡ reads n → 1 ≤ position → position ≤ 48 → answers_of position (records_of b) ≡ first ∷ (between ++ (last ∷ []))
     → Tells first v1 t1 → Tells last v2 t2 → replay_of b position s1 s2 elapsed ≡ error_of_figures v1 v2 s1 s2 elapsed (interval t1 t2)

@@ -96,8 +96,8 @@ LeadingRowsKept =
     → (k : ℕ) → k ≤ n → ((i : ℕ) → i < k → KeepsRules b n i) → k ≤ s.kept
 
 -- the rule is the lowest that the first dropped row breaks,
-abbrev pub RuleOfTheFirstDropped : Type 0
-RuleOfTheFirstDropped =
+abbrev pub LowestIsTold : Type 0
+LowestIsTold =
     (b : List ℕ) (n : ℕ) (s : Salvaged) → ContentsThere b n → salvage_of b ≡ reads s → 0 < s.dropped → LowestBroken b n s.kept s.rule
 
 -- where none is dropped it is 36 if bytes are left over behind the last body, and else 0,

@@ -1,5 +1,5 @@
 -- A row as a record for C: the fields of struct skarrowith_row, numbers low byte first.
-use Rattle.std.specs.Prelude.{ℕ, List, [], ◌∷◌, ◌++◌, length}
+use Rattle.std.specs.Prelude.{ℕ, List, [], ◌∷◌, ◌++◌}
 use Rattle.base_rules.specs.Answers.{Answer, reads, refusal, follow}
 use Rattle.base_numbers.specs.Numbers.{bytes_of}
 use Rattle.base_lent.specs.Lent.{done, needs, Leaves}

@@ -61,7 +61,7 @@ use Rattle.demands.specs.Answering.{RowsAllowed, CheckAnswers, RowAnswers, BodyA
 use Rattle.demands.specs.Answering.{ContentsNextAnswers, AddAnswers, SweepAnswers, SalvageAnswers, ListAnswers, CountingAnswers, ReplayAnswers}
 use Rattle.demands.specs.Answering.{VerdictAnswers, VerdictsAnswer, ContentsVerdictsAnswer, FieldsRightFrom, lying_in}
 use Rattle.demands.specs.Answering.{OwnVerdictsAnswer, RepeatsAnswer, PictureAnswers}
-use Rattle.demands.proofs.Laws.ReplayTakes.{right_position, first_and_last, otherwise_an_error}
+use Rattle.demands.proofs.Laws.ReplayTakes.{right_position, first_and_last_tell, otherwise_an_error}
 use Rattle.demands.proofs.Laws.SalvageTold.{so_fields, so_range}
 
 -- ---- what a promise says of an answer that is no refusal
@@ -199,7 +199,7 @@ pub replay_answers : ReplayAnswers
 replay_answers b n position s1 s2 elapsed v1 v2 r t1 t2 first last between out out' e l h a f1 f2 fit own meter up rise room g =
     let error = otherwise_an_error v1 v2 s1 s2 elapsed (interval t1 t2) fit own meter up rise in
     let replayed : replay_of b position s1 s2 elapsed ≡ reads error.0 =
-    first_and_last b n position s1 s2 elapsed v1 v2 t1 t2 first last between e l h a f1 f2 ∙ error.1 in
+    first_and_last_tell b n position s1 s2 elapsed v1 v2 t1 t2 first last between e l h a f1 f2 ∙ error.1 in
     let p = leaves_done error.0 (rw (le-ltb (length out) 1 room) replayed) g in
     (p.0, error.0, replayed, p.1)
 

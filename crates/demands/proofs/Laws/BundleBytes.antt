@@ -8,7 +8,7 @@ use Rattle.bundle_check.specs.Bundles.{check_of}
 use Rattle.bundle_check.specs.Handing.{row_at}
 use Rattle.bundle_check.specs.Records.{records_in, rows_for, bodies_for}
 use Rattle.bundle_check.specs.Walks.{some_wrong, end_of}
-use Rattle.bundle_adding.specs.Adding.{try_of}
+use Rattle.bundle_adding.specs.Adding.{add_of}
 use Rattle.demands.specs.BundleBytes.{TwoRowsWritten, TwoRowsRead, SecondAdded}
 
 pub two_rows_written : TwoRowsWritten
@@ -20,5 +20,5 @@ unfolding check_of row_at number rows_of some_wrong end_of chars any records_in
 two_rows_read = (refl, refl, refl, refl, refl, refl, refl, refl)
 
 pub second_added : SecondAdded
-unfolding try_of check_of number rows_of some_wrong end_of chars any bytes_of rows_for bytes_of_rows bodies_for records_in
+unfolding add_of check_of number rows_of some_wrong end_of chars any bytes_of rows_for bytes_of_rows bodies_for records_in
 second_added = (refl, refl, refl)

@@ -24,7 +24,7 @@ use Rattle.bundle_check.specs.Bundles.{count_of, contents_of, check_rows, opened
 use Rattle.bundle_check.specs.Handing.{place_of, row_at}
 use Rattle.bundle_check.specs.Records.{row_for}
 use Rattle.bundle_check.proofs.Laws.Accepted.{accepted_sound}
-use Rattle.bundle_adding.specs.Adding.{last_time, grown, no_room, try_of}
+use Rattle.bundle_adding.specs.Adding.{last_time, grown, no_room, add_of}
 use Rattle.bundle_sweep.specs.Sweeping.{swept_bundle, sweep_of}
 use Rattle.demands.specs.Orders.{Table}
 use Rattle.demands.specs.BundleOrder.{two_at, four_at, count, position, direction, time_of_row, offset, size, begins, OutOfRange}
@@ -279,7 +279,7 @@ late_last b t =
         so_if (λ h. (omega arith, subst (λ (x : ℕ). t < x) last h)) (λ k. subst (λ (x : ℕ). t < x) (sym last) k.1) (is_less t (last_time (rows b)))
 
 pub add_order : AddOrder
-unfolding try_of
+unfolding add_of
 add_order buffer filled k =
     let old : List ℕ = take filled buffer in
     let new : ℕ = grown filled k in

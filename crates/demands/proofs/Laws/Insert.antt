@@ -23,14 +23,14 @@ use Rattle.bundle_check.specs.Walks.{some_wrong, end_of}
 use Rattle.bundle_check.proofs.Laws.BodyLaws.{times_end}
 use Rattle.bundle_check.proofs.Laws.HoldingLaws.{timely_in}
 use Rattle.bundle_check.proofs.Laws.RecordLaws.{Timely}
-use Rattle.bundle_adding.specs.Adding.{last_time, grown, try_of, add_of}
-use Rattle.bundle_adding.specs.Inserting.{place_behind, place_for, insert_of, buffer_inserted}
-use Rattle.bundle_adding.proofs.Laws.AddLaws.{try_grown}
+use Rattle.bundle_adding.specs.Adding.{last_time, grown, add_of}
+use Rattle.bundle_adding.specs.Inserting.{try_of, place_behind, place_for, insert_of, buffer_inserted}
 use Rattle.bundle_adding.proofs.Laws.Commuting.{length_after, room_there, other_first, then_this, orders_same}
 use Rattle.bundle_adding.proofs.Laws.Growing.{last_held}
 use Rattle.bundle_adding.proofs.Laws.Inserted
 use Rattle.bundle_adding.proofs.Laws.Inserted.{end_not_later}
 use Rattle.bundle_adding.proofs.Laws.InsertingLaws.{place_parts}
+use Rattle.bundle_adding.proofs.Laws.Trying.{add_is, try_grown}
 use Rattle.demands.specs.Insert.{old, InsertedAccepted, InsertedHolds, InsertedBodies, InsertedPast, InsertedAsAdded, insert_all, Distinct}
 use Rattle.demands.specs.Insert.{Reordered, same, behind, swapped, then, AnyOrder, InsertSucceeds, InsertOrder, InsertingBy, InsertingSettled}
 use Rattle.demands.specs.Insert.{InsertSettled, InsertingUnchanged, InsertUnchanged, ExampleInserted}
@@ -97,6 +97,7 @@ inserted_as_added buffer filled k all = (
     answer =
         ap (λ (t : Bool). try_of t buffer filled k)
         (sym (ap (λ (t : Bool). field || t) (le-ltb k.time (last_time (contents_of (take filled buffer))) last) ∙ or-false field))
+        ∙ sym (add_is buffer filled k)
 
 -- ---- in any order
 

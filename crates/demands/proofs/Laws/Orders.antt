@@ -119,10 +119,10 @@ is_over a b = record { so = leb-false a b; not_so = λ e h. let k : a ≤ b = le
 
 -- one of the numbers of a list
 is_either : {P : Type 0} {t : Bool} → Decides P t → (n : ℕ) (ms : List ℕ) → Decides (P ⊎ In n ms) (either t (map (eqb n) ms))
-is_either d n [] = so_if inl (⊎_elim (λ p. p) (λ x. absurd x)) d
-is_either d n (m ∷ ms) =
+is_either {P = P} {t = t} d n [] = so_if inl (⊎_elim (λ p. p) (λ x. absurd x)) d
+is_either {P = P} {t = t} d n (m ∷ ms) =
     so_if to_right to_left
-    (is_either (is_or d (is_same n m)) n ms)
+    (is_either {P = P ⊎ (n ≡ m)} (is_or d (is_same n m)) n ms)
 
 pub is_one : (n m : ℕ) (ms : List ℕ) → Decides (In n (m ∷ ms)) (either (eqb n m) (map (eqb n) ms))
 is_one n m ms = is_either (is_same n m) n ms

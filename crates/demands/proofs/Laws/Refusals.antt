@@ -54,7 +54,9 @@ use Rattle.bundle_columns.specs.Columns.{kept_rows}
 use Rattle.bundle_columns.specs.Record.{columns_size, columns_in, columns_from}
 use Rattle.bundle_columns.specs.Lookups.{is_position, in_front, first_from, row_kept, next_kept}
 use Rattle.bundle_salvage.specs.Salvaging.{tell_of, leading_rows, salvage_of}
-use Rattle.bundle_adding.specs.Adding.{last_time, grown, no_room, try_of}
+use Rattle.bundle_adding.specs.Adding.{last_time, grown, no_room}
+use Rattle.bundle_adding.specs.Inserting.{try_of}
+use Rattle.bundle_adding.proofs.Laws.Trying.{add_is}
 use Rattle.bundle_sweep.specs.Sweeping.{swept_bundle, sweep_of}
 use Rattle.run_picture.specs.Pictures.{picture_of}
 use Rattle.run_counting.specs.Counting.{answers_of, counting_of}
@@ -390,7 +392,7 @@ trying_by wrong buffer filled k =
     (reads_by ns _)))))
 
 pub adding_by : AddingBy
-adding_by buffer filled k = trying_by (wrong_row (last_time (contents_of (take filled buffer))) (row_for (filled + 12) k)) buffer filled k
+adding_by buffer filled k = rw (add_is buffer filled k) (trying_by (wrong_row (last_time (contents_of (take filled buffer))) (row_for (filled + 12) k)) buffer filled k)
 
 pub counting_by : CountingBy
 unfolding any counting_of

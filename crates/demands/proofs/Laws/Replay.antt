@@ -20,7 +20,7 @@ use Rattle.run_replay.specs.Errors.{error_of_figures}
 use Rattle.run_replay.proofs.Laws.Figuring as figuring
 use Rattle.run_replay.proofs.Laws.Replaying as replaying
 use Rattle.demands.specs.Replay.{CountsAsTheExchange, WhatCounts, LeftOverNeverCounts, EverySuchRowCounts, NumbersOfTheAnswers, OthersNotLookedAt}
-use Rattle.demands.specs.Replay.{OthersChangeNothing, SameRowsSameReplay, DaysByTheCalendar, WholeMillilitres, ErrorIsNearest}
+use Rattle.demands.specs.Replay.{OthersChangeNothing, SameRowsSameReplay, DaysByTheCalendar, WholeMillilitres, FirstAndLast, ErrorIsNearest}
 use Rattle.demands.specs.Replay.{ReplayValues, IntervalValues}
 
 pub counts_as_the_exchange : CountsAsTheExchange
@@ -62,6 +62,9 @@ whole_millilitres u h v =
     let whole : ℕ → Bool = λ k. not (below_zero (power_of k +ℤ pos 6)) && eqb (nat_abs (power_of k +ℤ pos 6)) (millilitre_power k) in
     whole_from (power_of u +ℤ pos 6) (millilitre_power u)
     (rw (eq-eqb (quantity_of u) volume v) at (below 256 (λ k. cond (eqb (quantity_of k) volume) (whole k) true) refl u h))
+
+pub first_and_last : FirstAndLast
+first_and_last = replaying.replay_between
 
 pub error_is_nearest : ErrorIsNearest
 error_is_nearest = figuring.error_nearest

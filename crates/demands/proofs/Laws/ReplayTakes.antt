@@ -49,7 +49,7 @@ use Rattle.run_counting.specs.Counting.{looked, looked_at, counted_after}
 use Rattle.run_replay.specs.Figures.{millilitre_power, volume_count, moment_in, millilitres, entry_with}
 use Rattle.run_replay.specs.Errors.{volume_most, volume_over, interval_most, wrong_interval, error_by_c1, error_of_figures, row_tells, last_of, error_from, replay_of}
 use Rattle.run_replay.proofs.Laws.Figuring.{error_nearest}
-use Rattle.demands.specs.ReplayTakes.{OwnRowsLookedAt, Counted, Tells, EveryDataLineSays, WhatARowTells, FirstAndLast, FewerThanTwo, AnyVolumeOver}
+use Rattle.demands.specs.ReplayTakes.{OwnRowsLookedAt, Counted, Tells, EveryDataLineSays, WhatARowTells, FirstAndLastTell, FewerThanTwo, AnyVolumeOver}
 use Rattle.demands.specs.ReplayTakes.{VolumesFit, EitherInterval, InRange, VolumeFalls, StandardStays, OtherwiseAnError, ThreeAnswersReplayed}
 
 -- ---- the rows that are looked at
@@ -282,9 +282,9 @@ from_ends first last (second ∷ between) s1 s2 elapsed =
     ap (λ (k : Recorded). error_of_figures (row_tells first).volume (row_tells k).volume s1 s2 elapsed (interval (row_tells first).time (row_tells k).time))
     (last_is second last between)
 
-pub first_and_last : FirstAndLast
+pub first_and_last_tell : FirstAndLastTell
 unfolding replay_of
-first_and_last b n position s1 s2 elapsed v1 v2 t1 t2 first last between e l h a one two =
+first_and_last_tell b n position s1 s2 elapsed v1 v2 t1 t2 first last between e l h a one two =
     let x = row_tells_lem first v1 t1 one in
     let y = row_tells_lem last v2 t2 two in
     let figures : error_from (first ∷ (between ++ (last ∷ []))) s1 s2 elapsed ≡ error_of_figures v1 v2 s1 s2 elapsed (interval t1 t2) =

@@ -2,22 +2,37 @@
 use Prim.Native.Nat.{ℕ}
 use mathlib.Core.List.{List}
 use mathlib.Core.Path.{◌≡◌, refl, ap, ◌∙◌}
+use native.Mathlib.Omega.{arith}
+use lib.ListN.{drop}
 use Rattle.base_rules.specs.Answers.{reads}
 use Rattle.base_rules.specs.Bytes.{Bytes}
+use Rattle.bundle_rows.specs.Rows.{first_offset}
+use Rattle.bundle_rows.proofs.Laws.RowLaws.{length_rows}
 use Rattle.bundle_check.specs.Bundles.{count_of, check_of, opened}
 use Rattle.bundle_check.specs.Records.{bundle_of}
 use Rattle.bundle_check.proofs.Laws.Accepted.{accepted_sound}
 use Rattle.bundle_check.proofs.Laws.HoldingLaws.{bundle_whole}
 use Rattle.bundle_salvage.specs.Salvaging.{leading_rows}
 use Rattle.bundle_salvage.proofs.Laws.Answers as answers
+use Rattle.bundle_salvage.proofs.Laws.Leading as leading
 use Rattle.bundle_salvage.proofs.Laws.Proper as proper
 use Rattle.demands.proofs.Laws.Bundle.{byte_at}
-use Rattle.demands.specs.Salvage.{SalvageIs, WrittenLength, WrittenAccepted, WrittenHolds, ProperTold, ProperIsItself, TwiceTold, TwiceTheSame}
+use Rattle.demands.specs.Salvage.{SalvageIs, KeptKeepTheRules, NoMoreRows, RuleOfTheFirstDropped, WrittenLength, WrittenAccepted, WrittenHolds}
+use Rattle.demands.specs.Salvage.{ProperTold, ProperIsItself, TwiceTold, TwiceTheSame}
 use Rattle.demands.specs.Salvage as sayings
 
 module _ (b : List ℕ) (n : ℕ) (whole : opened b (reads (count_of b)) ≡ reads n) where
   pub salvage_is : SalvageIs b n whole
   salvage_is = answers.salvage_is b n whole refl
+
+  pub kept_keep_the_rules : KeptKeepTheRules b n whole
+  kept_keep_the_rules = leading.leading_keep b 0 (first_offset n) (sayings.rows b n whole)
+
+  pub no_more_rows : NoMoreRows b n whole
+  no_more_rows k h p = leading.leading_most b k 0 (first_offset n) (sayings.rows b n whole) (omega (arith, length_rows n (drop 2 b))) p
+
+  pub rule_of_the_first_dropped : RuleOfTheFirstDropped b n whole
+  rule_of_the_first_dropped h = leading.leading_rule b 0 (first_offset n) (sayings.rows b n whole) (omega (arith, length_rows n (drop 2 b)))
 
   pub written_length : WrittenLength b n whole
   written_length = proper.length_written b n whole

@@ -31,7 +31,7 @@ use Rattle.bundle_salvage.proofs.Laws.Answers as answers
 use Rattle.bundle_salvage.proofs.Laws.Leading.{rule_field, rule_place, rule_wide, rule_none, rule_right, leading_keep, leading_end, leading_most}
 use Rattle.bundle_salvage.proofs.Laws.Leading.{leading_rule}
 use Rattle.demands.specs.SalvageTold.{FieldsRight, PlaceRight, ContentsThere, row_damaged, time_before, bodies_before, place_due, KeepsRules}
-use Rattle.demands.specs.SalvageTold.{AcceptedIsWhole, LowestBroken, SalvageTells, KeptOrDropped, KeptKeepRules, LeadingRowsKept, RuleOfTheFirstDropped}
+use Rattle.demands.specs.SalvageTold.{AcceptedIsWhole, LowestBroken, SalvageTells, KeptOrDropped, KeptKeepRules, LeadingRowsKept, LowestIsTold}
 use Rattle.demands.specs.SalvageTold.{RuleWhereAllAreKept, FilledBySalvage, SalvageValues}
 
 -- ---- the tests of a row, and what 01 says
@@ -254,8 +254,8 @@ pub leading_rows_kept : LeadingRowsKept
 leading_rows_kept b n s c e =
     subst (λ (x : Salvaged). (k : ℕ) → k ≤ n → ((i : ℕ) → i < k → KeepsRules b n i) → k ≤ x.kept) (same b n c s e) (no_more b n c)
 
-pub rule_of_the_first_dropped : RuleOfTheFirstDropped
-rule_of_the_first_dropped b n s c e =
+pub lowest_is_told : LowestIsTold
+lowest_is_told b n s c e =
     subst (λ (x : Salvaged). 0 < x.dropped → LowestBroken b n x.kept x.rule) (same b n c s e) (dropped_rule b n c)
 
 pub rule_where_all_are_kept : RuleWhereAllAreKept
