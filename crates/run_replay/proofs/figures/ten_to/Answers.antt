@@ -1,0 +1,30 @@
+-- `run_replay::figures::ten_to` meets its contract: each power by its number.
+use Rattle.run_replay.proofs.Laws.Telling.{last_of_eight}
+use Rattle.run_replay.proofs.figures.ten_to.Goals as goal
+
+pub returns-in-0 : goal.returns-in-0
+returns-in-0 c = rw c.in-0.is
+
+pub returns-in-1 : goal.returns-in-1
+returns-in-1 c = rw c.in-1.is
+
+pub returns-in-2 : goal.returns-in-2
+returns-in-2 c = rw c.in-2.is
+
+pub returns-in-3 : goal.returns-in-3
+returns-in-3 c = rw c.in-3.is
+
+pub returns-in-4 : goal.returns-in-4
+returns-in-4 c = rw c.in-4.is
+
+pub returns-in-5 : goal.returns-in-5
+returns-in-5 c = rw c.in-5.is
+
+pub returns-in-6 : goal.returns-in-6
+returns-in-6 c = rw c.in-6.is
+
+pub returns-in_default : goal.returns-in_default
+returns-in_default c =
+    let r = c.in-0.rest in
+    let low = r.0.0.0 in
+    rw (last_of_eight c.args.n c.requires low.0.0.0.1 low.0.0.1 low.0.1 low.1 r.0.0.1 r.0.1 r.1)

@@ -1,0 +1,14 @@
+-- `run_verdicts::judging::waited` meets its contract: the step is taken, or refused.
+use Rattle.exchange_steps.specs.Steps.{tick_on}
+use Rattle.run_verdicts.proofs.Laws.Judging.{stands_on, stands_still}
+use Rattle.run_verdicts.proofs.judging.waited.Goals as goal
+
+pub returns-in-To : goal.returns-in-To
+returns-in-To c =
+    let a = c.args in
+    stands_on a.slot (tick_on a.slot a.t) c.tick.ensures c.in-To.is
+
+pub returns-in-Refused : goal.returns-in-Refused
+returns-in-Refused c =
+    let a = c.args in
+    stands_still a.slot (tick_on a.slot a.t) c.tick.ensures c.in-Refused.is
