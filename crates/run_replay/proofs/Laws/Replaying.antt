@@ -157,7 +157,7 @@ module _ (b : List ℕ) (position s1 s2 elapsed : ℕ) where
         let i : ℕ = get_or numbers j 0 in
         let below : i < k.rows = numbers_below position 0 k.rows [] (records_of b) (omega (arith, length_records b k.rows k.checked)) j h in
         let size = unchecked_right b i k.rows k.checked below in
-        ap line_tells (characters_whole b i 502 (omega (arith, size.«size-most»)))
+        ap line_tells (characters_whole b i 502 (omega (arith, size.size_most)))
         ∙ ap row_tells (sym (record_there b i k.rows k.checked below))
 
     pub replay_error : 2 ≤ c.count → {first last : ℕ} → first ≡ get_or c.rows 0 0 → last ≡ get_or c.rows (c.count - 1) 0 → {from to : Figures}

@@ -1,5 +1,7 @@
 -- `run_replay::figures::ten_to` meets its contract: each power by its number.
 use Rattle.run_replay.proofs.Laws.Telling.{last_of_eight}
+use mathlib.Core.Path.{◌≡◌}
+use borrow.Author.Rules.{rules}
 use Rattle.run_replay.proofs.figures.ten_to.Goals as goal
 
 pub returns-in-0 : goal.returns-in-0
@@ -25,6 +27,4 @@ returns-in-6 c = rw c.in-6.is
 
 pub returns-in_default : goal.returns-in_default
 returns-in_default c =
-    let r = c.in-0.rest in
-    let low = r.0.0.0 in
-    rw (last_of_eight c.args.n c.requires low.0.0.0.1 low.0.0.1 low.0.1 low.1 r.0.0.1 r.0.1 r.1)
+    let seven : c.args.n ≡ 7 = search (rules, last_of_eight) in rw seven
