@@ -1,0 +1,13 @@
+-- `run_picture::page::fields_for` meets its contract.
+use Prim.Native.Nat.{◌*◌}
+use native.Mathlib.Nat.{div-le_self}
+use native.Mathlib.Omega.{arith}
+use Rattle.run_picture.proofs.page.fields_for.Goals as goal
+
+pub overflow_add-whole : goal.overflow_add-whole
+overflow_add-whole c = omega (arith, div-le_self c.args.end (240 * c.args.scale))
+
+pub returns : goal.returns
+returns c =
+    let whole = div-le_self c.args.end (240 * c.args.scale) in
+    (c.most.ensures, omega (arith, whole, c.most.ensures))
