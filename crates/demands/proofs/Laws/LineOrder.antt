@@ -54,17 +54,20 @@ from_count b =
 read_from5 : List ℕ → Answer Telegram
 read_from5 b = refuse 5 (wrong_count b) (refuse 6 (wrong_lengths b) (refuse 7 (wrong_end b) (refuse 8 (wrong_sum b) (read_body b))))
 
-ack_tried : (b : List ℕ) → at b 0 ≡ 0xE5 → Tried (read_from5 b) (from_count b)
+ack_tried_from : (s : List ℕ) → Tried (read_from5 (0xE5 ∷ s)) (from_count (0xE5 ∷ s))
 unfolding read_from5 from_count read_body
-ack_tried b e =
-    rw e
+ack_tried_from s =
     (try 5 (so_if (λ h. inl (refl, h)) (⊎_elim (λ k. k.1) (⊎_elim (λ k. apart 0xE5 0x10 refl k.0) (λ k. apart 0xE5 0x68 refl k.0)))
-    (is_not (is_same (length b) 1)))
+    (is_not (is_same (length (0xE5 ∷ s)) 1)))
     (λ one. miss (λ k. apart 0xE5 0x68 refl k.0)
     (miss (λ k. ⊎_elim (apart 0xE5 0x10 refl) (⊎_elim (apart 0xE5 0x68 refl) (λ x. x)) k.0)
     (miss (⊎_elim (λ k. apart 0xE5 0x10 refl k.0) (λ k. apart 0xE5 0x68 refl k.0))
     (miss (⊎_elim (λ k. apart 0xE5 0x10 refl k.0) (λ k. apart 0xE5 0x68 refl k.0))
-    (not_asked (data_table b) ack (λ k. apart 0xE5 0x68 refl k.0) refl))))))
+    (not_asked (data_table (0xE5 ∷ s)) ack (λ k. apart 0xE5 0x68 refl k.0) refl))))))
+
+ack_tried : (b : List ℕ) → at b 0 ≡ 0xE5 → Tried (read_from5 b) (from_count b)
+ack_tried [] e = absurd (apart 0 0xE5 refl e)
+ack_tried (c ∷ s) e = subst (λ (k : ℕ). Tried (read_from5 (k ∷ s)) (from_count (k ∷ s))) (sym e) (ack_tried_from s)
 
 -- what a short frame's places hold
 short_sum : (b : List ℕ) → length b ≡ 5 → total (take 2 (drop 1 b)) ≡ at b 1 + at b 2
@@ -80,20 +83,23 @@ short_sums b n = rw (n, short_sum b n) (λ k. k, λ k. k)
 short_control : (b : List ℕ) → at (take 2 (drop 1 b)) 0 ≡ at b 1
 short_control b = get_or-take 2 (drop 1 b) 0 0 (omega arith) ∙ get_or-drop 1 b 0 0
 
-short_tried : (b : List ℕ) → at b 0 ≡ 0x10 → Tried (read_from5 b) (from_count b)
+short_tried_from : (s : List ℕ) → Tried (read_from5 (0x10 ∷ s)) (from_count (0x10 ∷ s))
 unfolding read_from5 from_count read_body
-short_tried b e =
-    rw e
+short_tried_from s =
     (try 5 (so_if (λ h. inr (inl (refl, h))) (⊎_elim (λ k. apart 0x10 0xE5 refl k.0) (⊎_elim (λ k. k.1) (λ k. apart 0x10 0x68 refl k.0)))
-    (is_not (is_same (length b) 5)))
-    (λ five. let n : length b ≡ 5 = surely (is_same (length b) 5) (λ k. five (inr (inl (refl, k)))) in
+    (is_not (is_same (length (0x10 ∷ s)) 5)))
+    (λ five. let n : length (0x10 ∷ s) ≡ 5 = surely (is_same (length (0x10 ∷ s)) 5) (λ k. five (inr (inl (refl, k)))) in
     miss (λ k. apart 0x10 0x68 refl k.0)
-    (try 7 (so_if (λ h. (inl refl, h)) (λ k. k.1) (is_not (is_same (at b (length b - 1)) 0x16)))
-    (λ ends. try 8 (so_if (λ h. inl (refl, λ k. h ((short_sums b n).1 k))) (⊎_elim (λ k j. k.1 ((short_sums b n).0 j)) (λ k. apart 0x10 0x68 refl k.0))
-    (is_not (is_same (at b (length b - 2)) (total (take 2 (drop 1 b)) % 256))))
-    (λ sum. try 9 (so_if (λ h. inl (refl, λ k. h (short_control b ∙ k))) (⊎_elim (λ k j. k.1 (sym (short_control b) ∙ j)) (λ k. apart 0x10 0x68 refl k.0))
-    (is_not (is_same (at (take 2 (drop 1 b)) 0) 0x5B)))
-    (λ read. not_asked (data_table b) (read_of (at (take 2 (drop 1 b)) 1)) (λ k. apart 0x10 0x68 refl k.0) refl))))))
+    (try 7 (so_if (λ h. (inl refl, h)) (λ k. k.1) (is_not (is_same (at (0x10 ∷ s) (length (0x10 ∷ s) - 1)) 0x16)))
+    (λ ends. try 8 (so_if (λ h. inl (refl, λ k. h ((short_sums (0x10 ∷ s) n).1 k))) (⊎_elim (λ k j. k.1 ((short_sums (0x10 ∷ s) n).0 j)) (λ k. apart 0x10 0x68 refl k.0))
+    (is_not (is_same (at (0x10 ∷ s) (length (0x10 ∷ s) - 2)) (total (take 2 (drop 1 (0x10 ∷ s))) % 256))))
+    (λ sum. try 9 (so_if (λ h. inl (refl, λ k. h (short_control (0x10 ∷ s) ∙ k))) (⊎_elim (λ k j. k.1 (sym (short_control (0x10 ∷ s)) ∙ j)) (λ k. apart 0x10 0x68 refl k.0))
+    (is_not (is_same (at (take 2 (drop 1 (0x10 ∷ s))) 0) 0x5B)))
+    (λ read. not_asked (data_table (0x10 ∷ s)) (read_of (at (take 2 (drop 1 (0x10 ∷ s))) 1)) (λ k. apart 0x10 0x68 refl k.0) refl))))))
+
+short_tried : (b : List ℕ) → at b 0 ≡ 0x10 → Tried (read_from5 b) (from_count b)
+short_tried [] e = absurd (apart 0 0x10 refl e)
+short_tried (c ∷ s) e = subst (λ (k : ℕ). Tried (read_from5 (k ∷ s)) (from_count (k ∷ s))) (sym e) (short_tried_from s)
 
 -- the field of a long frame: what L counts
 module _ (b : List ℕ) (count : length b ≡ at b 1 + 6) where
@@ -192,18 +198,21 @@ long_body b bytes count x e = go (is_command (take (length b - 6) (drop 4 b))) (
         (λ nine. let tells : IsData b = surely (is_data_lem b count) (λ k. nine (inr (e, d.fails refl, k))) in
         only_where (e, tells) (data_tried b bytes count tells.0 (at (take (length b - 6) (drop 4 b)) 1)))
 
-long_tried : (b : List ℕ) → Bytes b → at b 0 ≡ 0x68 → Tried (read_from5 b) (from_count b)
+long_tried_from : (s : List ℕ) → Bytes (0x68 ∷ s) → Tried (read_from5 (0x68 ∷ s)) (from_count (0x68 ∷ s))
 unfolding read_from5 from_count read_body
-long_tried b bytes e =
-    rw e
+long_tried_from s bytes =
     (try 5 (so_if (λ h. inr (inr (refl, h))) (⊎_elim (λ k. apart 0x68 0xE5 refl k.0) (⊎_elim (λ k. apart 0x68 0x10 refl k.0) (λ k. k.1)))
-    (is_or (is_less (length b) 6) (is_not (is_same (length b) (at b 1 + 6)))))
-    (λ five. let n : length b ≡ at b 1 + 6 = surely (is_same (length b) (at b 1 + 6)) (λ k. five (inr (inr (refl, inr k)))) in
-    try 6 (so_if (λ h. (refl, h)) (λ k. k.1) (is_or (is_not (is_same (at b 1) (at b 2))) (is_not (is_same (at b 3) 0x68))))
-    (λ six. try 7 (so_if (λ h. (inr (inl refl), h)) (λ k. k.1) (is_not (is_same (at b (length b - 1)) 0x16)))
+    (is_or (is_less (length (0x68 ∷ s)) 6) (is_not (is_same (length (0x68 ∷ s)) (at (0x68 ∷ s) 1 + 6)))))
+    (λ five. let n : length (0x68 ∷ s) ≡ at (0x68 ∷ s) 1 + 6 = surely (is_same (length (0x68 ∷ s)) (at (0x68 ∷ s) 1 + 6)) (λ k. five (inr (inr (refl, inr k)))) in
+    try 6 (so_if (λ h. (refl, h)) (λ k. k.1) (is_or (is_not (is_same (at (0x68 ∷ s) 1) (at (0x68 ∷ s) 2))) (is_not (is_same (at (0x68 ∷ s) 3) 0x68))))
+    (λ six. try 7 (so_if (λ h. (inr (inl refl), h)) (λ k. k.1) (is_not (is_same (at (0x68 ∷ s) (length (0x68 ∷ s) - 1)) 0x16)))
     (λ ends. try 8 (so_if (λ h. inr (refl, h)) (⊎_elim (λ k. apart 0x68 0x10 refl k.0) (λ k. k.1))
-    (is_not (is_same (at b (length b - 2)) (total (take (length b - 6) (drop 4 b)) % 256))))
-    (λ sum. long_body b bytes n 0x68 refl)))))
+    (is_not (is_same (at (0x68 ∷ s) (length (0x68 ∷ s) - 2)) (total (take (length (0x68 ∷ s) - 6) (drop 4 (0x68 ∷ s))) % 256))))
+    (λ sum. long_body (0x68 ∷ s) bytes n 0x68 refl)))))
+
+long_tried : (b : List ℕ) → Bytes b → at b 0 ≡ 0x68 → Tried (read_from5 b) (from_count b)
+long_tried [] bytes e = absurd (apart 0 0x68 refl e)
+long_tried (c ∷ s) bytes e = subst (λ (k : ℕ). Bytes (k ∷ s) → Tried (read_from5 (k ∷ s)) (from_count (k ∷ s))) (sym e) (long_tried_from s) bytes
 
 frame_tried : (b : List ℕ) → Bytes b → Tried (read_frame read_body b) (frame_table b)
 unfolding read_from5 from_count

@@ -94,22 +94,22 @@ module _ (n : ℕ) where
   }
 
   pub buffer_unchanged : BufferUnchanged n
-  buffer_unchanged buffer filled k r after (λ x. x.now) e p =
+  buffer_unchanged buffer filled k r after now e p =
       by_answer (λ a. adding.buffer_after a buffer filled k) buffer (λ m. refl) (add_of buffer filled k) n after e p.holds
 
   pub swept_buffer_unchanged : SweptBufferUnchanged n
-  swept_buffer_unchanged buffer filled position r after (λ x. x.now) e p =
+  swept_buffer_unchanged buffer filled position r after now e p =
       by_answer (λ a. buffer_swept a buffer filled position) buffer (λ m. refl) (sweep_of buffer filled position) n after e p.holds
 
   pub second_buffer_unchanged : SecondBufferUnchanged n
   second_buffer_unchanged b out told r after then e p = by_answer (stored (new_bundle b) out) out (λ m. refl) (salvage_for b out told) n after e p.holds
 
   pub places_unchanged : PlacesUnchanged n
-  places_unchanged b out written r after (λ x. x.now) e p =
+  places_unchanged b out written r after now e p =
       by_answer (stored (λ (m : ℕ). listing_of b) out) out (λ m. refl) (listed_in (listing_of b) out) n after e p.holds
 
   pub picture_unchanged : PictureUnchanged n
-  picture_unchanged b out written r after (λ x. x.now) e p =
+  picture_unchanged b out written r after now e p =
       by_answer (stored (λ (m : ℕ). picture_of b) out) out (λ m. refl) (drawn_in b out) n after e p.holds
 
   pub verdicts_unchanged : VerdictsUnchanged n
