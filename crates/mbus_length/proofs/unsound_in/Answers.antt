@@ -12,15 +12,17 @@ use Rattle.mbus_length.proofs.unsound_in.Goals as goal
 inside : (c : Joined-first-count) → c.if-first-count.there ≤ length c.args.first.now
 inside c =
     elim c.if-first-count.branch [
-      then-first-count w ↦ omega (arith, w.if-first-count.true, w.there-is)
-      | else-first-count w ↦ omega (arith, w.if-first-count.false, w.there-is) ]
+      | then-first-count w ↦ omega (arith, w.if-first-count.true, w.there-is)
+      | else-first-count w ↦ omega (arith, w.if-first-count.false, w.there-is)
+    ]
 
 cut : (c : Joined-first-count) → take c.if-first-count.there c.args.first.now ≡ take c.args.count c.args.first.now
 cut c =
     let s = c.args.first.now in
     elim c.if-first-count.branch [
-      then-first-count w ↦ cut_short s w.there-is w.if-first-count.true
-      | else-first-count w ↦ ap (λ (n : ℕ). take n s) w.there-is ]
+      | then-first-count w ↦ cut_short s w.there-is w.if-first-count.true
+      | else-first-count w ↦ ap (λ (n : ℕ). take n s) w.there-is
+    ]
 
 pub slice_bounds-soundness_of-end : goal.slice_bounds-soundness_of-end
 slice_bounds-soundness_of-end c = sym (length-take-le _ _ (inside (goal.at.slice_bounds-soundness_of-end c).Joined-first-count))

@@ -13,12 +13,11 @@ returns-in-Refused c =
     c.if-b-ne-SIZE.false c.telegram_from-reading.ensures _ c.in-Refused.is))
 
 pub recalled-requires : goal.recalled-requires
-recalled-requires c =
-    (
-      c.if-b-ne-SIZE.false,
-      from_known c.args.b.now c.if-b-ne-SIZE.false
-          c.telegram_from-reading.ensures c.in_default.is,
-    )
+recalled-requires c = (
+  c.if-b-ne-SIZE.false,
+  from_known c.args.b.now c.if-b-ne-SIZE.false
+      c.telegram_from-reading.ensures c.in_default.is,
+)
 
 pub returns : goal.returns
 returns c =

@@ -32,10 +32,10 @@ bounds-rows-found c =
 pub loop-i-preserved : goal.loop-i-preserved
 loop-i-preserved c =
     elim c.if-turn.branch [
-      then-turn w ↦
-        rw (w.rows-is, w.found-is) (noted_next c.loop-i.invariant c.loop-i-test.true c.turn_at-turn.ensures w.if-turn.true)
-    | else-turn w ↦
-        rw (w.rows-is, w.found-is) (noted_not c.loop-i.invariant c.loop-i-test.true c.turn_at-turn.ensures w.if-turn.false)
+      | then-turn w ↦
+          rw (w.rows-is, w.found-is) (noted_next c.loop-i.invariant c.loop-i-test.true c.turn_at-turn.ensures w.if-turn.true)
+      | else-turn w ↦
+          rw (w.rows-is, w.found-is) (noted_not c.loop-i.invariant c.loop-i-test.true c.turn_at-turn.ensures w.if-turn.false)
     ]
 
 pub returns : goal.returns

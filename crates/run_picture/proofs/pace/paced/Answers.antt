@@ -13,8 +13,7 @@ paced_by-requires c =
     (omega (arith, c.requires.2.cut), c.requires.2.busy, c.line_time-width.ensures.1)
 
 pub returns : goal.returns
-returns c =
-    (
-      rw (c.paced_by.ensures.0, c.line_time-width.ensures.0, c.unchecked_row-row.ensures),
-      record { cut = omega (arith, c.paced_by.ensures.1, c.requires.2.cut); busy = c.paced_by.ensures.2; start = c.paced_by.ensures.3 },
-    )
+returns c = (
+  rw (c.paced_by.ensures.0, c.line_time-width.ensures.0, c.unchecked_row-row.ensures),
+  record { cut = omega (arith, c.paced_by.ensures.1, c.requires.2.cut); busy = c.paced_by.ensures.2; start = c.paced_by.ensures.3 },
+)
