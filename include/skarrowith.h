@@ -26,8 +26,8 @@
  * may stand at any address.
  *
  * Stack, as measured. skarrowith_bundle_list takes 28,000 bytes, skarrowith_picture 27,000, those on verdicts 11,000,
- * skarrowith_replay_error 5,900, the simulated meter up to 4,400, skarrowith_repeats 2,600, every other function fewer than
- * 1,600.
+ * skarrowith_replay_error 6,300, the simulated meter up to 5,900, skarrowith_repeats 3,500, skarrowith_exchange_heard 2,400,
+ * skarrowith_read_line 2,000, every other function fewer than 1,600.
  *
  * Lines. But for the two checks of a line and the bodies of a bundle, which are bytes, a line is its characters: each a
  * uint16_t with the byte received in the low eight bits and the parity bit received as bit 8. Lengths and places count
