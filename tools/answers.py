@@ -43,7 +43,7 @@ def blocks(text):
             continue
         if line.startswith("--"):
             pend.append(line)
-        elif line[0] in " )":
+        elif line[0] in " )}]":
             out[-1][1].append(line)
         else:
             out.append((pend, [line]))
@@ -52,7 +52,7 @@ def blocks(text):
 
 
 def flat(name):
-    return re.sub(r"[-_]lem$", "", name).replace("_", "-")
+    return re.sub(r"[-_]lem$", "", name).replace("_", "-").lower()
 
 
 class Turn:
@@ -63,6 +63,10 @@ class Turn:
         self.needs = {}
         for old, new in names["needs"]:
             self.needs.setdefault(flat(old), new)
+            if flat(old).startswith("part-"):
+                self.needs.setdefault("slice-bounds-" + flat(old)[5:], new)
+            if re.match(r"(rem|div)-", flat(old)):
+                self.needs.setdefault("nonzero-" + flat(old), new)
             m = re.match(r"(add|sub|mul|shl|shr|cast|neg)-(.*)$", flat(old))
             if m:
                 self.needs.setdefault("overflow-" + flat(old), new)
@@ -80,6 +84,11 @@ class Turn:
         for vs in names["typed"]:
             for v, old in vs:
                 self.typed[flat(old)] = v
+        self.callee = {flat(place[2][0]): place[3] for place in names["places"] if place[3]}
+        self.args = {}
+        for o, n in names["args"]:
+            o, n = o.replace(" ", "").strip(".").split("."), n.replace(" ", "").strip(".").split(".")
+            self.args[tuple(o)] = n[-1]
         self.flags = self.source()
         self.places = {flat(place[0]): new for place, new in zip(names["places"], names["places_by_name"])}
 
@@ -89,6 +98,10 @@ class Turn:
             law[o] = {"true": "lt-ltb", "false": "le-ltb"}
         for o in ("<=", ">="):
             law[o] = {"true": "le-leb", "false": "lt-leb"}
+        if op == "not":
+            return f"(ap not {path})"
+        if op.startswith("not "):
+            return f"(ap not {self.wrapped(op[4:], {'true': 'false', 'false': 'true'}[way], path)})"
         name = law[op][way]
         self.laws.add(name)
         one = f"({name} _ _ {path})"
@@ -109,9 +122,11 @@ class Turn:
             found = [("", t) for t in mine] or found
         flags = {}
         for _, text in found[:1]:
+            for m in re.finditer(r"let (\w+) = !\w+;", text):
+                flags[m.group(1)] = "not"
             for m in re.finditer(r"let (\w+) = ([^;]*?) (==|!=|<=|>=|<|>) ([^;]*);", text):
                 if not re.search(r"[&|]{1,2} | [&|] |\bas bool", m.group(2) + m.group(4)) and "|" not in m.group(2) + m.group(4) and " & " not in m.group(2) + " " + m.group(4):
-                    flags[m.group(1)] = m.group(3)
+                    flags[m.group(1)] = ("not " if m.group(2).startswith("!(") else "") + m.group(3)
         return flags
 
     def body(self, s, var, goal=None):
@@ -128,9 +143,30 @@ class Turn:
                     return m.group(1) + "." + ".".join(list(hit) + parts[k:])
             if len(parts) > 1 and parts[1] == "given" and key in self.typed:
                 return m.group(1) + "." + ".".join(["type_inv", self.typed[key]] + parts[2:])
+            if len(parts) > 1 and (parts[0], parts[1]) in self.args:
+                parts = [parts[0], self.args[parts[0], parts[1]]] + parts[2:]
+            if (parts[0],) in self.args:
+                parts = [self.args[(parts[0],)]] + parts[1:]
             new = self.steps.get(key, parts[0])
+            if len(parts) > 2 and parts[1] in ("new", "auto") and parts[2] in ("0", "1"):
+                k, rest = 0, parts[2:]
+                while rest and rest[0] == "1":
+                    k, rest = k + 1, rest[1:]
+                ps = self.names["params"].get(self.callee.get(key), [])
+                if rest and rest[0] == "0" and k < len(ps):
+                    parts = [parts[0], parts[1], ps[k]] + rest[1:]
             path = m.group(1) + "." + ".".join([new] + parts[1:])
+            if re.match(r"(wrapping|saturating)_", new) and parts[1:] == ["ensures"]:
+                path += ".value"
             if len(parts) == 2 and parts[1] in ("true", "false") and new.startswith("if-"):
+                if new.startswith("if-not-"):
+                    other = {"true": "false", "false": "true"}[parts[1]]
+                    inner = path
+                    for flag in sorted(self.flags, key=len, reverse=True):
+                        if new == "if-not-" + flag or re.match(rf"if-not-{re.escape(flag)}-", new):
+                            inner = self.wrapped(self.flags[flag], other, path)
+                            break
+                    return f"(ap not {inner})"
                 for flag in sorted(self.flags, key=len, reverse=True):
                     if new == "if-" + flag or re.match(rf"if-{re.escape(flag)}-", new):
                         return self.wrapped(self.flags[flag], parts[1], path)
@@ -145,8 +181,17 @@ class Turn:
             s = s[: m.start()] + s[m.end() :]
             s = s[: m.start()] + re.sub(rf"(?<![\w.'₀-₉-]){re.escape(m.group(1))}(?![\w'₀-₉-])(?! *[:=] )", var, s[m.start() :])
         s = re.sub(rf"(?<![\w.'-]){var}((?:\.before)+)(?![\w'-])", var, s)
+        while True:
+            m = re.search(rf"let ([\w'₀-₉-]+) = ({var}(?:\.{WORD})*\.given|{var}(?:\.before)*\.(?!args|requires|ranges|loop)[\w-]+) in\s*", s)
+            if not m:
+                break
+            s = s[: m.start()] + s[m.end() :]
+            s = s[: m.start()] + re.sub(rf"(?<![\w.'₀-₉-]){re.escape(m.group(1))}(?![\w'₀-₉-])(?! *[:=] )", m.group(2), s[m.start() :])
         s = re.sub(rf"(?<![\w.'-])({re.escape(var)})((?:\.{WORD})+)", step, s)
-        s = s.replace(".type-inv", ".type_inv")
+        for o, n in self.args.items():
+            if len(o) == 2 and o[0] == "args" and re.fullmatch(r"t\d+", o[1]):
+                s = re.sub(rf"\.{o[1]}(?![\w'-])", "." + n, s)
+        s = s.replace(".type-inv", ".type_inv").replace(".well-formed", ".well_formed")
         if goal:
             for lemma, place in self.over.items():
                 s = re.sub(rf"(?<![\w.'-]){re.escape(lemma)} {var}(?![\w.'-])", f"{lemma} (goal.at.{goal} {var}).{place}", s)
@@ -167,13 +212,13 @@ class Turn:
             if one.startswith("unfolding"):
                 decls[cur]["unfolding"] = one
                 continue
-            m = re.match(r"(?:(abbrev|unfoldable) )?(?:pub )?([^\s:]+) : ", one)
+            m = re.match(r"(?:(abbrev|unfoldable) )?(?:pub )?([^\s:]+) :\s+", one)
             if m and not re.match(r"[^\n]*?[^:\s] = ", one.split("\n")[0][: m.end()]):
                 cur = m.group(2)
                 decls[cur] = {"sig": one, "eqs": [], "com": com, "unfolding": None, "type": one[m.end() :]}
                 order.append(cur)
                 continue
-            m = re.match(r"(data|record|module|abbrev|infix)", one)
+            m = re.match(r"(?:pub )?(data|record|module|abbrev|infix[lr]?) ", one)
             if m:
                 cur = one
                 decls[cur] = {"sig": one, "eqs": [], "com": com, "unfolding": None, "type": ""}
@@ -233,7 +278,8 @@ class Turn:
                 old = flat(m.group(1))
                 new = self.needs.get(old)
                 if new is None:
-                    raise ValueError(f"{n}: no goal {m.group(1)} in {sorted(self.needs)}")
+                    self.left.append(f"no goal {m.group(1)}: " + " / ".join(d["eqs"])[:300])
+                    continue
                 eqs = []
                 for eq in d["eqs"]:
                     e = re.match(rf"(\s*(?:--[^\n]*\n)*){re.escape(n)} ([^\s=]+)((?: [^\s=]+)*) =(\s*)", eq)
@@ -260,7 +306,7 @@ class Turn:
                 m = re.search(r"\((\w+) : tie\.", sig)
                 if m:
                     sig = self.body(sig, m.group(1))
-                sig = re.sub(r"tie\.([\w'-]+)", lambda q: self.places.get(flat(q.group(1)), q.group(0)), sig)
+                sig = re.sub(r"tie\.([\w'-]+)(?: (?:invariant|decreases)-[\w'-]+)*", lambda q: self.places.get(flat(q.group(1)), q.group(0)), sig)
             unf = ("\n" + d["unfolding"]) if d["unfolding"] else ""
             eqs = []
             for eq in d["eqs"]:
@@ -268,6 +314,12 @@ class Turn:
                 v = e.group(1) if e and tied else "c"
                 eqs.append(self.body(eq, v) if tied else eq)
             ans.append(f"{com}{sig}{unf}\n" + "\n".join(eqs) + "\n")
+        for n in order:
+            m = re.match(r"tie\.Need-([^\s]+)", decls[n]["type"].strip())
+            if m and self.needs.get(flat(m.group(1)), n) != n:
+                for k, a_ in enumerate(ans):
+                    if re.search(rf"(?<![\w.'-]){re.escape(n)} c(?![\w'-])", a_) and not re.search(rf"(?m)^pub {re.escape(n)} :", a_):
+                        ans[k] = re.sub(rf"(?<![\w.'-]){re.escape(n)} c(?![\w'-])", f"{self.needs[flat(m.group(1))]} c", a_)
         # answers that stand in the closing list
         if len(given) == len(self.names["needs"]):
             for a, (old, new) in zip(given, self.names["needs"]):
@@ -289,6 +341,7 @@ class Turn:
         uses = [u for u in uses if not re.search(r"\.(Statement|Tie)\b", u)]
         if self.laws:
             uses.append(f"use borrow.Author.Tests.{{{', '.join(sorted(self.laws))}}}")
+        if True:
             if any("(ap not " in a for a in ans):
                 uses += ["use mathlib.Core.Path.{ap}", "use mathlib.Core.Bool.{not}"]
         header = "\n".join(l for l in head if l.startswith("--"))
@@ -317,6 +370,11 @@ class Turn:
             for n in [x.strip() for x in m.group(2).split(",")]:
                 k = n.split(" as ")[-1]
                 parts = [q for q in k.split("◌") if q]
+                if k == "[]":
+                    ok = "[]" in body
+                    if ok:
+                        keep.append(n)
+                    continue
                 if (parts and all(q in words or q in body for q in parts)) if "◌" in k else k in words:
                     keep.append(n)
             if keep:

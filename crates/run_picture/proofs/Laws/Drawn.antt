@@ -5,7 +5,7 @@ use mathlib.Core.List.{List, [], ◌∷◌, ◌++◌, map}
 use mathlib.Core.Path.{◌≡◌, refl, sym, ap, ◌∙◌}
 use native.Mathlib.Nat.{zero-add}
 use native.Mathlib.Omega.{arith}
-use borrow.Author.Tests.{lt-ltb, le-ltb, leb-true, leb-false}
+use borrow.Author.Tests.{ltb-true, ltb-false, lt-ltb, le-ltb, leb-true, leb-false}
 use lib.Dec.{ltb, leb}
 use lib.ListN.{length, get_or, replicate}
 use lib.Seq.{sets-eq}
@@ -110,15 +110,15 @@ module _ (b : List ℕ) {n : ℕ} (e : check_of b ≡ reads n) where
       rw all
 
   module _ (out : List ℕ) {fits : Bool} (h : fits ≡ leb (length (picture_of b)) (length out)) where
-    pub draws_not : fits ≡ false → Draws b out (Refused 21) out
-    draws_not f =
+    pub left_undrawn : fits ≡ false → Draws b out (Refused 21) out
+    left_undrawn f =
         let long : ltb (length out) (length (picture_of b)) ≡ true =
         lt-ltb (length out) (length (picture_of b)) (leb-false (length (picture_of b)) (length out) (sym h ∙ f)) in
         record { answer = rw (e, long); holds = rw (e, long) }
 
-    pub draws_all : {size : ℕ} {after : List ℕ} → length out < 18446744073709551615 → fits ≡ true → PutAt (picture_of b) out 0 size after
+    pub drawn_whole : {size : ℕ} {after : List ℕ} → length out < 18446744073709551615 → fits ≡ true → PutAt (picture_of b) out 0 size after
         → Draws b out (Written size) after
-    draws_all {size} {after} room f w =
+    drawn_whole {size} {after} room f w =
         let text : List ℕ = picture_of b in
         let less : length text ≤ length out = leb-true (length text) (length out) (sym h ∙ f) in
         let all : size ≡ length text = omega (arith, w.count, zero-add (length text)) in
@@ -126,6 +126,26 @@ module _ (b : List ℕ) {n : ℕ} (e : check_of b ≡ reads n) where
         record {
           answer = rw (e, short, all);
           holds = w.holds ∙ sets-eq text out 0 (omega (arith, zero-add (length text))) ∙ rw (e, short, zero-add);
+        }
+
+  -- and by the size that measuring tells
+  module _ (out : List ℕ) {size : ℕ} (count : size ≡ tallied (0 + length (picture_of b))) where
+    pub draws_not : ltb (length out) size ≡ true → Draws b out (Refused 21) out
+    draws_not t =
+        let long : ltb (length out) (length (picture_of b)) ≡ true =
+        lt-ltb (length out) (length (picture_of b)) (omega (arith, count, ltb-true (length out) size t, zero-add (length (picture_of b)))) in
+        record { answer = rw (e, long); holds = rw (e, long) }
+
+    pub draws_all : {r : ℕ} {after : List ℕ} → length out < 18446744073709551615 → ltb (length out) size ≡ false → PutAt (picture_of b) out 0 r after
+        → Draws b out (Written size) after
+    draws_all {r} {after} room f w =
+        let text : List ℕ = picture_of b in
+        let less : size ≤ length out = ltb-false (length out) size f in
+        let all : size ≡ length text = omega (arith, count, zero-add (length text)) in
+        let fits : ltb (length out) (length text) ≡ false = le-ltb (length out) (length text) (omega arith) in
+        record {
+          answer = rw (e, fits, all);
+          holds = w.holds ∙ sets-eq text out 0 (omega (arith, zero-add (length text))) ∙ rw (e, fits, zero-add);
         }
 
 pub draws_refused : (b out : List ℕ) {k : ℕ} → check_of b ≡ refusal k → Draws b out (Refused k) out

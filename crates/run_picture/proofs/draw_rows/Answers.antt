@@ -1,5 +1,5 @@
 -- `run_picture::draw_rows` meets its contract: the picture is drawn where there is room for it.
-use Rattle.run_picture.proofs.Laws.Drawn.{picture_drawn, draws_not, draws_all}
+use Rattle.run_picture.proofs.Laws.Drawn.{picture_drawn, left_undrawn, drawn_whole}
 use native.Mathlib.Omega.{arith}
 use Rattle.run_picture.proofs.draw_rows.Goals as goal
 
@@ -7,9 +7,9 @@ pub returns-then-fits : goal.returns-then-fits
 returns-then-fits c =
     let b = c.args.bundle.now in
     let same = picture_drawn b c.requires.0 c.requires.1 c.plan_of-plan.ensures.page in
-    draws_all b c.requires.0 c.args.out.now c.has_room-fits.ensures (omega (arith, c.well_formed)) c.if-fits.true
+    drawn_whole b c.requires.0 c.args.out.now c.has_room-fits.ensures (omega (arith, c.well_formed)) c.if-fits.true
     (rw same at c.put_picture-size.ensures)
 
 pub returns : goal.returns
 returns c =
-    draws_not c.args.bundle.now c.requires.0 c.args.out.now c.has_room-fits.ensures c.if-fits.false
+    left_undrawn c.args.bundle.now c.requires.0 c.args.out.now c.has_room-fits.ensures c.if-fits.false
