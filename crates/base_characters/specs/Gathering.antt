@@ -2,7 +2,8 @@
 use Rattle.std.specs.Prelude.{◌≡◌, ℕ, ◌%◌, false, ltb, List, map, ◌==◌, nat_lt}
 use Rattle.base_rules.specs.Lists.{any, total}
 use Rattle.base_characters.specs.Characters.{over, odd, byte_of}
-use Rattle.base_rules.specs.Answers.{Answer, reads, refuse, outcome_shown}
+use Rattle.base_rules.specs.Answers.{Answer, reads, refuse}
+use Rattle.base_rules.specs.Shown.{shown}
 use Rattle.base_characters.specs.declared.Gathering.{Gathering}
 
 -- 2 and 3 of all characters: one is over 511, a parity is odd
@@ -11,7 +12,7 @@ sound s = refuse 2 (any over s) (refuse 3 (any odd s) (reads tt))
 
 -- and with them the sum of the bytes, modulo 256
 abbrev pub gathered : List ℕ → Gathering
-gathered s = record { outcome = outcome_shown (sound s); sum = total (map byte_of s) % 256 }
+gathered s = record { outcome = shown (sound s); sum = total (map byte_of s) % 256 }
 
 -- Both tests of characters in one number: it is over 511 where one of them is, and where none is its lowest bit tells an odd parity.
 pub record Flagged (s : List ℕ) (flags : ℕ) : Type 0 where
@@ -24,7 +25,7 @@ sound_by flags = refuse 2 (nat_lt 511 flags) (refuse 3 (flags % 2 == 1) (reads t
 
 -- with the sum, modulo 256, of what was added up
 abbrev pub gathered_by : ℕ → ℕ → Gathering
-gathered_by flags sum = record { outcome = outcome_shown (sound_by flags); sum = sum % 256 }
+gathered_by flags sum = record { outcome = shown (sound_by flags); sum = sum % 256 }
 
 -- What is gathered of a part of the characters: their tests in one number, and their sum.
 pub record Parted (s : List ℕ) (flags sum : ℕ) : Type 0 where

@@ -4,12 +4,7 @@ ghost use Rattle.base_characters.specs.Characters.{carrier};
 ghost use Rattle.base_lent.specs.Copying.{laid};
 ghost use Rattle.base_characters.specs.Carrying.{Writes, carried_in};
 
-// The characters written, or the number of a refusal.
-#[derive(Clone, Copy)]
-pub enum Written {
-    Length(usize),
-    Refused(u16),
-}
+use base_rules::Refusal;
 
 // The character that carries a byte. The bits are folded onto the lowest one.
 fn carrier_of(byte: u8) -> u16
@@ -27,21 +22,19 @@ fn carry(bytes: &[u8], out: &mut [u16])
     requires { length bytes.now ≤ length out.old }
     ensures { out.new ≡ laid out.old 0 (map carrier bytes.now) }
 {
-    let mut place = 0;
-    while place < bytes.len() {
-        out[place] = carrier_of(bytes[place]);
-        place += 1;
+    for (place, &byte) in bytes.iter().enumerate() {
+        out[place] = carrier_of(byte);
     }
 }
 
 // Writes the characters that carry the bytes into the first places and nothing beyond. Where there are fewer places that is 21, and all
 // places stay as they were.
-pub fn write_bytes(bytes: &[u8], out: &mut [u16]) -> Written
+pub fn write_bytes(bytes: &[u8], out: &mut [u16]) -> Result<usize, Refusal>
     ensures { Writes (carried_in bytes.now (length out.old)) out.old out.new result }
 {
     if out.len() < bytes.len() {
-        return Written::Refused(21);
+        return Err(Refusal::TOO_FEW_PLACES);
     }
     carry(bytes, out);
-    Written::Length(bytes.len())
+    Ok(bytes.len())
 }

@@ -3,22 +3,22 @@
 // end can take many characters at a time.
 #![tactic(auto)]
 
-ghost use Rattle.std.specs.Prelude.{◌≡◌, ◌+◌, ◌%◌, [], ◌∷◌, if◌then◌else◌, bit_or, nat_lt};
+ghost use Rattle.std.specs.Prelude.{◌≡◌, ◌+◌, ◌%◌, [], ◌∷◌, bit_or};
 ghost use Rattle.base_rules.specs.Lists.{total};
 ghost use Rattle.base_characters.specs.Characters.{odd};
-ghost use Rattle.base_rules.specs.Answers.{outcome_shown};
+ghost use Rattle.base_rules.specs.Shown.{shown};
 ghost use Rattle.base_characters.specs.Gathering.{Flagged, sound_by, gathered_by};
 
-use base_rules::Outcome;
+use base_rules::Refusal;
 
 pub mod carrying;
 pub mod line;
 pub mod pairs;
 
-// What one walk over characters gathers: 2 or 3, and the sum of their bytes, modulo 256.
+// What one walk over characters gathers: 2 or 3, and the sum of their bytes, modulo 256, which is there on a refusal too.
 #[derive(Clone, Copy)]
 pub struct Gathering {
-    pub outcome: Outcome,
+    pub outcome: Result<(), Refusal>,
     pub sum: u8,
 }
 
@@ -41,16 +41,16 @@ fn folded(c: u16) -> u16
 }
 
 // 2 and 3, by the tests of all characters in one number.
-fn told_by(flags: u16) -> Outcome
-    ensures { result ≡ outcome_shown (sound_by flags) }
+fn told_by(flags: u16) -> Result<(), Refusal>
+    ensures { result ≡ shown (sound_by flags) }
 {
     if (flags < 512) & (flags % 2 == 0) {
-        return Outcome::Accepted;
+        return Ok(());
     }
     if 511 < flags {
-        return Outcome::Refused(2);
+        return Err(Refusal::WRONG_CHARACTER);
     }
-    Outcome::Refused(3)
+    Err(Refusal::ODD_PARITY)
 }
 
 // What two parts tell together.
@@ -58,7 +58,7 @@ fn told_of(first: Part, second: Part) -> Gathering
     ensures { result ≡ gathered_by (bit_or first.flags second.flags) (first.sum + second.sum) }
 {
     let outcome = told_by(first.flags | second.flags);
-    let sum = std::num::wrapping_add_u16(first.sum, second.sum);
+    let sum = first.sum.wrapping_add(second.sum);
     Gathering {
         outcome,
         sum: (sum % 256) as u8,
@@ -66,32 +66,19 @@ fn told_of(first: Part, second: Part) -> Gathering
 }
 
 // The parity over all nine bits is odd, by a count of them: cheaper for a character by itself.
+#[tactic(auto, using(crate::proofs::Laws::ParityLaws::counted_odd))]
 pub fn counts_odd(c: u16) -> bool
     ensures { result ≡ odd c }
 {
-    u16::count_ones(c % 512) % 2 == 1
-}
-
-// The lower of two counts.
-fn fewer(a: usize, b: usize) -> usize
-    ensures { result ≡ (if nat_lt a b then a else b) }
-{
-    if a < b {
-        return a;
-    }
-    b
+    (c % 512).count_ones() % 2 == 1
 }
 
 // Both tests of a character in one number, by a count of its bits.
 fn counted(c: u16) -> u16
     ensures { Flagged (c ∷ []) result }
 {
-    let odd = counts_odd(c);
     let high = c / 512 * 512;
-    if odd {
-        return high + 1;
-    }
-    high
+    if counts_odd(c) { high + 1 } else { high }
 }
 
 // The sum of bytes, modulo 256.
@@ -99,10 +86,8 @@ pub fn sum_of(bytes: &[u8]) -> u8
     ensures { result ≡ total bytes.now % 256 }
 {
     let mut sum: u8 = 0;
-    let mut i = 0;
-    while i < bytes.len() {
-        sum = std::num::wrapping_add_u8(sum, bytes[i]);
-        i += 1;
+    for &b in bytes {
+        sum = sum.wrapping_add(b);
     }
     sum
 }

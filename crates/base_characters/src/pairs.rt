@@ -1,23 +1,27 @@
 // A line whose characters come as bytes, two per character, low byte first.
+// (Not one function with those of line.rt: the walk here is by blocks, which is cheaper at run time, and what both kinds share is `folded`,
+// `told_by` and the laws. Loops go by the character's place, since it is that of two bytes here and of one there.)
 ghost use Rattle.std.specs.Prelude.{◌≡◌, ◌-◌, ◌*◌, ◌/◌, ◌<◌, ◌≤◌, map, length, take, drop};
 ghost use Rattle.base_rules.specs.Lists.{at, any};
 ghost use Rattle.base_characters.specs.Characters.{over, byte_of, chars};
-ghost use Rattle.base_rules.specs.Answers.{outcome_shown};
+ghost use Rattle.base_rules.specs.Shown.{shown};
 ghost use Rattle.base_lent.specs.Copying.{copied};
 ghost use Rattle.base_characters.specs.Gathering.{Parted, sound, gathered};
 
-use super::{Gathering, Part, counted, fewer, folded, told_by, told_of};
-use base_rules::Outcome;
+use super::{Gathering, Part, counted, folded, told_by, told_of};
+use base_rules::Refusal;
 
 // The character at a place.
+#[tactic(auto, using(crate::proofs::Laws::PairLaws::pair_read))]
 fn pair_at(bytes: &[u8], i: usize) -> u16
     requires { i < length bytes.now / 2 }
     ensures { result ≡ at (chars bytes.now) i }
 {
-    bytes[2 * i] as u16 + 256 * bytes[2 * i + 1] as u16
+    u16::from_le_bytes([bytes[2 * i], bytes[2 * i + 1]])
 }
 
 // The character at a place, 0 past the end.
+#[tactic(auto, using(crate::proofs::Laws::PairLaws::character_none))]
 pub fn character_at(bytes: &[u8], i: usize) -> u16
     ensures { result ≡ at (chars bytes.now) i }
 {
@@ -27,27 +31,25 @@ pub fn character_at(bytes: &[u8], i: usize) -> u16
     0
 }
 
-// A character is over 511.
+// A character is over 511. All are looked at, many at a time: `any`, which stops at the first, is dearer on a line that has none.
 pub fn any_over(bytes: &[u8]) -> bool
     ensures { result ≡ any over (chars bytes.now) }
 {
     let mut found = false;
     for i in 0..bytes.len() / 2 {
-        found = found | (511 < character_at(bytes, i));
+        found |= 511 < pair_at(bytes, i);
     }
     found
 }
 
 // 2 and 3 of all characters.
-pub fn soundness_of(bytes: &[u8]) -> Outcome
-    ensures { result ≡ outcome_shown (sound (chars bytes.now)) }
+pub fn soundness_of(bytes: &[u8]) -> Result<(), Refusal>
+    ensures { result ≡ shown (sound (chars bytes.now)) }
 {
+    let count = bytes.len() / 2;
     let mut flags: u16 = 0;
-    let mut i = 0;
-    while i < bytes.len() / 2 {
-        let c = character_at(bytes, i);
-        flags = flags | folded(c);
-        i += 1;
+    for i in 0..count {
+        flags |= folded(pair_at(bytes, i));
     }
     told_by(flags)
 }
@@ -61,14 +63,11 @@ fn gather_blocks(bytes: &[u8], whole: usize, out: &mut [u8]) -> Part
 {
     let mut flags: u16 = 0;
     let mut sum: u16 = 0;
-    let mut i = 0;
-    while i < whole {
+    for i in 0..whole {
         let c = pair_at(bytes, i);
-        let b = (c % 256) as u8;
-        flags = flags | folded(c);
-        sum = std::num::wrapping_add_u16(sum, c);
-        out[i] = b;
-        i += 1;
+        flags |= folded(c);
+        sum = sum.wrapping_add(c);
+        out[i] = (c % 256) as u8;
     }
     Part { flags, sum }
 }
@@ -81,14 +80,11 @@ fn gather_few(bytes: &[u8], from: usize, count: usize, out: &mut [u8]) -> Part
 {
     let mut flags: u16 = 0;
     let mut sum: u16 = 0;
-    let mut i = 0;
-    while i < count - from {
-        let c = pair_at(bytes, from + i);
-        let b = (c % 256) as u8;
-        flags = flags | counted(c);
-        sum = std::num::wrapping_add_u16(sum, c);
-        out[from + i] = b;
-        i += 1;
+    for i in from..count {
+        let c = pair_at(bytes, i);
+        flags |= counted(c);
+        sum = sum.wrapping_add(c);
+        out[i] = (c % 256) as u8;
     }
     Part { flags, sum }
 }
@@ -104,16 +100,13 @@ fn gather_last(bytes: &[u8], count: usize, out: &mut [u8]) -> Part
     let mut sum: u16 = 0;
     let from = count - 16;
     let left = (count % 16) as u16 + 16;
-    let mut j: u16 = 0;
-    while j < 16 {
+    for j in 0..16u16 {
         let i = from + j as usize;
         let d = pair_at(bytes, i);
-        let b = (d % 256) as u8;
         let c = d * ((left + j) / 32);
-        flags = flags | folded(c);
-        sum = std::num::wrapping_add_u16(sum, c);
-        out[i] = b;
-        j += 1;
+        flags |= folded(c);
+        sum = sum.wrapping_add(c);
+        out[i] = (d % 256) as u8;
     }
     Part { flags, sum }
 }
@@ -149,9 +142,7 @@ pub fn gather(bytes: &[u8], out: &mut [u8]) -> Gathering
     ensures { (result ≡ gathered (take (length out.old) (chars bytes.now))) × (out.new
         ≡ copied out.old 0 (map byte_of (take (length out.old) (chars bytes.now)))) }
 {
-    let here = bytes.len() / 2;
-    let places = out.len();
-    let count = fewer(here, places);
+    let count = (bytes.len() / 2).min(out.len());
     if count < 16 {
         return gather_short(bytes, count, out);
     }

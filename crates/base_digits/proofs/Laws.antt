@@ -3,3 +3,4 @@ pub mod DigitLaws
 pub mod GatherLaws
 pub mod WordLaws
 pub mod JoinLaws
+pub mod PackingLaws

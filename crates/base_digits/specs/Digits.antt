@@ -1,5 +1,5 @@
 -- 01, "Header" and "Entry": packed BCD, low byte first.
-use Rattle.std.specs.Prelude.{ℕ, zero, suc, ◌+◌, ◌*◌, ◌/◌, ◌%◌, Bool, ◌||◌, List, [], ◌∷◌, ltb, ◌-◌}
+use Rattle.std.specs.Prelude.{ℕ, zero, suc, ◌+◌, ◌*◌, ◌/◌, ◌%◌, Bool, ◌||◌, List, [], ◌∷◌, ltb}
 use Rattle.base_rules.specs.Lists.{any}
 use Rattle.base_digits.specs.declared.Packed.{Packed}
 

@@ -3,10 +3,11 @@
 
 ghost use Rattle.std.specs.Prelude.{◌≡◌, ◌+◌, ◌*◌, ◌/◌, ◌%◌};
 ghost use Rattle.base_rules.specs.Lists.{any};
-ghost use Rattle.base_digits.specs.Digits.{over_nine, digits_of, packed_of};
+ghost use Rattle.base_digits.specs.Digits.{over_nine, digits_of, packed_of, packed};
 ghost use Rattle.base_numbers.specs.Numbers.{bytes_of};
 
 // What packed digits hold: a digit is over nine, and the number that they are.
+// (No Option: `packed_of` tells the number of any digits, and readers ask for it where another rule refuses digits over nine.)
 #[derive(Clone, Copy)]
 pub struct Packed {
     pub wrong: bool,
@@ -57,4 +58,17 @@ pub fn two_digits(n: u64) -> u8
     ensures { result ≡ 16 * (n / 10 % 10) + n % 10 }
 {
     (16 * (n / 10 % 10) + n % 10) as u8
+}
+
+// The packed digits of a number in so many bytes, the lowest first.
+pub fn packed_digits<const N: usize>(n: u64) -> [u8; N]
+    ensures { result ≡ packed N n }
+{
+    let mut bytes = [0u8; N];
+    let mut rest = n;
+    for byte in bytes.iter_mut() {
+        *byte = two_digits(rest);
+        rest /= 100;
+    }
+    bytes
 }

@@ -4,3 +4,4 @@ pub mod Lent
 pub mod Same
 pub mod Pieces
 pub mod Recorded
+pub mod Handed

@@ -1,7 +1,5 @@
 -- 01, "Refusal numbers": a refusal hands back the number alone.
 use Rattle.std.specs.Prelude.{ℕ, Bool, cond}
-use Rattle.base_rules.specs.declared.Outcome.{Outcome}
-use Rattle.base_rules.specs.declared.Outcome.TheVariants.{Accepted, Refused}
 
 -- What a rule answers: the number of a refusal, or the value.
 pub data Answer (A : Type 0) : Type 0 where
@@ -21,8 +19,3 @@ within f (reads a) = reads (f a)
 abbrev pub follow : {A B : Type 0} → Answer A → (A → Answer B) → Answer B
 follow (refusal n) next = refusal n
 follow (reads a) next = next a
-
--- The program's answer where only the number of a refusal is asked: accepted, or the number.
-abbrev pub outcome_shown : Answer (Unit {0}) → Outcome
-outcome_shown (refusal n) = Refused n
-outcome_shown (reads u) = Accepted

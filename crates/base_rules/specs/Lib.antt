@@ -3,3 +3,4 @@ pub mod Lists
 pub mod Answers
 pub mod Bytes
 pub mod Each
+pub mod Shown

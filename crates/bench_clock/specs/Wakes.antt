@@ -1,9 +1,7 @@
 -- 01, "Refusal numbers", 52 and 21: a wake-up, told and written. Its bytes are 000's, section 5.2.
 use Rattle.std.specs.Prelude.{ℕ, Bool, not, ◌||◌, ◌&&◌, List, ltb, eqb, length, replicate}
 use Rattle.base_rules.specs.Lists.{any}
-use Rattle.base_rules.specs.Answers.{Answer, reads, refusal, refuse}
-use Rattle.bench_clock.specs.declared.Wake.{Wake}
-use Rattle.bench_clock.specs.declared.Wake.TheVariants.{Written, Refused}
+use Rattle.base_rules.specs.Answers.{Answer, reads, refuse}
 
 -- the count of characters in a wake-up is 459–502
 abbrev pub wake_least : ℕ
@@ -34,8 +32,3 @@ wake_line count = replicate count wake_character
 -- 52: the count is outside 459–502; then 21: there are fewer places than characters; else so many are written
 abbrev pub wake_of : ℕ → List ℕ → Answer ℕ
 wake_of count out = refuse 52 (outside_wake count) (refuse 21 (ltb (length out) count) (reads count))
-
--- the case of the code's answer for each
-abbrev pub shown_wake : Answer ℕ → Wake
-shown_wake (reads n) = Written n
-shown_wake (refusal n) = Refused n

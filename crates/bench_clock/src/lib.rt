@@ -2,31 +2,19 @@
 #![tactic(auto)]
 
 ghost use Rattle.std.specs.Prelude.{◌≡◌, ◌-◌};
+ghost use Rattle.base_rules.specs.Shown.{shown};
 ghost use Rattle.base_characters.specs.Characters.{chars};
 ghost use Rattle.base_lent.specs.Lent.{stored};
 ghost use Rattle.bench_clock.specs.Times.{late, due, earlier};
-ghost use Rattle.bench_clock.specs.Gaps.{gap_of, shown_gap};
-ghost use Rattle.bench_clock.specs.Wakes.{is_wake, wake_of, shown_wake, wake_line};
+ghost use Rattle.bench_clock.specs.Gaps.{gap_of};
+ghost use Rattle.bench_clock.specs.Wakes.{outside_wake, is_wake, wake_of, wake_line};
 
 use base_characters::pairs::character_at;
+use base_rules::Refusal;
 
 // A time on the line clock, counted in bit times of 1/2400 s.
-#[derive(Clone, Copy)]
+#[derive(Clone, Copy, PartialEq, Eq, PartialOrd, Ord)]
 pub struct Clock(pub u64);
-
-// What the gap between a wake-up and the command after it is: fine, or refused by 50 or 51.
-#[derive(Clone, Copy)]
-pub enum Gap {
-    Fine,
-    Refused(u16),
-}
-
-// What became of writing a wake-up: the characters written, or refused by 52 or 21.
-#[derive(Clone, Copy)]
-pub enum Wake {
-    Written(usize),
-    Refused(u16),
-}
 
 impl Clock {
     // The command begins at least 13.75 ms after the wake-up's end.
@@ -44,7 +32,7 @@ impl Clock {
     fn since(self, t: Clock) -> u64
         ensures { result ≡ t.0 - self.0 }
     {
-        if self.0 < t.0 { t.0 - self.0 } else { 0 }
+        t.0.saturating_sub(self.0)
     }
 
     // Whether t is past the window of a send that ended at this time.
@@ -65,21 +53,21 @@ impl Clock {
     pub fn earlier(self, t: Clock) -> bool
         ensures { result ≡ earlier self.0 t.0 }
     {
-        t.0 < self.0
+        t < self
     }
 
-    // Whether a command that begins at a time stands in the gap after a wake-up that ended at this time.
-    pub fn gap(self, begins: Clock) -> Gap
-        ensures { result ≡ shown_gap (gap_of self.0 begins.0) }
+    // Whether a command that begins at a time stands in the gap after a wake-up that ended at this time: yes, or refused by 50 or 51.
+    pub fn gap(self, begins: Clock) -> Result<(), Refusal>
+        ensures { result ≡ shown (gap_of self.0 begins.0) }
     {
         let gap = self.since(begins);
         if gap < Clock::GAP_LEAST {
-            return Gap::Refused(50);
+            return Err(Refusal::GAP_TOO_SHORT);
         }
         if Clock::GAP_MOST < gap {
-            return Gap::Refused(51);
+            return Err(Refusal::GAP_TOO_LONG);
         }
-        Gap::Fine
+        Ok(())
     }
 }
 
@@ -90,40 +78,39 @@ pub const WAKE_MOST: usize = 502;
 
 pub const WAKE_CHARACTER: u16 = 0x055;
 
+// Whether so many characters are too few or too many for a wake-up.
+fn outside_wake(count: usize) -> bool
+    ensures { result ≡ outside_wake count }
+{
+    count < WAKE_LEAST || WAKE_MOST < count
+}
+
 // The characters of a body, two bytes each, are a wake-up: so many, and each of them the one.
 pub fn is_wake(body: &[u8]) -> bool
     ensures { result ≡ is_wake (chars body.now) }
 {
     let size = body.len() / 2;
-    let outside = (size < WAKE_LEAST) | (WAKE_MOST < size);
-    if outside {
+    if outside_wake(size) {
         return false;
     }
+    // No way out between: the back end then takes many characters at a time, which `all` does not let it.
     let mut other = false;
-    let mut i = 0;
-    while i < size {
-        let c = character_at(body, i);
-        other = other | (c != WAKE_CHARACTER);
-        i += 1;
+    for i in 0..size {
+        other |= character_at(body, i) != WAKE_CHARACTER;
     }
     !other
 }
 
-// Writes a wake-up of `count` characters into the first places of `out`.
-pub fn write_wake(count: usize, out: &mut [u16]) -> Wake
-    ensures { (result ≡ shown_wake (wake_of count out.old)) × (out.new ≡ stored wake_line out.old
-        (wake_of count out.old)) }
+// Writes a wake-up of `count` characters into the first places of `out`: how many were written, or refused by 52 or 21.
+pub fn write_wake(count: usize, out: &mut [u16]) -> Result<usize, Refusal>
+    ensures { (result ≡ shown (wake_of count out.old)) × (out.new ≡ stored wake_line out.old (wake_of count out.old)) }
 {
-    let outside = (count < WAKE_LEAST) | (WAKE_MOST < count);
-    if outside {
-        return Wake::Refused(52);
+    if outside_wake(count) {
+        return Err(Refusal::WAKE_WRONG_COUNT);
     }
-    let short = out.len() < count;
-    if short {
-        return Wake::Refused(21);
+    if out.len() < count {
+        return Err(Refusal::TOO_FEW_PLACES);
     }
-    for at in 0..count {
-        out[at] = WAKE_CHARACTER;
-    }
-    Wake::Written(count)
+    out[..count].fill(WAKE_CHARACTER);
+    Ok(count)
 }

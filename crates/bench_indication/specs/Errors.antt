@@ -1,9 +1,7 @@
 -- 01, "Error of indication": formulas A.1 and B.1 of 000. B.1 has one standard value: S1 = 0, S2 = Qa.
 use Rattle.std.specs.Prelude.{ℕ, ◌-◌, Bool, ◌||◌, ltb, leb, eqb, ℤ, pos, ◌-ℤ◌, ◌*ℤ◌}
-use Rattle.base_rules.specs.Answers.{Answer, reads, refusal, refuse}
+use Rattle.base_rules.specs.Answers.{Answer, reads, refuse}
 use Rattle.base_numbers.specs.Rounding.{rounded}
-use Rattle.bench_indication.specs.declared.Indication.{Indication}
-use Rattle.bench_indication.specs.declared.Indication.TheVariants.{Error, Refused}
 
 -- 10^12, the largest count
 abbrev pub count_most : ℕ
@@ -24,11 +22,6 @@ indication_of m1 m2 s1 s2 =
     (refuse 61 (ltb m2 m1)
     (refuse 62 (leb s2 s1)
     (reads (error_of m1 m2 s1 s2))))
-
--- the case of the code's answer for each
-abbrev pub shown_indication : Answer ℤ → Indication
-shown_indication (reads e) = Error e
-shown_indication (refusal n) = Refused n
 
 -- The error of one rise against another, x against y. (Formula C.1, 02's 2026-04, has this shape too.)
 unfoldable pub tenths : ℕ → ℕ → ℤ

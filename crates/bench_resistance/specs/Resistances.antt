@@ -1,12 +1,8 @@
 -- 02, "Setting the resistance box": IEC 60751's rule for 0 to 200 °C, the card's 201 resistances, the straight line between degrees,
 -- and the other way round. Temperatures are hundredths of a degree.
 use Rattle.std.specs.Prelude.{ℕ, zero, suc, ◌+◌, ◌-◌, ◌*◌, ◌/◌, ◌%◌, ◌^◌, Bool, cond, ◌||◌, List, [], ◌∷◌, ltb, leb}
-use Rattle.base_rules.specs.Answers.{Answer, reads, refusal, refuse}
+use Rattle.base_rules.specs.Answers.{Answer, reads, refuse}
 use Rattle.base_numbers.specs.Rounding.{nearest}
-use Rattle.bench_resistance.specs.declared.Resistance.{Resistance}
-use Rattle.bench_resistance.specs.declared.Resistance.TheVariants as resistances
-use Rattle.bench_resistance.specs.declared.Temperature.{Temperature}
-use Rattle.bench_resistance.specs.declared.Temperature.TheVariants as temperatures
 
 -- 200 °C
 abbrev pub hundredths_most : ℕ
@@ -57,12 +53,3 @@ off_card milliohm = ltb milliohm (stored_for 0) || ltb (stored_for 200) milliohm
 -- 91: resistance below the first or above the last
 abbrev pub temperature_of : ℕ → Answer ℕ
 temperature_of milliohm = refuse 91 (off_card milliohm) (reads (highest milliohm hundredths_most))
-
--- the cases of the code's answers for each
-abbrev pub shown_resistance : Answer ℕ → Resistance
-shown_resistance (reads milliohm) = resistances.Milliohm milliohm
-shown_resistance (refusal n) = resistances.Refused n
-
-abbrev pub shown_temperature : Answer ℕ → Temperature
-shown_temperature (reads h) = temperatures.Hundredths h
-shown_temperature (refusal n) = temperatures.Refused n

@@ -2,25 +2,13 @@
 #![tactic(auto)]
 
 ghost use Rattle.std.specs.Prelude.{◌≡◌, ◌+◌, ◌≤◌, ◌<◌};
-ghost use Rattle.bench_resistance.specs.Resistances.{stored_for, card, line, resistance_of, temperature_of, shown_resistance, shown_temperature};
+ghost use Rattle.base_rules.specs.Shown.{shown};
+ghost use Rattle.bench_resistance.specs.Resistances.{stored_for, card, line, resistance_of, temperature_of};
 
 use crate::table::CARD;
+use base_rules::Refusal;
 
 mod table;
-
-// A resistance in milliohm, or refused by 90.
-#[derive(Clone, Copy)]
-pub enum Resistance {
-    Milliohm(u32),
-    Refused(u16),
-}
-
-// A temperature in hundredths of a degree, or refused by 91.
-#[derive(Clone, Copy)]
-pub enum Temperature {
-    Hundredths(u32),
-    Refused(u16),
-}
 
 // The highest temperature, 200 °C.
 pub const HUNDREDTHS_MOST: u32 = 20_000;
@@ -40,22 +28,19 @@ fn line(low: u32, high: u32, rest: u32) -> u32
     (2 * (low * (100 - rest) + high * rest) + 100) / 200
 }
 
-// The resistance for a temperature.
-pub fn resistance_of(hundredths: u32) -> Resistance
-    ensures { result ≡ shown_resistance (resistance_of hundredths) }
+// The resistance in milliohm for a temperature in hundredths of a degree, or refused by 90.
+pub fn resistance_of(hundredths: u32) -> Result<u32, Refusal>
+    ensures { result ≡ shown (resistance_of hundredths) }
 {
-    let over = HUNDREDTHS_MOST < hundredths;
-    if over {
-        return Resistance::Refused(90);
+    if HUNDREDTHS_MOST < hundredths {
+        return Err(Refusal::TEMPERATURE_TOO_HIGH);
     }
     let card = card();
     let degree = (hundredths / 100) as usize;
-    let low = card[degree];
     if degree == 200 {
-        return Resistance::Milliohm(low);
+        return Ok(card[200]);
     }
-    let high = card[degree + 1];
-    Resistance::Milliohm(line(low, high, hundredths % 100))
+    Ok(line(card[degree], card[degree + 1], hundredths % 100))
 }
 
 // The highest whole degree whose resistance is not above this one.
@@ -63,17 +48,7 @@ fn degree_of(degrees: &[u32; 201], milliohm: u32) -> usize
     requires { (degrees.now ≡ card) × (stored_for 0 ≤ milliohm) }
     ensures { (result < 201) × (stored_for result ≤ milliohm) × (result < 200 → milliohm < stored_for (result + 1)) }
 {
-    let mut low: usize = 0;
-    let mut high: usize = 201;
-    while low + 1 < high {
-        let middle = (low + high) / 2;
-        if degrees[middle] <= milliohm {
-            low = middle;
-        } else {
-            high = middle;
-        }
-    }
-    low
+    degrees.partition_point(|stored| *stored <= milliohm) - 1
 }
 
 // How many hundredths on from one whole degree the last resistance that is not above this one lies.
@@ -84,23 +59,18 @@ fn rest_of(low: u32, high: u32, milliohm: u32) -> u32
     (100 * (milliohm - low) + 49) / (high - low)
 }
 
-// The temperature for a resistance: the highest whose resistance is not above it.
-pub fn temperature_of(milliohm: u32) -> Temperature
-    ensures { result ≡ shown_temperature (temperature_of milliohm) }
+// The temperature in hundredths of a degree for a resistance in milliohm: the highest whose resistance is not above it, or refused by 91.
+pub fn temperature_of(milliohm: u32) -> Result<u32, Refusal>
+    ensures { result ≡ shown (temperature_of milliohm) }
 {
     let card = card();
-    let outside = (milliohm < card[0]) | (card[200] < milliohm);
-    if outside {
-        return Temperature::Refused(91);
+    if milliohm < card[0] || card[200] < milliohm {
+        return Err(Refusal::RESISTANCE_OUTSIDE);
     }
     let degree = degree_of(&card, milliohm);
     if degree == 200 {
-        return Temperature::Hundredths(HUNDREDTHS_MOST);
+        return Ok(HUNDREDTHS_MOST);
     }
-    let low = card[degree];
-    let high = card[degree + 1];
-    let whole = 100 * degree as u32;
-    let rest = rest_of(low, high, milliohm);
-    let hundredths = whole + rest;
-    Temperature::Hundredths(hundredths)
+    let rest = rest_of(card[degree], card[degree + 1], milliohm);
+    Ok(100 * degree as u32 + rest)
 }

@@ -7,10 +7,6 @@ use Rattle.bundle_rows.specs.Rows.{rows_of, first_offset, bytes_of_row, bytes_of
 use Rattle.bundle_check.specs.Records.{placed_from}
 use Rattle.bundle_adding.specs.Inserting.{put_at}
 
--- what stands from one place up to another has moved up by so many
-abbrev pub shifted_by : ℕ → ℕ → ℕ → List ℕ → List ℕ
-shifted_by by from to d = take (from + by) d ++ (slice from to d ++ drop (to + by) d)
-
 -- the bodies have moved by 12, and a body stands among them
 abbrev pub bodies_opened : ℕ → ℕ → ℕ → List ℕ → List ℕ → List ℕ
 bodies_opened from at to s d =

@@ -6,9 +6,9 @@ use Rattle.base_numbers.specs.Numbers.{bytes_of}
 use Rattle.bundle_rows.specs.Rows.{rows_of, first_offset, bytes_of_row, bytes_of_rows}
 use Rattle.bundle_check.specs.Records.{placed_from}
 
--- what stands from one place up to another has moved by 12
-abbrev pub shifted : ℕ → ℕ → List ℕ → List ℕ
-shifted from to d = take (from + 12) d ++ (slice from to d ++ drop (to + 12) d)
+-- what stands from one place up to another has moved up by so many
+abbrev pub shifted_by : ℕ → ℕ → ℕ → List ℕ → List ℕ
+shifted_by by from to d = take (from + by) d ++ (slice from to d ++ drop (to + by) d)
 
 -- and a body stands behind it
 abbrev pub bodies_moved : ℕ → ℕ → List ℕ → List ℕ → List ℕ

@@ -4,7 +4,7 @@ ghost use Rattle.bundle_rows.specs.Rows.{most_rows, first_offset};
 ghost use Rattle.bundle_check.specs.Bundles.{most_bytes};
 ghost use Rattle.bundle_adding.specs.Writing.{rows_placed, contents_grown};
 
-use base_lent::lay;
+use base_lent::{lay, lay_each};
 use base_numbers::put_number;
 use bundle_rows::{Row, row_bytes, unchecked_row};
 
@@ -18,7 +18,7 @@ pub(crate) fn place_rows(buffer: &mut [u8], count: usize, first: usize)
         let row = unchecked_row(buffer, i);
         let offset = at as u32;
         let moved = row_bytes(Row { offset, ..row });
-        lay(buffer, 2 + 12 * i, &moved);
+        lay_each(buffer, 2 + 12 * i, &moved);
         at = at + row.length as usize;
     }
 }

@@ -9,29 +9,21 @@ ghost use Rattle.bundle_adding.specs.Adding.{new_record};
 ghost use Rattle.bundle_adding.specs.Inserting.{put_at};
 ghost use Rattle.bundle_adding.specs.Shown.{Inserts};
 
-use crate::Added;
+use crate::NewRow;
 use crate::opening::{open_bodies, open_contents};
 use crate::placing::{bodies_end, place_behind};
 use base_characters::pairs::any_over;
-use bundle_check::{Checked, MOST_BYTES, check};
+use base_rules::Refusal;
+use bundle_check::{MOST_BYTES, check};
 use bundle_rows::{MOST_ROWS, Row, wrong_field};
 
 // The row and its body are put in at a place where there is room for them. The bodies move first: a row more takes the place of the
 // first one.
-fn put_in(
-    buffer: &mut [u8],
-    filled: usize,
-    count: usize,
-    place: usize,
-    position: u8,
-    direction: u8,
-    time: u32,
-    body: &[u8],
-)
+fn put_in(buffer: &mut [u8], filled: usize, count: usize, place: usize, row: NewRow, body: &[u8])
     requires { (check_of (take filled buffer.old) ≡ reads count) × (count < most_rows) × (place ≤ count)
         × (filled + 12 + length body.now ≤ length buffer.old) × (filled + 12 + length body.now ≤ most_bytes) }
     ensures { buffer.new ≡ laid buffer.old 0
-        (bundle_of (put_at place (new_record position direction time body.now) (records_of (take filled buffer.old)))) }
+        (bundle_of (put_at place (new_record row.position row.direction row.time body.now) (records_of (take filled buffer.old)))) }
 {
     let length = body.len() as u16;
     let at = bodies_end(&buffer[..filled], count, place);
@@ -41,9 +33,9 @@ fn put_in(
         count,
         place,
         Row {
-            position,
-            direction,
-            time,
+            position: row.position,
+            direction: row.direction,
+            time: row.time,
             offset: 0,
             length,
         },
@@ -55,32 +47,28 @@ fn insert_row(
     buffer: &mut [u8],
     filled: usize,
     count: usize,
-    position: u8,
-    direction: u8,
-    time: u32,
+    row: NewRow,
     body: &[u8],
-) -> Added
+) -> Result<usize, Refusal>
     requires { (filled ≤ length buffer.old) × (check_of (take filled buffer.old) ≡ reads count) }
-    ensures { Inserts buffer.old filled (new_record position direction time body.now) result buffer.new }
+    ensures { Inserts buffer.old filled (new_record row.position row.direction row.time body.now) result buffer.new }
 {
-    let wrong = wrong_field(position, direction, body.len());
+    let wrong = wrong_field(row.position, row.direction, body.len());
     if wrong {
-        return Added::Refused(34);
+        return Err(Refusal::BUNDLE_WRONG_ROW);
     }
     let wide = any_over(body);
     if wide {
-        return Added::Refused(37);
+        return Err(Refusal::BUNDLE_WRONG_CHARACTER);
     }
     let bytes = filled + 12 + body.len();
     let full = (MOST_ROWS <= count) | (buffer.len() < bytes) | (MOST_BYTES < bytes);
     if full {
-        return Added::Refused(38);
+        return Err(Refusal::BUNDLE_FULL);
     }
-    let place = place_behind(&buffer[..filled], count, time);
-    put_in(
-        buffer, filled, count, place, position, direction, time, body,
-    );
-    Added::Filled(bytes)
+    let place = place_behind(&buffer[..filled], count, row.time);
+    put_in(buffer, filled, count, place, row, body);
+    Ok(bytes)
 }
 
 // Inserts a row behind the last one whose time is not above its own. Where it is refused, the buffer stays as it was.
@@ -91,15 +79,17 @@ pub fn insert(
     direction: u8,
     time: u32,
     body: &[u8],
-) -> Added
+) -> Result<usize, Refusal>
     ensures { Inserts buffer.old filled (new_record position direction time body.now) result buffer.new }
 {
-    let past = buffer.len() < filled;
-    if past {
-        return Added::Refused(30);
+    if buffer.len() < filled {
+        return Err(Refusal::BUNDLE_TOO_LONG);
     }
-    match check(&buffer[..filled]) {
-        Checked::Rows(count) => insert_row(buffer, filled, count, position, direction, time, body),
-        Checked::Refused(number) => Added::Refused(number),
-    }
+    let count = check(&buffer[..filled])?;
+    let row = NewRow {
+        position,
+        direction,
+        time,
+    };
+    insert_row(buffer, filled, count, row, body)
 }

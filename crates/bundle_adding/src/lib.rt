@@ -10,7 +10,8 @@ ghost use Rattle.bundle_adding.specs.Shown.{Adds};
 use crate::bodies::move_bodies;
 use crate::growing::grow_contents;
 use base_characters::pairs::any_over;
-use bundle_check::{Checked, MOST_BYTES, check};
+use base_rules::Refusal;
+use bundle_check::{MOST_BYTES, check};
 use bundle_rows::{MOST_ROWS, Row, unchecked_row, wrong_field};
 
 mod bodies;
@@ -19,11 +20,12 @@ pub mod inserting;
 mod opening;
 mod placing;
 
-// What became of adding: the bytes that the bundle then fills, or refused by 30 to 38.
+// What is said of a row that is to be put in, beside its body.
 #[derive(Clone, Copy)]
-pub enum Added {
-    Filled(usize),
-    Refused(u16),
+pub(crate) struct NewRow {
+    pub(crate) position: u8,
+    pub(crate) direction: u8,
+    pub(crate) time: u32,
 }
 
 // The time of the last row, 0 where there is none.
@@ -39,19 +41,11 @@ fn last_time(bundle: &[u8], count: usize) -> u32
 }
 
 // The row and its body are put in where there is room for them. The bodies move first: the new row takes the place of the first one.
-fn insert(
-    buffer: &mut [u8],
-    filled: usize,
-    count: usize,
-    position: u8,
-    direction: u8,
-    time: u32,
-    body: &[u8],
-)
+fn insert(buffer: &mut [u8], filled: usize, count: usize, row: NewRow, body: &[u8])
     requires { (check_of (take filled buffer.old) ≡ reads count) × (filled + 12 + length body.now ≤ length buffer.old)
         × (filled + 12 + length body.now ≤ most_bytes) }
     ensures { buffer.new ≡ buffer_after (reads (filled + 12 + length body.now)) buffer.old filled
-        (new_record position direction time body.now) }
+        (new_record row.position row.direction row.time body.now) }
 {
     let offset = (filled + 12) as u32;
     let length = body.len() as u16;
@@ -60,9 +54,9 @@ fn insert(
         buffer,
         count,
         Row {
-            position,
-            direction,
-            time,
+            position: row.position,
+            direction: row.direction,
+            time: row.time,
             offset,
             length,
         },
@@ -74,31 +68,29 @@ fn add_row(
     buffer: &mut [u8],
     filled: usize,
     count: usize,
-    position: u8,
-    direction: u8,
-    time: u32,
+    row: NewRow,
     body: &[u8],
-) -> Added
+) -> Result<usize, Refusal>
     requires { (filled ≤ length buffer.old) × (check_of (take filled buffer.old) ≡ reads count) }
-    ensures { Adds buffer.old filled (new_record position direction time body.now) result buffer.new }
+    ensures { Adds buffer.old filled (new_record row.position row.direction row.time body.now) result buffer.new }
 {
     let last = last_time(&buffer[..filled], count);
-    let field = wrong_field(position, direction, body.len());
-    let wrong = field | (time < last);
+    let field = wrong_field(row.position, row.direction, body.len());
+    let wrong = field | (row.time < last);
     if wrong {
-        return Added::Refused(34);
+        return Err(Refusal::BUNDLE_WRONG_ROW);
     }
     let wide = any_over(body);
     if wide {
-        return Added::Refused(37);
+        return Err(Refusal::BUNDLE_WRONG_CHARACTER);
     }
     let bytes = filled + 12 + body.len();
     let full = (MOST_ROWS <= count) | (buffer.len() < bytes) | (MOST_BYTES < bytes);
     if full {
-        return Added::Refused(38);
+        return Err(Refusal::BUNDLE_FULL);
     }
-    insert(buffer, filled, count, position, direction, time, body);
-    Added::Filled(bytes)
+    insert(buffer, filled, count, row, body);
+    Ok(bytes)
 }
 
 // Adds a row to the bundle that fills the first bytes of the buffer. Where it is refused, the buffer stays as it was.
@@ -109,15 +101,17 @@ pub fn add(
     direction: u8,
     time: u32,
     body: &[u8],
-) -> Added
+) -> Result<usize, Refusal>
     ensures { Adds buffer.old filled (new_record position direction time body.now) result buffer.new }
 {
-    let past = buffer.len() < filled;
-    if past {
-        return Added::Refused(30);
+    if buffer.len() < filled {
+        return Err(Refusal::BUNDLE_TOO_LONG);
     }
-    match check(&buffer[..filled]) {
-        Checked::Rows(count) => add_row(buffer, filled, count, position, direction, time, body),
-        Checked::Refused(number) => Added::Refused(number),
-    }
+    let count = check(&buffer[..filled])?;
+    let row = NewRow {
+        position,
+        direction,
+        time,
+    };
+    add_row(buffer, filled, count, row, body)
 }

@@ -1,25 +1,13 @@
 // Room for a row among the contents, and for its body among the bodies.
 ghost use Rattle.std.specs.Prelude.{◌≡◌, ◌+◌, ◌≤◌, ◌<◌, length};
 ghost use Rattle.bundle_rows.specs.Rows.{most_rows, first_offset};
-ghost use Rattle.bundle_adding.specs.Opening.{shifted_by, bodies_opened, row_opened, contents_opened};
+ghost use Rattle.bundle_adding.specs.Opening.{bodies_opened, row_opened, contents_opened};
 
-use crate::bodies::{move_bodies, move_by_twelve};
+use crate::bodies::{move_bodies, move_up};
 use crate::growing::place_rows;
 use base_lent::lay;
 use base_numbers::put_number;
 use bundle_rows::{Row, row_bytes};
-
-// What stands from one place up to another moves up by so many, the last byte first.
-fn move_up(buffer: &mut [u8], from: usize, to: usize, by: usize)
-    requires { (from ≤ to) × (to + by ≤ length buffer.old) }
-    ensures { buffer.new ≡ shifted_by by from to buffer.old }
-{
-    let mut i = to;
-    while from < i {
-        i -= 1;
-        buffer[i + by] = buffer[i];
-    }
-}
 
 // The bodies, which stand from one place up to another, move by 12, and the new body stands among them: those behind it move further.
 pub(crate) fn open_bodies(buffer: &mut [u8], from: usize, at: usize, to: usize, body: &[u8])
@@ -36,7 +24,7 @@ fn open_row(buffer: &mut [u8], count: usize, place: usize, row: Row)
     ensures { buffer.new ≡ row_opened count place row buffer.old }
 {
     let first = 2 + 12 * place;
-    move_by_twelve(buffer, first, 2 + 12 * count);
+    move_up(buffer, first, 2 + 12 * count, 12);
     lay(buffer, first, &row_bytes(row));
 }
 

@@ -13,14 +13,11 @@ pub(crate) fn place_behind(bundle: &[u8], count: usize, time: u32) -> usize
     requires { check_of bundle.now ≡ reads count }
     ensures { result ≡ place_behind time (records_of bundle.now) count }
 {
-    let mut place = count;
-    while 0 < place {
-        let row = unchecked_row(bundle, place - 1);
-        let above = time < row.time;
-        if !above {
-            return place;
+    for place in (0..count).rev() {
+        let row = unchecked_row(bundle, place);
+        if row.time <= time {
+            return place + 1;
         }
-        place -= 1;
     }
     0
 }
@@ -33,6 +30,5 @@ pub(crate) fn bodies_end(bundle: &[u8], count: usize, place: usize) -> usize
     if place == count {
         return bundle.len();
     }
-    let row = unchecked_row(bundle, place);
-    row.offset as usize
+    unchecked_row(bundle, place).offset as usize
 }

@@ -6,9 +6,7 @@ pub mod Opened
 pub mod Accepted
 pub mod RecordLaws
 pub mod HoldingLaws
-pub mod Shown
 pub mod Example
 pub mod HandingLaws
-pub mod RowsShown
 pub mod BodyLaws
 pub mod RowsExample

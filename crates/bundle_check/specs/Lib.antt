@@ -4,8 +4,6 @@ pub mod RowRules
 pub mod Walking
 pub mod Bundles
 pub mod Records
-pub mod Shown
 pub mod Example
 pub mod Handing
-pub mod RowsShown
 pub mod Stretches

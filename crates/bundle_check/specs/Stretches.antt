@@ -2,7 +2,7 @@
 use Rattle.std.specs.Prelude.{ℕ, ◌+◌, List, [], ◌≡◌, take, drop}
 use Rattle.std.specs.Borrow.{Bor}
 use Rattle.base_rules.specs.Answers.{Answer, reads, refusal}
-use Rattle.bundle_check.specs.Handing.{BodyPlace}
+use Rattle.bundle_check.specs.declared.rows.BodyPlace.{BodyPlace}
 
 -- the bytes that are handed out, and where in the bundle they lie
 abbrev pub bytes_at : Answer BodyPlace → List ℕ → List ℕ

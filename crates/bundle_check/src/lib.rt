@@ -4,82 +4,67 @@
 ghost use Rattle.std.specs.Prelude.{◌≡◌, ◌≤◌, length};
 ghost use Rattle.bundle_rows.specs.Rows.{most_rows, first_offset};
 ghost use Rattle.base_rules.specs.Answers.{reads};
+ghost use Rattle.base_rules.specs.Shown.{shown};
 ghost use Rattle.bundle_check.specs.Bundles.{count_of, opened, check_rows, check_of};
-ghost use Rattle.bundle_check.specs.Shown.{shown_checked};
 
 use crate::walk::walk_rows;
 use base_characters::pairs::any_over;
 use base_numbers::number_at;
+use base_rules::Refusal;
 use bundle_rows::MOST_ROWS;
 
+pub mod accepted;
 pub mod rows;
 mod walk;
 
 // The most bytes of a bundle.
 pub const MOST_BYTES: usize = 65_536;
 
-// What became of checking a bundle: its number of rows, or refused by 30 to 37.
-#[derive(Clone, Copy)]
-pub enum Checked {
-    Rows(usize),
-    Refused(u16),
-}
-
 // The number of rows, or the lowest of 34 to 37 that applies to them and their bodies.
-fn check_rows(bundle: &[u8], count: usize) -> Checked
+fn check_rows(bundle: &[u8], count: usize) -> Result<usize, Refusal>
     requires { (count ≤ most_rows) × (first_offset count ≤ length bundle.now) }
-    ensures { result ≡ shown_checked (check_rows count bundle.now) }
+    ensures { result ≡ shown (check_rows count bundle.now) }
 {
     let walk = walk_rows(bundle, count);
-    let field = walk.field;
-    if field {
-        return Checked::Refused(34);
+    if walk.field {
+        return Err(Refusal::BUNDLE_WRONG_ROW);
     }
-    let place = walk.place;
-    if place {
-        return Checked::Refused(35);
+    if walk.place {
+        return Err(Refusal::BUNDLE_WRONG_OFFSET);
     }
-    let more = walk.end < bundle.len();
-    if more {
-        return Checked::Refused(36);
+    if walk.end < bundle.len() {
+        return Err(Refusal::BUNDLE_BYTES_LEFT);
     }
-    let wide = any_over(&bundle[2 + 12 * count..]);
-    if wide {
-        return Checked::Refused(37);
+    if any_over(&bundle[2 + 12 * count..]) {
+        return Err(Refusal::BUNDLE_WRONG_CHARACTER);
     }
-    Checked::Rows(count)
+    Ok(count)
 }
 
 // The number of rows that the contents have, or 30 to 33 where they are not whole.
-pub fn opened(bundle: &[u8]) -> Checked
-    ensures { result ≡ shown_checked (opened bundle.now (reads (count_of bundle.now))) }
+pub fn opened(bundle: &[u8]) -> Result<usize, Refusal>
+    ensures { result ≡ shown (opened bundle.now (reads (count_of bundle.now))) }
 {
-    let long = MOST_BYTES < bundle.len();
-    if long {
-        return Checked::Refused(30);
+    if MOST_BYTES < bundle.len() {
+        return Err(Refusal::BUNDLE_TOO_LONG);
     }
-    let short = bundle.len() < 2;
-    if short {
-        return Checked::Refused(31);
+    if bundle.len() < 2 {
+        return Err(Refusal::BUNDLE_TOO_SHORT);
     }
     let count = number_at(bundle, 0, 2) as usize;
-    let many = MOST_ROWS < count;
-    if many {
-        return Checked::Refused(32);
+    if MOST_ROWS < count {
+        return Err(Refusal::BUNDLE_WRONG_COUNT);
     }
-    let cut = bundle.len() < 2 + 12 * count;
-    if cut {
-        return Checked::Refused(33);
+    if bundle.len() < 2 + 12 * count {
+        return Err(Refusal::BUNDLE_CONTENTS_CUT);
     }
-    Checked::Rows(count)
+    Ok(count)
 }
 
 // The number of rows, or the lowest refusal that applies to the whole bundle.
-pub fn check(bundle: &[u8]) -> Checked
-    ensures { result ≡ shown_checked (check_of bundle.now) }
+pub fn check(bundle: &[u8]) -> Result<usize, Refusal>
+    ensures { result ≡ shown (check_of bundle.now) }
 {
-    match opened(bundle) {
-        Checked::Rows(count) => check_rows(bundle, count),
-        Checked::Refused(number) => Checked::Refused(number),
-    }
+    let count = opened(bundle)?;
+    check_rows(bundle, count)
 }

@@ -1,53 +1,46 @@
 // The rows of a run bundle of document 01 and their bodies, asked for one by one.
 ghost use Rattle.std.specs.Prelude.{◌≡◌};
-ghost use Rattle.bundle_check.specs.Handing.{row_at, body_at};
-ghost use Rattle.bundle_check.specs.RowsShown.{shown_row, shown_body};
+ghost use Rattle.base_rules.specs.Shown.{shown};
+ghost use Rattle.bundle_check.specs.Handing.{place_of, row_at, body_at};
 ghost use Rattle.bundle_check.specs.Stretches.{Handed};
 
-use crate::{Checked, check};
+use crate::check;
+use base_rules::Refusal;
 use bundle_rows::{Row, unchecked_row};
 
-// The row that was asked for, or refused by 30 to 37 or 39.
+// Where a row's body lies in its bundle.
 #[derive(Clone, Copy)]
-pub enum RowFound {
-    Fields(Row),
-    Refused(u16),
+pub struct BodyPlace {
+    pub offset: usize,
+    pub size: usize,
 }
 
-// Where a row's body lies in the bundle, or refused by 30 to 37 or 39.
-#[derive(Clone, Copy)]
-pub enum BodyFound {
-    At { offset: usize, length: usize },
-    Refused(u16),
+// The place that a row gives for its body.
+pub fn place_of(row: Row) -> BodyPlace
+    ensures { result ≡ place_of row }
+{
+    BodyPlace {
+        offset: row.offset as usize,
+        size: row.length as usize,
+    }
 }
 
 // The fields of row i, counted from 0.
-pub fn row(bundle: &[u8], i: usize) -> RowFound
-    ensures { result ≡ shown_row (row_at bundle.now i) }
+pub fn row(bundle: &[u8], i: usize) -> Result<Row, Refusal>
+    ensures { result ≡ shown (row_at bundle.now i) }
 {
-    match check(bundle) {
-        Checked::Rows(count) => {
-            if count <= i {
-                RowFound::Refused(39)
-            } else {
-                RowFound::Fields(unchecked_row(bundle, i))
-            }
-        },
-        Checked::Refused(number) => RowFound::Refused(number),
+    let count = check(bundle)?;
+    if count <= i {
+        return Err(Refusal::BUNDLE_NO_SUCH_ROW);
     }
+    Ok(unchecked_row(bundle, i))
 }
 
 // Where the body of row i lies.
-pub fn body_at(bundle: &[u8], i: usize) -> BodyFound
-    ensures { result ≡ shown_body (body_at bundle.now i) }
+pub fn body_at(bundle: &[u8], i: usize) -> Result<BodyPlace, Refusal>
+    ensures { result ≡ shown (body_at bundle.now i) }
 {
-    match row(bundle, i) {
-        RowFound::Fields(fields) => BodyFound::At {
-            offset: fields.offset as usize,
-            length: fields.length as usize,
-        },
-        RowFound::Refused(number) => BodyFound::Refused(number),
-    }
+    row(bundle, i).map(place_of)
 }
 
 // The body of row i: that stretch of the caller's own bundle, and an empty one where it is refused.
@@ -55,7 +48,7 @@ pub fn body<'a>(bundle: &'a [u8], i: usize) -> &'a [u8]
     ensures { Handed (body_at bundle.now i) bundle.entry result }
 {
     match body_at(bundle, i) {
-        BodyFound::At { offset, length } => &bundle[offset..offset + length],
-        BodyFound::Refused(_) => &bundle[..0],
+        Ok(place) => &bundle[place.offset..place.offset + place.size],
+        Err(_) => &bundle[..0],
     }
 }

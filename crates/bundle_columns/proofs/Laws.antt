@@ -4,6 +4,5 @@ pub mod Fields
 pub mod Scanning
 pub mod Looking
 pub mod Turning
-pub mod Shown
 pub mod Whole
 pub mod AsBefore

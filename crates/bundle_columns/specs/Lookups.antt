@@ -3,8 +3,9 @@ use Rattle.std.specs.Prelude.{ℕ, suc, ◌+◌, Bool, cond, List, [], ◌∷◌
 use Rattle.base_rules.specs.Answers.{Answer, reads, refuse, within, follow}
 use Rattle.bundle_rows.specs.declared.Row.{Row}
 use Rattle.bundle_check.specs.Bundles.{contents_of, check_of}
-use Rattle.bundle_check.specs.Handing.{BodyPlace, place_of}
-use Rattle.bundle_columns.specs.Columns.{Columns, kept_row}
+use Rattle.bundle_check.specs.declared.rows.BodyPlace.{BodyPlace}
+use Rattle.bundle_check.specs.Handing.{place_of}
+use Rattle.bundle_columns.specs.Columns.{kept_row}
 use Rattle.bundle_columns.specs.Record.{columns_from}
 
 -- how many elements stand in front of the first that passes a test; all of them where none does

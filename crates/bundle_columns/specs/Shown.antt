@@ -1,18 +1,12 @@
 -- What the functions on the lists answer, and what they leave in memory that was lent to them.
-use Rattle.std.specs.Prelude.{ℕ, List, [], ◌≡◌}
-use Rattle.base_rules.specs.Answers.{Answer, reads, refusal, within, follow}
+use Rattle.std.specs.Prelude.{ℕ, List, Result, ◌≡◌}
+use Rattle.base_rules.specs.Answers.{Answer, reads, within, follow}
+use Rattle.base_rules.specs.declared.refusals.Refusal.{Refusal}
+use Rattle.base_rules.specs.Shown.{shown}
 use Rattle.base_lent.specs.Lent.{stored, needs}
 use Rattle.bundle_rows.specs.Rows.{first_offset}
-use Rattle.bundle_check.specs.declared.Checked.{Checked}
-use Rattle.bundle_check.specs.Shown.{shown_checked}
-use Rattle.bundle_columns.specs.declared.NextFound.{NextFound}
-use Rattle.bundle_columns.specs.declared.NextFound.TheVariants.{At, Refused}
 use Rattle.bundle_columns.specs.Columns.{Columns, columns_made}
 use Rattle.bundle_columns.specs.Record.{columns_size, columns_from}
-
-abbrev pub shown_next : Answer ℕ → NextFound
-shown_next (reads i) = At i
-shown_next (refusal n) = Refused n
 
 -- the lists of a bundle, into the places for their record: 21 where there are too few, before all others
 abbrev pub columns_into : List ℕ → List ℕ → Answer Columns
@@ -27,6 +21,6 @@ abbrev pub count_kept : Answer Columns → Answer ℕ
 count_kept a = within (λ c. c.count) a
 
 -- The number of rows, or the refusal; and what is written for the lists in the first places, or on a refusal all as it was.
-pub record Turns (written : Columns → List ℕ) (a : Answer Columns) (before : List ℕ) (r : Checked) (after : List ℕ) : Type 0 where
-  pub answer : r ≡ shown_checked (count_kept a)
+pub record Turns (written : Columns → List ℕ) (a : Answer Columns) (before : List ℕ) (r : Result ℕ Refusal) (after : List ℕ) : Type 0 where
+  pub answer : r ≡ shown (count_kept a)
   pub left : after ≡ stored written before a

@@ -2,18 +2,17 @@
 #![tactic(auto)]
 
 ghost use Rattle.std.specs.Prelude.{◌≡◌, ◌<◌, length};
+ghost use Rattle.base_rules.specs.Shown.{shown};
 ghost use Rattle.bundle_rows.specs.Rows.{most_rows};
-ghost use Rattle.bundle_check.specs.RowsShown.{shown_row, shown_body};
-ghost use Rattle.bundle_check.specs.Shown.{shown_checked};
 ghost use Rattle.bundle_columns.specs.Columns.{kept_row};
 ghost use Rattle.bundle_columns.specs.Record.{columns_size, columns_in, columns_from};
 ghost use Rattle.bundle_columns.specs.Lookups.{row_kept, body_kept, next_kept};
-ghost use Rattle.bundle_columns.specs.Shown.{count_kept, shown_next};
+ghost use Rattle.bundle_columns.specs.Shown.{count_kept};
 
 use crate::scanning::next_place;
 use base_numbers::number_at;
-use bundle_check::Checked;
-use bundle_check::rows::{BodyFound, RowFound};
+use base_rules::Refusal;
+use bundle_check::rows::{BodyPlace, place_of};
 use bundle_rows::{MOST_ROWS, Row};
 
 pub mod making;
@@ -33,23 +32,15 @@ pub(crate) const OFFSETS: usize = 3_080;
 
 pub(crate) const LENGTHS: usize = 5_128;
 
-// The next row of a position, or refused by 39 or 101.
-#[derive(Clone, Copy)]
-pub enum NextFound {
-    At(usize),
-    Refused(u16),
-}
-
 // The number of rows in the lists, or refused by 101.
-pub fn count_in(columns: &[u8]) -> Checked
-    ensures { result ≡ shown_checked (count_kept (columns_from columns.now)) }
+pub fn count_in(columns: &[u8]) -> Result<usize, Refusal>
+    ensures { result ≡ shown (count_kept (columns_from columns.now)) }
 {
     let count = number_at(columns, 0, 8);
-    let wrong = (columns.len() != COLUMNS_BYTES) | ((MOST_ROWS as u64) < count);
-    if wrong {
-        return Checked::Refused(101);
+    if (columns.len() != COLUMNS_BYTES) | ((MOST_ROWS as u64) < count) {
+        return Err(Refusal::NO_RECORD);
     }
-    Checked::Rows(count as usize)
+    Ok(count as usize)
 }
 
 // The row at a place of the lists.
@@ -70,40 +61,27 @@ pub(crate) fn kept_row(columns: &[u8], i: usize) -> Row
 }
 
 // The fields of row i, counted from 0.
-pub fn row(columns: &[u8], i: usize) -> RowFound
-    ensures { result ≡ shown_row (row_kept columns.now i) }
+pub fn row(columns: &[u8], i: usize) -> Result<Row, Refusal>
+    ensures { result ≡ shown (row_kept columns.now i) }
 {
-    match count_in(columns) {
-        Checked::Rows(count) => {
-            if count <= i {
-                RowFound::Refused(39)
-            } else {
-                RowFound::Fields(kept_row(columns, i))
-            }
-        },
-        Checked::Refused(number) => RowFound::Refused(number),
+    let count = count_in(columns)?;
+    if count <= i {
+        return Err(Refusal::BUNDLE_NO_SUCH_ROW);
     }
+    Ok(kept_row(columns, i))
 }
 
 // Where the body of row i lies in the bundle.
-pub fn body_at(columns: &[u8], i: usize) -> BodyFound
-    ensures { result ≡ shown_body (body_kept columns.now i) }
+pub fn body_at(columns: &[u8], i: usize) -> Result<BodyPlace, Refusal>
+    ensures { result ≡ shown (body_kept columns.now i) }
 {
-    match row(columns, i) {
-        RowFound::Fields(fields) => BodyFound::At {
-            offset: fields.offset as usize,
-            length: fields.length as usize,
-        },
-        RowFound::Refused(number) => BodyFound::Refused(number),
-    }
+    row(columns, i).map(place_of)
 }
 
 // The next row of a position from a given row on: only the positions are looked at.
-pub fn next(columns: &[u8], position: u8, from: usize) -> NextFound
-    ensures { result ≡ shown_next (next_kept columns.now position from) }
+pub fn next(columns: &[u8], position: u8, from: usize) -> Result<usize, Refusal>
+    ensures { result ≡ shown (next_kept columns.now position from) }
 {
-    match count_in(columns) {
-        Checked::Rows(count) => next_place(&columns[POSITIONS..POSITIONS + count], position, from),
-        Checked::Refused(number) => NextFound::Refused(number),
-    }
+    let count = count_in(columns)?;
+    next_place(&columns[POSITIONS..POSITIONS + count], position, from)
 }

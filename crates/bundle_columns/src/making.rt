@@ -10,7 +10,8 @@ ghost use Rattle.bundle_columns.specs.Shown.{columns_into, Turns};
 
 use crate::{COLUMNS_BYTES, DIRECTIONS, LENGTHS, OFFSETS, POSITIONS, TIMES};
 use base_numbers::{number_at, put_number};
-use bundle_check::{Checked, check};
+use base_rules::Refusal;
+use bundle_check::check;
 use bundle_rows::MOST_ROWS;
 
 // A field of row i: so many bytes at a place in its twelve; 0 where there is no such row.
@@ -58,19 +59,14 @@ fn put_words(bundle: &[u8], count: usize, out: &mut [u8])
 }
 
 // The lists of a bundle that the check accepts, as their record in the first places. Where it is refused nothing is changed.
-pub fn columns_of(bundle: &[u8], out: &mut [u8]) -> Checked
+pub fn columns_of(bundle: &[u8], out: &mut [u8]) -> Result<usize, Refusal>
     ensures { Turns columns_bytes (columns_into bundle.now out.old) out.old result out.new }
 {
-    let short = out.len() < COLUMNS_BYTES;
-    if short {
-        return Checked::Refused(21);
+    if out.len() < COLUMNS_BYTES {
+        return Err(Refusal::TOO_FEW_PLACES);
     }
-    match check(bundle) {
-        Checked::Rows(count) => {
-            put_bytes(bundle, count, out);
-            put_words(bundle, count, out);
-            Checked::Rows(count)
-        },
-        Checked::Refused(number) => Checked::Refused(number),
-    }
+    let count = check(bundle)?;
+    put_bytes(bundle, count, out);
+    put_words(bundle, count, out);
+    Ok(count)
 }

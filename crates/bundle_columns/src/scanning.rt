@@ -1,11 +1,11 @@
 // The scan of the positions for one of them.
 ghost use Rattle.std.specs.Prelude.{◌≡◌, ◌+◌, ◌<◌, ◌≤◌, length, drop};
 ghost use Rattle.base_rules.specs.Lists.{any};
+ghost use Rattle.base_rules.specs.Shown.{shown};
 ghost use Rattle.bundle_columns.specs.Lookups.{is_position, in_front, first_from};
-ghost use Rattle.bundle_columns.specs.Shown.{shown_next};
 ghost use Rattle.bundle_columns.specs.Scanning.{Passed};
 
-use crate::NextFound;
+use base_rules::Refusal;
 
 // So many positions are looked at together: many far from the place, few near it.
 const FAR: usize = 64;
@@ -17,13 +17,13 @@ fn has(block: &[u8], position: u8) -> bool
     ensures { result ≡ any (is_position position) block.now }
 {
     let mut found = false;
-    for i in 0..block.len() {
-        found = found | (block[i] == position);
+    for own in block {
+        found = found | (*own == position);
     }
     found
 }
 
-// Whole blocks of one size without the position are passed over.
+// Whole blocks of one size without the position are passed over. The loop counts: the answer is a place, which blocks alone do not have.
 fn pass_blocks(positions: &[u8], position: u8, from: usize, size: usize) -> usize
     requires { (from ≤ length positions.now) × (0 < size) }
     ensures { Passed positions.now position from result }
@@ -44,30 +44,26 @@ fn first_place(positions: &[u8], position: u8, from: usize) -> usize
     requires { from ≤ length positions.now }
     ensures { result ≡ from + in_front (is_position position) (drop from positions.now) }
 {
-    let mut i = from;
-    while i < positions.len() {
-        let here = positions[i] == position;
-        if here {
+    for i in from..positions.len() {
+        if positions[i] == position {
             return i;
         }
-        i += 1;
     }
-    i
+    positions.len()
 }
 
 // The first place from a given one on at which the position stands, or 39.
-pub(crate) fn next_place(positions: &[u8], position: u8, from: usize) -> NextFound
-    ensures { result ≡ shown_next (first_from (is_position position) positions.now from) }
+pub(crate) fn next_place(positions: &[u8], position: u8, from: usize) -> Result<usize, Refusal>
+    ensures { result ≡ shown (first_from (is_position position) positions.now from) }
 {
     if positions.len() < from {
-        return NextFound::Refused(39);
+        return Err(Refusal::BUNDLE_NO_SUCH_ROW);
     }
     let far = pass_blocks(positions, position, from, FAR);
     let near = pass_blocks(positions, position, far, NEAR);
     let i = first_place(positions, position, near);
-    let none = positions.len() <= i;
-    if none {
-        return NextFound::Refused(39);
+    if positions.len() <= i {
+        return Err(Refusal::BUNDLE_NO_SUCH_ROW);
     }
-    NextFound::At(i)
+    Ok(i)
 }

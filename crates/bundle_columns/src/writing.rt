@@ -9,7 +9,7 @@ ghost use Rattle.bundle_columns.specs.Shown.{contents_into, Turns};
 use crate::{count_in, kept_row};
 use base_lent::lay;
 use base_numbers::put_number;
-use bundle_check::Checked;
+use base_rules::Refusal;
 use bundle_rows::row_bytes;
 
 // So many rows of the lists, one behind the other, behind the count.
@@ -25,19 +25,14 @@ fn put_rows(columns: &[u8], count: usize, out: &mut [u8])
 }
 
 // The count and the rows as a bundle begins with them, in the first places. Where it is refused nothing is changed.
-pub fn contents_of(columns: &[u8], out: &mut [u8]) -> Checked
+pub fn contents_of(columns: &[u8], out: &mut [u8]) -> Result<usize, Refusal>
     ensures { Turns contents_bytes (contents_into columns.now out.old) out.old result out.new }
 {
-    match count_in(columns) {
-        Checked::Rows(count) => {
-            let short = out.len() < 2 + 12 * count;
-            if short {
-                return Checked::Refused(21);
-            }
-            put_number(out, 0, 2, count as u64);
-            put_rows(columns, count, out);
-            Checked::Rows(count)
-        },
-        Checked::Refused(number) => Checked::Refused(number),
+    let count = count_in(columns)?;
+    if out.len() < 2 + 12 * count {
+        return Err(Refusal::TOO_FEW_PLACES);
     }
+    put_number(out, 0, 2, count as u64);
+    put_rows(columns, count, out);
+    Ok(count)
 }

@@ -2,19 +2,16 @@
 use Rattle.std.specs.Prelude.{ℕ, List, ◌≡◌}
 use Rattle.base_rules.specs.Answers.{Answer, reads, refusal}
 use Rattle.base_lent.specs.Lent.{stored}
-use Rattle.bundle_joining.specs.declared.Joined.{Joined}
-use Rattle.bundle_joining.specs.declared.Joined.TheVariants.{Filled, Refused}
+use Rattle.std.specs.Prelude.{Result}
+use Rattle.base_rules.specs.declared.refusals.Refusal.{Refusal}
+use Rattle.base_rules.specs.Shown.{shown}
 use Rattle.bundle_joining.specs.Joining.{joined_bundle, join_of}
-
-abbrev pub shown_joined : Answer ℕ → Joined
-shown_joined (reads n) = Filled n
-shown_joined (refusal n) = Refused n
 
 -- what the third buffer then holds: the new bundle in its first bytes; after a refusal, what it held
 abbrev pub buffer_joined : Answer ℕ → List ℕ → List ℕ → List ℕ → List ℕ
 buffer_joined answer a b out = stored (λ (n : ℕ). joined_bundle a b) out answer
 
 -- Both bundles are only lent to read.
-pub record Joins (a b before : List ℕ) (r : Joined) (after : List ℕ) : Type 0 where
-  pub answer : r ≡ shown_joined (join_of a b before)
+pub record Joins (a b before : List ℕ) (r : Result ℕ Refusal) (after : List ℕ) : Type 0 where
+  pub answer : r ≡ shown (join_of a b before)
   pub left : after ≡ buffer_joined (join_of a b before) a b before

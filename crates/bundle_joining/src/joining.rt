@@ -17,7 +17,8 @@ fn is_from_b(a: &[u8], in_a: usize, i: usize, b: &[u8], in_b: usize, j: usize) -
     (in_a <= i) | ((j < in_b) & (of_b.time < of_a.time))
 }
 
-// The count, and each row with its body behind the body before it.
+// The count, and each row with its body behind the body before it. It is not one with that of `choosing`: there rows of one bundle are passed
+// over, here two bundles take turns.
 pub(crate) fn write_rows(a: &[u8], in_a: usize, b: &[u8], in_b: usize, out: &mut [u8])
     requires { BothFit a.now in_a b.now in_b out.old }
     ensures { out.new ≡ laid out.old 0 (joined_bundle a.now b.now) }

@@ -7,7 +7,8 @@ ghost use Rattle.bundle_check.specs.Bundles.{check_of};
 ghost use Rattle.bundle_joining.specs.JoinShown.{Joins};
 
 use crate::joining::write_rows;
-use bundle_check::{Checked, MOST_BYTES, check};
+use base_rules::Refusal;
+use bundle_check::{MOST_BYTES, check};
 use bundle_rows::MOST_ROWS;
 
 mod choosing;
@@ -15,15 +16,8 @@ mod joining;
 pub mod position;
 mod writing;
 
-// What became of joining: the bytes that the new bundle fills, or refused by 30 to 38.
-#[derive(Clone, Copy)]
-pub enum Joined {
-    Filled(usize),
-    Refused(u16),
-}
-
 // Both bundles have been accepted: their rows go into one where they fit there and in the buffer.
-fn join_rows(a: &[u8], in_a: usize, b: &[u8], in_b: usize, out: &mut [u8]) -> Joined
+fn join_rows(a: &[u8], in_a: usize, b: &[u8], in_b: usize, out: &mut [u8]) -> Result<usize, Refusal>
     requires { (check_of a.now ≡ reads in_a) × (check_of b.now ≡ reads in_b) }
     ensures { Joins a.now b.now out.old result out.new }
 {
@@ -31,24 +25,18 @@ fn join_rows(a: &[u8], in_a: usize, b: &[u8], in_b: usize, out: &mut [u8]) -> Jo
     let filled = a.len() + b.len() - 2;
     let full = (MOST_ROWS < rows) | (MOST_BYTES < filled) | (out.len() < filled);
     if full {
-        return Joined::Refused(38);
+        return Err(Refusal::BUNDLE_FULL);
     }
     write_rows(a, in_a, b, in_b, out);
-    Joined::Filled(filled)
+    Ok(filled)
 }
 
 // The rows of two bundles by time, of equal times those of a first, with their bodies, as a bundle in the first bytes of a buffer. Where it is
 // refused the buffer stays as it was.
-pub fn join(a: &[u8], b: &[u8], out: &mut [u8]) -> Joined
+pub fn join(a: &[u8], b: &[u8], out: &mut [u8]) -> Result<usize, Refusal>
     ensures { Joins a.now b.now out.old result out.new }
 {
-    match check(a) {
-        Checked::Rows(in_a) => {
-            match check(b) {
-                Checked::Rows(in_b) => join_rows(a, in_a, b, in_b, out),
-                Checked::Refused(number) => Joined::Refused(number),
-            }
-        },
-        Checked::Refused(number) => Joined::Refused(number),
-    }
+    let in_a = check(a)?;
+    let in_b = check(b)?;
+    join_rows(a, in_a, b, in_b, out)
 }

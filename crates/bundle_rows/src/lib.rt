@@ -1,7 +1,7 @@
 // The contents rows of a run bundle of document 01, each read where it stands, and the ranges of their fields.
 #![tactic(auto)]
 
-ghost use Rattle.std.specs.Prelude.{◌≡◌, ◌+◌, ◌≤◌, min, length, take, drop};
+ghost use Rattle.std.specs.Prelude.{◌≡◌, ◌+◌, ◌≤◌, length, take, drop};
 ghost use Rattle.base_characters.specs.Characters.{chars};
 ghost use Rattle.bundle_rows.specs.Fields.{wrong_position, wrong_field};
 ghost use Rattle.bundle_rows.specs.Rows.{row_of, blank_row, unchecked_row, bytes_of_row, body_in, unchecked_characters, Puts};
@@ -99,18 +99,12 @@ fn unchecked_body<'a>(bundle: &'a [u8], i: usize) -> &'a [u8]
     &bundle[at..end]
 }
 
-// The smaller of two numbers.
-fn least(a: usize, b: usize) -> usize
-    ensures { result ≡ min a b }
-{
-    if a < b { a } else { b }
-}
-
-// Writes the characters of bytes into the first places, as many as there are of both, and answers how many.
+// Writes the characters of bytes into the first places, as many as there are of both, and answers how many. The loop counts characters, of
+// two bytes each.
 fn put_characters(bytes: &[u8], line: &mut [u16]) -> usize
     ensures { Puts (take (length line.old) (chars bytes.now)) line.old result line.new }
 {
-    let count = least(line.len(), bytes.len() / 2);
+    let count = line.len().min(bytes.len() / 2);
     for i in 0..count {
         line[i] = character_at(bytes, i);
     }

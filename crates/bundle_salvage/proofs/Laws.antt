@@ -4,5 +4,4 @@ pub mod Leading
 pub mod Trying
 pub mod NewBundle
 pub mod Answers
-pub mod Shown
 pub mod Proper

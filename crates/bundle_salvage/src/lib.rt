@@ -9,12 +9,14 @@ ghost use Rattle.bundle_salvage.specs.Shown.{Salvages};
 
 use crate::leading::leading_rows;
 use crate::writing::write;
-use bundle_check::{Checked, opened};
+use base_rules::Refusal;
+use bundle_check::opened;
 
 mod leading;
 mod writing;
 
 // How many rows were kept, how many were dropped, the rule broken or 0, and the bytes of the new bundle.
+// The rule stays a number, 0 for none: the theorem RuleOfTheFirstDropped says it so, and C is told it so.
 #[derive(Clone, Copy)]
 pub struct Salvaged {
     pub kept: usize,
@@ -23,30 +25,21 @@ pub struct Salvaged {
     pub filled: usize,
 }
 
-// What became of salvaging, or refused by 30 to 33 or 38.
-#[derive(Clone, Copy)]
-pub enum SalvageTold {
-    Told(Salvaged),
-    Refused(u16),
-}
-
 // The rule that is told: that of the first dropped row, or 36 where all are kept and bytes are left over.
 fn rule_told(rule: u16, kept: usize, count: usize, end: usize, size: usize) -> u16
     ensures { result ≡ rule_told rule kept count end size }
 {
-    let dropped = kept < count;
-    if dropped {
+    if kept < count {
         return rule;
     }
-    let over = end < size;
-    if over {
+    if end < size {
         return 36;
     }
     0
 }
 
 // The rows are tried, and those that are kept are written where there is room. The contents have been found whole.
-fn salvage_rows(damaged: &[u8], count: usize, out: &mut [u8]) -> SalvageTold
+fn salvage_rows(damaged: &[u8], count: usize, out: &mut [u8]) -> Result<Salvaged, Refusal>
     requires { opened damaged.now (reads (count_of damaged.now)) ≡ reads count }
     ensures { Salvages damaged.now out.old result out.new }
 {
@@ -54,14 +47,13 @@ fn salvage_rows(damaged: &[u8], count: usize, out: &mut [u8]) -> SalvageTold
     let kept = found.kept;
     let end = found.end;
     let filled = 2 + 12 * kept + (end - (2 + 12 * count));
-    let short = out.len() < filled;
-    if short {
-        return SalvageTold::Refused(38);
+    if out.len() < filled {
+        return Err(Refusal::BUNDLE_FULL);
     }
     let rule = rule_told(found.rule, kept, count, end, damaged.len());
     let dropped = count - kept;
     write(damaged, kept, count, end, out);
-    SalvageTold::Told(Salvaged {
+    Ok(Salvaged {
         kept,
         dropped,
         rule,
@@ -71,11 +63,9 @@ fn salvage_rows(damaged: &[u8], count: usize, out: &mut [u8]) -> SalvageTold
 
 // The largest number of leading rows that each keep the rules, as a proper bundle in the second buffer. Where it is refused the buffer stays as
 // it was.
-pub fn salvage(damaged: &[u8], out: &mut [u8]) -> SalvageTold
+pub fn salvage(damaged: &[u8], out: &mut [u8]) -> Result<Salvaged, Refusal>
     ensures { Salvages damaged.now out.old result out.new }
 {
-    match opened(damaged) {
-        Checked::Rows(count) => salvage_rows(damaged, count, out),
-        Checked::Refused(number) => SalvageTold::Refused(number),
-    }
+    let count = opened(damaged)?;
+    salvage_rows(damaged, count, out)
 }

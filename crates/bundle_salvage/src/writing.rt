@@ -8,7 +8,7 @@ ghost use Rattle.bundle_check.specs.RowRules.{bodies_end};
 ghost use Rattle.bundle_salvage.specs.Salvaging.{new_length};
 ghost use Rattle.bundle_salvage.specs.Writing.{lowered_rows, InPlace};
 
-use base_lent::lay;
+use base_lent::{lay, lay_each};
 use base_numbers::put_number;
 use bundle_rows::{Row, row_bytes, unchecked_row};
 
@@ -34,5 +34,5 @@ pub(crate) fn write(damaged: &[u8], kept: usize, count: usize, end: usize, out: 
 {
     put_number(out, 0, 2, kept as u64);
     put_rows(damaged, kept, count, out);
-    lay(out, 2 + 12 * kept, &damaged[2 + 12 * count..end]);
+    lay_each(out, 2 + 12 * kept, &damaged[2 + 12 * count..end]);
 }

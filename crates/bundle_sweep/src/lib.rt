@@ -11,18 +11,12 @@ ghost use Rattle.bundle_sweep.specs.Shown.{Sweeps};
 use crate::drawing::draw_rows;
 use crate::placing::place_bodies;
 use base_numbers::put_number;
-use bundle_check::{Checked, check};
+use base_rules::Refusal;
+use bundle_check::check;
 
 mod drawing;
 mod moving;
 mod placing;
-
-// What became of a sweep: the bytes that the bundle then fills, or refused by 30 to 37.
-#[derive(Clone, Copy)]
-pub enum Swept {
-    Filled(usize),
-    Refused(u16),
-}
 
 // The last position of a bench.
 const LAST_POSITION: u8 = 48;
@@ -41,22 +35,16 @@ fn sweep_rows(bundle: &mut [u8], count: usize, position: u8) -> usize
 
 // Removes the wake rows, and the rows of a position that is not 0, from the bundle that fills the first bytes of the buffer. Where it is
 // refused, the buffer stays as it was.
-pub fn sweep(buffer: &mut [u8], filled: usize, position: u8) -> Swept
+pub fn sweep(buffer: &mut [u8], filled: usize, position: u8) -> Result<usize, Refusal>
     ensures { Sweeps buffer.old filled position result buffer.new }
 {
-    let past = buffer.len() < filled;
-    if past {
-        return Swept::Refused(30);
+    if buffer.len() < filled {
+        return Err(Refusal::BUNDLE_TOO_LONG);
     }
-    match check(&buffer[..filled]) {
-        Checked::Rows(count) => {
-            let outside = LAST_POSITION < position;
-            if outside {
-                return Swept::Refused(34);
-            }
-            let end = sweep_rows(&mut buffer[..filled], count, position);
-            Swept::Filled(end)
-        },
-        Checked::Refused(number) => Swept::Refused(number),
+    let count = check(&buffer[..filled])?;
+    if LAST_POSITION < position {
+        return Err(Refusal::BUNDLE_WRONG_ROW);
     }
+    let end = sweep_rows(&mut buffer[..filled], count, position);
+    Ok(end)
 }

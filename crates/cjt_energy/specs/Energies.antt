@@ -3,11 +3,9 @@
 use Rattle.std.specs.Prelude.{ℕ, ◌+◌, ◌-◌, ◌*◌, ◌/◌, ◌%◌, ◌^◌, min, cond, not, ◌||◌, ltb, eqb, pos}
 use Rattle.mbus_rules.specs.declared.Entry.{Entry}
 use Rattle.mbus_rules.specs.declared.Value.TheVariants.{Number}
-use Rattle.base_rules.specs.Answers.{Answer, reads, refusal, refuse}
+use Rattle.base_rules.specs.Answers.{Answer, reads, refuse}
 use Rattle.cjt_rules.specs.CjtUnits.{joules, energy_code}
 use Rattle.cjt_rules.specs.CjtWriting.{over_eight}
-use Rattle.cjt_energy.specs.declared.Converted.{Converted}
-use Rattle.cjt_energy.specs.declared.Converted.TheVariants.{To, Refused}
 
 -- The code's power of ten: 02 Wh, 05 kWh, 08 MWh, 0A MWh × 100; 01 J, 0B kJ, 0E MJ, 11 GJ, 13 GJ × 100.
 unfoldable pub code_power : ℕ → ℕ
@@ -51,8 +49,3 @@ entry_for count code =
     (refuse 85 (not (energy_code code))
     (refuse 86 (not (eqb (value % digit) 0))
     (reads (record { structure = 0x0E; unit = unit_for code; value = Number (record { count = pos (value / digit) }) }))))
-
--- the case of the code's answer for each
-abbrev pub shown_entry : Answer Entry → Converted
-shown_entry (reads e) = To e
-shown_entry (refusal n) = Refused n

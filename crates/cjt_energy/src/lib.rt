@@ -2,19 +2,14 @@
 #![tactic(auto)]
 
 ghost use Rattle.std.specs.Prelude.{◌≡◌, true, ◌*◌, ◌/◌};
+ghost use Rattle.base_rules.specs.Shown.{shown};
 ghost use Rattle.cjt_rules.specs.CjtUnits.{energy_code};
-ghost use Rattle.cjt_energy.specs.Energies.{unit_for, code_digit, entry_digit, entry_for, shown_entry};
+ghost use Rattle.cjt_energy.specs.Energies.{unit_for, code_digit, entry_digit, entry_for};
 
+use base_rules::Refusal;
 use cjt_fields::is_energy;
 use mbus_rules::{Decimal, Entry, Value};
 use mbus_telegrams::table::TWELVE_DIGITS;
-
-// An entry, or refused by 84, 85 or 86.
-#[derive(Clone, Copy)]
-pub enum Converted {
-    To(Entry),
-    Refused(u16),
-}
 
 // The first count that eight digits do not hold.
 const COUNT_OVER: u32 = 100_000_000;
@@ -53,25 +48,25 @@ fn count_for(count: u32, code: u8) -> u64
     count
 }
 
-// The entry for a count of the last digit and a unit code.
-pub fn entry_for(count: u32, code: u8) -> Converted
-    ensures { result ≡ shown_entry (entry_for count code) }
+// The entry for a count of the last digit and a unit code; refused by 84, 85 or 86.
+pub fn entry_for(count: u32, code: u8) -> Result<Entry, Refusal>
+    ensures { result ≡ shown (entry_for count code) }
 {
     let long = !(count < COUNT_OVER);
     if long {
-        return Converted::Refused(84);
+        return Err(Refusal::CJT_WRONG_DIGITS);
     }
     let known = is_energy(code);
     if !known {
-        return Converted::Refused(85);
+        return Err(Refusal::CJT_WRONG_UNIT);
     }
     let cut = (code == 0x01) & (count % 100 != 0);
     if cut {
-        return Converted::Refused(86);
+        return Err(Refusal::CJT_NOT_EXACT);
     }
     let unit = unit_for(code);
     let number = count_for(count, code) as i64;
-    Converted::To(Entry {
+    Ok(Entry {
         structure: TWELVE_DIGITS,
         unit,
         value: Value::Number(Decimal { count: number }),

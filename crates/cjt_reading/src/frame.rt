@@ -7,14 +7,15 @@ ghost use Rattle.cjt_rules.specs.CjtFrames.{past_fe, wrong_frame, wrong_frame_su
 ghost use Rattle.cjt_rules.specs.CjtAddresses.{party_bytes, party_of, wrong_party};
 ghost use Rattle.cjt_rules.specs.CjtLines.{asks_with, listed_bytes, tells_with, wrong_mark, wrong_listed, read_cjt_frame};
 ghost use Rattle.cjt_rules.specs.CjtUnits.{wrong_units};
-ghost use Rattle.cjt_rules.specs.CjtOutlines.{cjt_shown};
+ghost use Rattle.base_rules.specs.Shown.{shown};
 ghost use Rattle.cjt_reading.specs.CjtParts.{Skips};
 
 use crate::parts::{tells_in, wrong_listed};
 use base_digits::packed_in;
 use base_numbers::{byte_at, number_at};
+use base_rules::Refusal;
 use cjt_fields::{is_heat_type, wrong_units};
-use cjt_rules::{CjtAddress, CjtReading, CjtRequest, CjtTelegram};
+use cjt_rules::{CjtAddress, CjtRequest, CjtTelegram};
 
 // A request's length byte.
 const ASKS: u8 = 0x03;
@@ -25,19 +26,20 @@ const TELLS: u8 = 0x2E;
 // Seven address bytes AA as a number.
 const ALL: u64 = 0xAA_AAAA_AAAA_AAAA;
 
+// No more FE bytes than these are skipped.
+const MOST_FE: usize = 5;
+
 // How many FE bytes are skipped.
 fn skips(bytes: &[u8]) -> usize
     ensures { Skips bytes.now result }
 {
-    let mut n = 0;
-    while n < 5 {
+    for n in 0..MOST_FE {
         let first = byte_at(bytes, n);
         if first != 0xFE {
             return n;
         }
-        n += 1;
     }
-    n
+    MOST_FE
 }
 
 // 80, first byte, length byte, count and last byte.
@@ -123,14 +125,14 @@ fn request_of(b: &[u8]) -> CjtRequest
 }
 
 // 84, 85 and the answer that the bytes hold.
-fn read_listed(b: &[u8]) -> CjtReading
+fn read_listed(b: &[u8]) -> Result<CjtTelegram, Refusal>
     requires { 14 ≤ length b.now }
-    ensures { result ≡ cjt_shown (refuse 84 (wrong_listed (listed_bytes b.now))
+    ensures { result ≡ shown (refuse 84 (wrong_listed (listed_bytes b.now))
         (refuse 85 (wrong_units (tells_with b.now)) (reads (telegrams.Answer (tells_with b.now))))) }
 {
     let wrong = wrong_listed(&b[14..]);
     if wrong {
-        return CjtReading::Refused(84);
+        return Err(Refusal::CJT_WRONG_DIGITS);
     }
     let meter_type = byte_at(b, 1);
     let digits = packed_in(number_at(b, 2, 7));
@@ -138,44 +140,44 @@ fn read_listed(b: &[u8]) -> CjtReading
     let answer = tells_in(meter_type, digits.count, serial, &b[14..]);
     let units = wrong_units(answer);
     if units {
-        return CjtReading::Refused(85);
+        return Err(Refusal::CJT_WRONG_UNIT);
     }
-    CjtReading::Read(CjtTelegram::Answer(answer))
+    Ok(CjtTelegram::Answer(answer))
 }
 
 // The rules 80 to 85, on the bytes behind the FE bytes and their sum.
-fn read_frame(b: &[u8], sum: u8) -> CjtReading
+fn read_frame(b: &[u8], sum: u8) -> Result<CjtTelegram, Refusal>
     requires { sum ≡ total b.now % 256 }
-    ensures { result ≡ cjt_shown (read_cjt_frame b.now) }
+    ensures { result ≡ shown (read_cjt_frame b.now) }
 {
     let frame = wrong_frame(b);
     if frame {
-        return CjtReading::Refused(80);
+        return Err(Refusal::CJT_WRONG_FRAME);
     }
     let total = wrong_sum(b, sum);
     if total {
-        return CjtReading::Refused(81);
+        return Err(Refusal::CJT_WRONG_SUM);
     }
     let party = wrong_party(b);
     if party {
-        return CjtReading::Refused(82);
+        return Err(Refusal::CJT_WRONG_ADDRESS);
     }
     let mark = wrong_mark(b);
     if mark {
-        return CjtReading::Refused(83);
+        return Err(Refusal::CJT_WRONG_MARK);
     }
     let asks = byte_at(b, 10) == ASKS;
     if asks {
         let request = request_of(b);
-        return CjtReading::Read(CjtTelegram::Request(request));
+        return Ok(CjtTelegram::Request(request));
     }
     read_listed(b)
 }
 
 // The rules 80 to 85, on all bytes of a line and their sum. An FE byte takes 2 from the sum, modulo 256.
-pub(crate) fn read_in(bytes: &[u8], sum: u8) -> CjtReading
+pub(crate) fn read_in(bytes: &[u8], sum: u8) -> Result<CjtTelegram, Refusal>
     requires { sum ≡ total bytes.now % 256 }
-    ensures { result ≡ cjt_shown (read_cjt_frame (past_fe 5 bytes.now)) }
+    ensures { result ≡ shown (read_cjt_frame (past_fe 5 bytes.now)) }
 {
     let n = skips(bytes);
     let more = (2 * n) as u8;

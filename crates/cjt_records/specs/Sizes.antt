@@ -1,5 +1,5 @@
 -- What fits the record of a CJ/T 188 telegram: each number in the bytes that the record has for it.
-use Rattle.std.specs.Prelude.{ℕ, ◌^◌, ◌<◌}
+use Rattle.std.specs.Prelude.{◌^◌, ◌<◌}
 use Rattle.cjt_rules.specs.declared.CjtAddress.{CjtAddress}
 use Rattle.cjt_rules.specs.declared.CjtAddress.TheVariants.{Meter, Broadcast}
 use Rattle.cjt_rules.specs.declared.CjtAnswer.{CjtAnswer}

@@ -5,15 +5,14 @@ ghost use Rattle.std.specs.Prelude.{◌≡◌, ◌++◌, ◌+◌, ◌≤◌, len
 ghost use Rattle.base_lent.specs.Pieces.{pieces};
 ghost use Rattle.base_numbers.specs.Numbers.{bytes_of};
 ghost use Rattle.base_numbers.specs.Records.{words_of};
-ghost use Rattle.cjt_rules.specs.CjtOutlines.{cjt_shown};
+ghost use Rattle.base_rules.specs.Shown.{shown};
 ghost use Rattle.cjt_records.specs.CjtRecords.{broadcast_byte, address_number, head_bytes, quantity_bytes, quantities_of, clock_bytes, tail_bytes, cjt_bytes};
 ghost use Rattle.cjt_records.specs.CjtRecords.{number_in, quantity_in, clock_in, address_in, tells_in_record, cjt_in, cjt_from};
 
 use base_lent::{is_same, lay};
 use base_numbers::{bytes_of, number_at, put_record};
-use cjt_rules::{
-    CjtAddress, CjtAnswer, CjtClock, CjtQuantity, CjtReading, CjtRequest, CjtTelegram,
-};
+use base_rules::Refusal;
+use cjt_rules::{CjtAddress, CjtAnswer, CjtClock, CjtQuantity, CjtRequest, CjtTelegram};
 
 // The bytes of a telegram's record.
 pub const SIZE: usize = 80;
@@ -224,17 +223,17 @@ fn cjt_in(b: &[u8]) -> CjtTelegram
 }
 
 // The telegram whose record the bytes are, or refused by 101.
-pub fn cjt_from(b: &[u8]) -> CjtReading
-    ensures { result ≡ cjt_shown (cjt_from b.now) }
+pub fn cjt_from(b: &[u8]) -> Result<CjtTelegram, Refusal>
+    ensures { result ≡ shown (cjt_from b.now) }
 {
     if b.len() != SIZE {
-        return CjtReading::Refused(101);
+        return Err(Refusal::NO_RECORD);
     }
     let telegram = cjt_in(b);
     let again = cjt_bytes(telegram);
     let same = is_same(b, &again);
     if same {
-        return CjtReading::Read(telegram);
+        return Ok(telegram);
     }
-    CjtReading::Refused(101)
+    Err(Refusal::NO_RECORD)
 }

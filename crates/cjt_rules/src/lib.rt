@@ -60,17 +60,9 @@ pub enum CjtTelegram {
     Answer(CjtAnswer),
 }
 
-// The answer of reading: the number of a refusal, or the telegram.
+// Which of the two a telegram is.
 #[derive(Clone, Copy)]
-pub enum CjtReading {
-    Refused(u16),
-    Read(CjtTelegram),
-}
-
-// Which of the two a line is, or the number of its refusal.
-#[derive(Clone, Copy)]
-pub enum CjtOutline {
-    Refused(u16),
+pub enum CjtKind {
     Request,
     Answer,
 }

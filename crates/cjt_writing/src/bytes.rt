@@ -6,29 +6,15 @@ ghost use Rattle.base_characters.specs.Closing.{closed};
 ghost use Rattle.cjt_rules.specs.CjtWriting.{bytes_of_party, bytes_of_quantity, bytes_of_clock, bytes_listed, bytes_of_telegram};
 
 use base_characters::sum_of;
-use base_digits::two_digits;
+use base_digits::{packed_digits, two_digits};
 use base_lent::lay;
 use cjt_rules::{CjtAddress, CjtAnswer, CjtClock, CjtQuantity, CjtRequest, CjtTelegram};
-
-// The digits in seven bytes, nothing has more; the first of them are the digits in so many.
-fn packed_seven(n: u64) -> [u8; 7]
-    ensures { result ≡ packed 7 n }
-{
-    let first = two_digits(n);
-    let second = two_digits(n / 100);
-    let third = two_digits(n / 100 / 100);
-    let fourth = two_digits(n / 100 / 100 / 100);
-    let fifth = two_digits(n / 100 / 100 / 100 / 100);
-    let sixth = two_digits(n / 100 / 100 / 100 / 100 / 100);
-    let seventh = two_digits(n / 100 / 100 / 100 / 100 / 100 / 100);
-    [first, second, third, fourth, fifth, sixth, seventh]
-}
 
 fn party_bytes(address: CjtAddress) -> [u8; 7]
     ensures { result ≡ bytes_of_party address }
 {
     match address {
-        CjtAddress::Meter(n) => packed_seven(n),
+        CjtAddress::Meter(n) => packed_digits(n),
         CjtAddress::Broadcast => [0xAA; 7],
     }
 }
@@ -36,8 +22,8 @@ fn party_bytes(address: CjtAddress) -> [u8; 7]
 fn quantity_bytes(q: CjtQuantity) -> [u8; 5]
     ensures { result ≡ bytes_of_quantity q }
 {
-    let b = packed_seven(q.count as u64);
-    [b[0], b[1], b[2], b[3], q.code]
+    let [first, second, third, fourth] = packed_digits::<4>(q.count as u64);
+    [first, second, third, fourth, q.code]
 }
 
 fn quantities_bytes(values: [CjtQuantity; 5]) -> [u8; 25]
@@ -61,17 +47,17 @@ fn clock_bytes(c: CjtClock) -> [u8; 7]
     let hour = two_digits(c.hour as u64);
     let day = two_digits(c.day as u64);
     let month = two_digits(c.month as u64);
-    let y = packed_seven(c.year as u64);
-    [second, minute, hour, day, month, y[0], y[1]]
+    let [year, century] = packed_digits::<2>(c.year as u64);
+    [second, minute, hour, day, month, year, century]
 }
 
 // Temperatures and hours.
 fn sixes_bytes(inlet: u32, outlet: u32, hours: u32) -> [u8; 9]
     ensures { result ≡ packed 3 inlet ++ (packed 3 outlet ++ packed 3 hours) }
 {
-    let i = packed_seven(inlet as u64);
-    let o = packed_seven(outlet as u64);
-    let h = packed_seven(hours as u64);
+    let i = packed_digits::<3>(inlet as u64);
+    let o = packed_digits::<3>(outlet as u64);
+    let h = packed_digits::<3>(hours as u64);
     [i[0], i[1], i[2], o[0], o[1], o[2], h[0], h[1], h[2]]
 }
 
@@ -152,7 +138,7 @@ pub(crate) fn request_bytes(q: CjtRequest) -> [u8; 16]
 fn answer_head(a: CjtAnswer) -> [u8; 14]
     ensures { result ≡ 0x68 ∷ a.meter_type ∷ (packed 7 a.address ++ (0x81 ∷ 0x2E ∷ 0x1F ∷ 0x90 ∷ a.serial ∷ [])) }
 {
-    let b = packed_seven(a.address);
+    let b = packed_digits::<7>(a.address);
     [
         0x68,
         a.meter_type,

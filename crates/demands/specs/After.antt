@@ -3,7 +3,8 @@ use Rattle.std.specs.Prelude.{ℕ, ◌≤◌, false, List, [], ◌∷◌, ◌++�
 use Rattle.base_rules.specs.Lists.{at, any}
 use Rattle.base_rules.specs.Answers.{reads, refusal, within}
 use Rattle.mbus_search.specs.Searching.{Begins, find_in}
-use Rattle.mbus_after.specs.After.{BeginsAfter, TimedSpot, timed_at, moved_timed, find_after}
+use Rattle.mbus_after.specs.declared.TimedSpot.{TimedSpot}
+use Rattle.mbus_after.specs.After.{BeginsAfter, timed_at, moved_timed, find_after}
 
 -- What is found is an accepted line of the capture,
 abbrev pub FoundSinceIsAccepted : Type 0

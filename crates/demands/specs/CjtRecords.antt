@@ -5,7 +5,9 @@ use Rattle.base_characters.specs.Characters.{carrier}
 use Rattle.base_rules.specs.Lists.{at}
 use Rattle.cjt_rules.specs.declared.CjtTelegram.{CjtTelegram}
 use Rattle.cjt_rules.specs.CjtLines.{read_cjt_line}
-use Rattle.cjt_energy.specs.Energies.{entry_for, shown_entry}
+use Rattle.base_rules.specs.Shown as answers
+use Rattle.mbus_rules.specs.declared.Entry.{Entry}
+use Rattle.cjt_energy.specs.Energies.{entry_for}
 use Rattle.cjt_records.specs.CjtRecords.{cjt_size, cjt_bytes, cjt_from}
 use Rattle.cjt_records.specs.Sizes.{CjtFits}
 use Rattle.host_cjt.specs.CjtCalls.{read_cjt_for, write_cjt_for, entry_cjt_for}
@@ -52,4 +54,4 @@ EntryForBy = (count code : ℕ) (out : List ℕ) → By (21 ∷ 84 ∷ 85 ∷ 86
 -- ---- one to one
 
 abbrev pub EntriesShownApart : Type 0
-EntriesShownApart = Apart shown_entry
+EntriesShownApart = Apart (answers.shown {A = Entry})

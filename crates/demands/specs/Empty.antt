@@ -15,13 +15,16 @@ use Rattle.mbus_rules.specs.Writing.{line_of, unwritable, write_line}
 use Rattle.base_characters.specs.Flips.{Place, Places, flips}
 use Rattle.base_lent.specs.Lent.{stored}
 use Rattle.base_lent.specs.Pieces.{pieces}
-use Rattle.mbus_search.specs.Searching.{Begins, Spot, find_in}
-use Rattle.mbus_after.specs.After.{BeginsAfter, TimedSpot, find_after}
+use Rattle.mbus_search.specs.declared.Spot.{Spot}
+use Rattle.mbus_search.specs.Searching.{Begins, find_in}
+use Rattle.mbus_after.specs.declared.TimedSpot.{TimedSpot}
+use Rattle.mbus_after.specs.After.{BeginsAfter, find_after}
 use Rattle.mbus_length.specs.declared.HowLong.{HowLong}
 use Rattle.mbus_length.specs.declared.HowLong.TheVariants.{Known, NotYet, NoLine}
 use Rattle.mbus_length.specs.Lengths.{line_length, Agree}
 use Rattle.mbus_either.specs.declared.Interface.TheVariants.{Mbus, Optical}
-use Rattle.mbus_either.specs.Interfaces.{LiveLine, live_on, find_either}
+use Rattle.mbus_either.specs.declared.LiveLine.{LiveLine}
+use Rattle.mbus_either.specs.Interfaces.{live_on, find_either}
 use Rattle.serial_marks.specs.Marks.{port_marked}
 use Rattle.serial_marks.specs.Unmarking.{unmarked_in}
 use Rattle.exchange_replies.specs.Fits.{fits}

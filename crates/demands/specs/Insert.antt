@@ -10,7 +10,8 @@ use Rattle.bundle_check.specs.Example.{sixteen}
 use Rattle.bundle_check.specs.Handing.{body_at}
 use Rattle.bundle_check.specs.Records.{blank_record, Recorded, records_of}
 use Rattle.bundle_check.specs.Stretches.{bytes_at}
-use Rattle.bundle_adding.specs.declared.Added.{Added}
+use Rattle.std.specs.Prelude.{Result}
+use Rattle.base_rules.specs.declared.refusals.Refusal.{Refusal}
 use Rattle.bundle_adding.specs.Adding.{new_record, add_of, buffer_after}
 use Rattle.bundle_adding.specs.Inserting.{insert_of, buffer_inserted}
 use Rattle.bundle_adding.specs.Shown.{Inserts}
@@ -116,7 +117,7 @@ InsertingBy = (buffer : List ℕ) (filled : ℕ) (k : Recorded) → By (38 ∷ b
 
 -- Its promises leave nothing open, in Rattle and for C.
 abbrev pub InsertingSettled : Type 0
-InsertingSettled = (before : List ℕ) (filled : ℕ) (k : Recorded) → Settled (λ (x : Added × List ℕ). Inserts before filled k x.0 x.1)
+InsertingSettled = (before : List ℕ) (filled : ℕ) (k : Recorded) → Settled (λ (x : Result ℕ Refusal × List ℕ). Inserts before filled k x.0 x.1)
 
 abbrev pub InsertSettled : Type 0
 InsertSettled =
@@ -126,7 +127,7 @@ InsertSettled =
 -- A refusal leaves the buffer as it was;
 abbrev pub InsertingUnchanged : Type 0
 InsertingUnchanged =
-    (buffer after : List ℕ) (filled n : ℕ) (k : Recorded) (r : Added) → insert_of buffer filled k ≡ refusal n → Inserts buffer filled k r after
+    (buffer after : List ℕ) (filled n : ℕ) (k : Recorded) (r : Result ℕ Refusal) → insert_of buffer filled k ≡ refusal n → Inserts buffer filled k r after
     → after ≡ buffer
 
 -- and for C it is told by its number alone, and leaves the number of bytes as it was too.

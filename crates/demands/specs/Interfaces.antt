@@ -3,10 +3,12 @@ use Rattle.std.specs.Prelude.{ℕ, ◌≤◌, List, [], ◌∷◌, ◌≡◌}
 use Rattle.std.specs.Borrow.{Bor}
 use Rattle.base_rules.specs.Answers.{reads, refusal}
 use Rattle.mbus_rules.specs.Lines.{Accepted}
-use Rattle.mbus_search.specs.Searching.{Begins, Spot, spot_at}
+use Rattle.mbus_search.specs.declared.Spot.{Spot}
+use Rattle.mbus_search.specs.Searching.{Begins, spot_at}
 use Rattle.mbus_either.specs.declared.Interface.TheVariants.{Mbus, Optical}
 use Rattle.mbus_either.specs.declared.Either.{Either}
-use Rattle.mbus_either.specs.Interfaces.{LiveLine, live_on, find_either}
+use Rattle.mbus_either.specs.declared.LiveLine.{LiveLine}
+use Rattle.mbus_either.specs.Interfaces.{live_on, find_either}
 use Rattle.mbus_either.specs.Stretches.{capture_of, HandsEither}
 
 -- The stretch that is handed back is an accepted line.

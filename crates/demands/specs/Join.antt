@@ -8,10 +8,12 @@ use Rattle.bundle_check.specs.Bundles.{contents_of, check_of}
 use Rattle.bundle_check.specs.Example.{sixteen}
 use Rattle.bundle_check.specs.Records.{Recorded, records_of, rows_for}
 use Rattle.bundle_joining.specs.Choosing.{of_position, position_bundle}
-use Rattle.bundle_joining.specs.declared.Joined.{Joined}
+use Rattle.std.specs.Prelude.{Result}
+use Rattle.base_rules.specs.declared.refusals.Refusal.{Refusal}
+use Rattle.base_rules.specs.Shown.{shown}
 use Rattle.bundle_joining.specs.Joining.{by_time, join_of}
 use Rattle.bundle_joining.specs.Parts.{bundles_joined, TimesApart}
-use Rattle.bundle_joining.specs.JoinShown.{shown_joined, buffer_joined, Joins}
+use Rattle.bundle_joining.specs.JoinShown.{buffer_joined, Joins}
 use Rattle.run_listing.specs.Listings.{first_line, listing_of}
 use Rattle.run_replay.specs.Errors.{replay_of}
 use Rattle.host_bundle.specs.Joining.{JoinsIn}
@@ -134,13 +136,13 @@ EachIsJoined =
 -- ---- what is settled, and what a refusal leaves
 
 abbrev pub JoiningSettled : Type 0
-JoiningSettled = (a b out : List ℕ) → Settled (λ (x : Joined × List ℕ). Joins a b out x.0 x.1)
+JoiningSettled = (a b out : List ℕ) → Settled (λ (x : Result ℕ Refusal × List ℕ). Joins a b out x.0 x.1)
 
 abbrev pub JoiningForCSettled : Type 0
 JoiningForCSettled = (a b out : List ℕ) (filled : ℕ) → Settled (λ (x : (ℕ × ℕ) × List ℕ). JoinsIn a b out filled x.0.0 x.1 x.0.1)
 
 abbrev pub JoiningRefused : Type 0
-JoiningRefused = (k : ℕ) (a b out after : List ℕ) (r : Joined) → join_of a b out ≡ refusal k → Joins a b out r after → after ≡ out
+JoiningRefused = (k : ℕ) (a b out after : List ℕ) (r : Result ℕ Refusal) → join_of a b out ≡ refusal k → Joins a b out r after → after ≡ out
 
 abbrev pub JoiningForCRefused : Type 0
 JoiningForCRefused =
@@ -152,7 +154,7 @@ abbrev pub JoiningBy : Type 0
 JoiningBy = (a b out : List ℕ) → By (38 ∷ bundle_numbers) (join_of a b out)
 
 abbrev pub JoinedApart : Type 0
-JoinedApart = Apart shown_joined
+JoinedApart = Apart (shown {A = ℕ})
 
 -- ---- 01's example with a row of position 9, sent at the same time
 

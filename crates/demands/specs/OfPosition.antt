@@ -7,9 +7,11 @@ use Rattle.bundle_rows.specs.Rows.{first_offset}
 use Rattle.bundle_check.specs.Bundles.{contents_of, check_of}
 use Rattle.bundle_check.specs.Example.{sixteen}
 use Rattle.bundle_check.specs.Records.{Recorded, records_of, rows_for, bodies_for}
-use Rattle.bundle_joining.specs.declared.position.Chosen.{Chosen}
+use Rattle.std.specs.Prelude.{Result}
+use Rattle.base_rules.specs.declared.refusals.Refusal.{Refusal}
+use Rattle.base_rules.specs.Shown.{shown}
 use Rattle.bundle_joining.specs.Choosing.{of_position, choosing_of}
-use Rattle.bundle_joining.specs.ChoosingShown.{shown_chosen, buffer_chosen, Chooses}
+use Rattle.bundle_joining.specs.ChoosingShown.{buffer_chosen, Chooses}
 use Rattle.run_counting.specs.Counting.{kept_if}
 use Rattle.run_listing.specs.Listings.{first_line, listing_of}
 use Rattle.run_replay.specs.Errors.{replay_of}
@@ -122,7 +124,7 @@ WholeIsEnough =
 -- ---- what is settled, and what a refusal leaves
 
 abbrev pub ChoosingSettled : Type 0
-ChoosingSettled = (b : List ℕ) (position : ℕ) (out : List ℕ) → Settled (λ (x : Chosen × List ℕ). Chooses b position out x.0 x.1)
+ChoosingSettled = (b : List ℕ) (position : ℕ) (out : List ℕ) → Settled (λ (x : Result ℕ Refusal × List ℕ). Chooses b position out x.0 x.1)
 
 abbrev pub ChoosingForCSettled : Type 0
 ChoosingForCSettled =
@@ -131,7 +133,7 @@ ChoosingForCSettled =
 
 abbrev pub ChoosingRefused : Type 0
 ChoosingRefused =
-    (k : ℕ) (b : List ℕ) (position : ℕ) (out after : List ℕ) (r : Chosen) → choosing_of b position out ≡ refusal k → Chooses b position out r after
+    (k : ℕ) (b : List ℕ) (position : ℕ) (out after : List ℕ) (r : Result ℕ Refusal) → choosing_of b position out ≡ refusal k → Chooses b position out r after
     → after ≡ out
 
 abbrev pub ChoosingForCRefused : Type 0
@@ -144,7 +146,7 @@ abbrev pub ChoosingBy : Type 0
 ChoosingBy = (b : List ℕ) (position : ℕ) (out : List ℕ) → By (38 ∷ bundle_numbers) (choosing_of b position out)
 
 abbrev pub ChosenApart : Type 0
-ChosenApart = Apart shown_chosen
+ChosenApart = Apart (shown {A = ℕ})
 
 -- ---- 01's example: one row of position 7
 

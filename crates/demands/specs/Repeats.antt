@@ -10,7 +10,8 @@ use Rattle.base_lent.specs.Pieces.{pieces}
 use Rattle.base_numbers.specs.Numbers.{bytes_of}
 use Rattle.bundle_check.specs.Bundles.{check_of}
 use Rattle.bundle_check.specs.Records.{Recorded, records_of, bundle_of, blank_record}
-use Rattle.bundle_check.specs.declared.Checked.{Checked}
+use Rattle.std.specs.Prelude.{Result}
+use Rattle.base_rules.specs.declared.refusals.Refusal.{Refusal}
 use Rattle.run_counting.specs.Counting.{is_sent}
 use Rattle.run_repeats.specs.Repeats.{gives_reading, same_reading, earlier_rows, earlier_into, TellsEarlier}
 use Rattle.run_repeats.specs.Meaning.{SameTelegrams}
@@ -81,7 +82,7 @@ RepeatsUnchanged =
 
 -- Any two results are the same.
 abbrev pub EarlierSettled : Type 0
-EarlierSettled = (b before : List ℕ) → Settled (λ (x : Checked × List ℕ). TellsEarlier b before x.0 x.1)
+EarlierSettled = (b before : List ℕ) → Settled (λ (x : Result ℕ Refusal × List ℕ). TellsEarlier b before x.0 x.1)
 
 abbrev pub RepeatsSettled : Type 0
 RepeatsSettled = (b rows : List ℕ) (count : ℕ) → Settled (λ (x : (ℕ × ℕ) × List ℕ). RepeatsIn b rows count x.0.0 x.1 x.0.1)

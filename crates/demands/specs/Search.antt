@@ -1,7 +1,8 @@
 -- The search: the lowest place in a capture at which an accepted line begins, with the only length that it can have there.
 use Rattle.std.specs.Prelude.{ℕ, ◌≤◌, List, ◌≡◌}
 use Rattle.base_rules.specs.Answers.{reads, refusal}
-use Rattle.mbus_search.specs.Searching.{Begins, Spot, find_in}
+use Rattle.mbus_search.specs.declared.Spot.{Spot}
+use Rattle.mbus_search.specs.Searching.{Begins, find_in}
 
 -- What is found is an accepted line of the capture,
 abbrev pub FoundIsAccepted : Type 0

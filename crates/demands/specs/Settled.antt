@@ -1,33 +1,28 @@
 -- 01, "How much each promise says": any two results that a promise allows are the same. One shape, and a law for each form that a promise of a
 -- public function has: an equation; a record of equations on the answer and on what is left in lent memory; a stretch handed out.
-use Rattle.std.specs.Prelude.{ℕ, List, ◌≡◌, length}
+use Rattle.std.specs.Prelude.{ℕ, List, Result, ◌≡◌, length}
 use Rattle.std.specs.Borrow.{Bor}
 use Rattle.bench_clock.specs.declared.Clock.{Clock}
 use Rattle.mbus_rules.specs.declared.Telegram.{Telegram}
 use Rattle.base_rules.specs.Answers.{Answer}
+use Rattle.base_rules.specs.declared.refusals.Refusal.{Refusal}
 use Rattle.base_lent.specs.Lent.{Leaves}
-use Rattle.base_characters.specs.declared.carrying.Written.{Written}
 use Rattle.base_characters.specs.Carrying.{Writes}
 use Rattle.mbus_either.specs.declared.Either.{Either}
 use Rattle.mbus_either.specs.Stretches.{HandsEither}
 use Rattle.serial_marks.specs.declared.Unmarked.{Unmarked}
 use Rattle.serial_marks.specs.Unmarking.{Unmarks}
 use Rattle.bundle_check.specs.Records.{Recorded}
-use Rattle.bundle_check.specs.Handing.{BodyPlace}
+use Rattle.bundle_check.specs.declared.rows.BodyPlace.{BodyPlace}
 use Rattle.bundle_check.specs.Stretches.{Handed}
-use Rattle.bundle_check.specs.declared.Checked.{Checked}
 use Rattle.bundle_columns.specs.Columns.{Columns}
 use Rattle.bundle_columns.specs.Shown.{Turns}
-use Rattle.bundle_salvage.specs.declared.SalvageTold.{SalvageTold}
+use Rattle.bundle_salvage.specs.declared.Salvaged.{Salvaged}
 use Rattle.bundle_salvage.specs.Shown.{Salvages}
-use Rattle.bundle_sweep.specs.declared.Swept.{Swept}
 use Rattle.bundle_sweep.specs.Shown.{Sweeps}
-use Rattle.bundle_adding.specs.declared.Added.{Added}
 use Rattle.bundle_adding.specs.Shown.{Adds}
-use Rattle.run_listing.specs.declared.Listed.{Listed}
 use Rattle.run_listing.specs.Shown.{Lists}
 use Rattle.text_filling.specs.Putting.{PutAt}
-use Rattle.run_picture.specs.declared.Drawn.{Drawn}
 use Rattle.run_picture.specs.Shown.{Draws}
 use Rattle.host_picture.specs.Pictured.{DrawsIn}
 use Rattle.text_words.specs.Saying.{Says}
@@ -64,30 +59,30 @@ module _ {R L : Type 0} (a : R) (b : L) where
 -- ---- records of equations, in Rattle
 
 abbrev pub WritingSettled : Type 0
-WritingSettled = (t : Telegram) (before : List ℕ) → Settled (λ (x : Written × List ℕ). Writes (write_line t (length before)) before x.1 x.0)
+WritingSettled = (t : Telegram) (before : List ℕ) → Settled (λ (x : Result ℕ Refusal × List ℕ). Writes (write_line t (length before)) before x.1 x.0)
 
 abbrev pub UnmarkingSettled : Type 0
 UnmarkingSettled = (bytes before : List ℕ) → Settled (λ (x : Unmarked × List ℕ). Unmarks bytes before x.1 x.0)
 
 abbrev pub AddingSettled : Type 0
-AddingSettled = (before : List ℕ) (filled : ℕ) (k : Recorded) → Settled (λ (x : Added × List ℕ). Adds before filled k x.0 x.1)
+AddingSettled = (before : List ℕ) (filled : ℕ) (k : Recorded) → Settled (λ (x : Result ℕ Refusal × List ℕ). Adds before filled k x.0 x.1)
 
 abbrev pub SweepingSettled : Type 0
-SweepingSettled = (before : List ℕ) (filled position : ℕ) → Settled (λ (x : Swept × List ℕ). Sweeps before filled position x.0 x.1)
+SweepingSettled = (before : List ℕ) (filled position : ℕ) → Settled (λ (x : Result ℕ Refusal × List ℕ). Sweeps before filled position x.0 x.1)
 
 abbrev pub TurningSettled : Type 0
 TurningSettled =
     (written : Columns → List ℕ) (a : Answer Columns) (before : List ℕ)
-    → Settled (λ (x : Checked × List ℕ). Turns written a before x.0 x.1)
+    → Settled (λ (x : Result ℕ Refusal × List ℕ). Turns written a before x.0 x.1)
 
 abbrev pub SalvagingSettled : Type 0
-SalvagingSettled = (b before : List ℕ) → Settled (λ (x : SalvageTold × List ℕ). Salvages b before x.0 x.1)
+SalvagingSettled = (b before : List ℕ) → Settled (λ (x : Result Salvaged Refusal × List ℕ). Salvages b before x.0 x.1)
 
 abbrev pub ListingSettled : Type 0
-ListingSettled = (b before : List ℕ) → Settled (λ (x : Listed × List ℕ). Lists b before x.0 x.1)
+ListingSettled = (b before : List ℕ) → Settled (λ (x : Result ℕ Refusal × List ℕ). Lists b before x.0 x.1)
 
 abbrev pub DrawingSettled : Type 0
-DrawingSettled = (b before : List ℕ) → Settled (λ (x : Drawn × List ℕ). Draws b before x.0 x.1)
+DrawingSettled = (b before : List ℕ) → Settled (λ (x : Result ℕ Refusal × List ℕ). Draws b before x.0 x.1)
 
 abbrev pub PuttingSettled : Type 0
 PuttingSettled = (text before : List ℕ) (at : ℕ) → Settled (λ (x : List ℕ × ℕ). PutAt text before at x.1 x.0)

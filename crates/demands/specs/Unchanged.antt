@@ -1,34 +1,30 @@
 -- Demand 1: a refusal hands back the number alone, with lent memory unchanged. One shape, and the promise of each function that is lent memory to
 -- write in. (A step of an exchange or of a meter takes its state by value: `Exchange` and `Meter` say what a refused step leaves.)
-use Rattle.std.specs.Prelude.{ℕ, ◌+◌, List, [], ◌≡◌, length}
+use Rattle.std.specs.Prelude.{ℕ, ◌+◌, List, [], Result, ◌≡◌, length}
 use Rattle.std.specs.Borrow.{Bor}
 use Rattle.bench_clock.specs.declared.Clock.{Clock}
 use Rattle.bench_clock.specs.Wakes.{wake_of, wake_line}
 use Rattle.mbus_rules.specs.declared.Telegram.{Telegram}
 use Rattle.base_rules.specs.Answers.{Answer, refusal, follow}
+use Rattle.base_rules.specs.declared.refusals.Refusal.{Refusal}
 use Rattle.mbus_rules.specs.Writing.{write_line}
 use Rattle.base_lent.specs.Lent.{told, stored, Leaves}
-use Rattle.base_characters.specs.declared.carrying.Written.{Written}
 use Rattle.base_characters.specs.Carrying.{Writes}
 use Rattle.mbus_either.specs.declared.Either.{Either}
 use Rattle.mbus_either.specs.Interfaces.{find_either}
 use Rattle.mbus_either.specs.Stretches.{HandsEither}
 use Rattle.bundle_check.specs.Records.{Recorded}
-use Rattle.bundle_check.specs.Handing.{BodyPlace}
+use Rattle.bundle_check.specs.declared.rows.BodyPlace.{BodyPlace}
 use Rattle.bundle_check.specs.Stretches.{Handed}
-use Rattle.bundle_check.specs.declared.Checked.{Checked}
 use Rattle.bundle_columns.specs.Columns.{Columns}
 use Rattle.bundle_columns.specs.Shown.{Turns}
-use Rattle.bundle_salvage.specs.declared.SalvageTold.{SalvageTold}
 use Rattle.bundle_salvage.specs.Salvaging.{salvage_into}
+use Rattle.bundle_salvage.specs.declared.Salvaged.{Salvaged}
 use Rattle.bundle_salvage.specs.Shown.{Salvages}
-use Rattle.bundle_sweep.specs.declared.Swept.{Swept}
 use Rattle.bundle_sweep.specs.Sweeping.{sweep_of}
 use Rattle.bundle_sweep.specs.Shown.{Sweeps}
-use Rattle.bundle_adding.specs.declared.Added.{Added}
 use Rattle.bundle_adding.specs.Adding.{add_of}
 use Rattle.bundle_adding.specs.Shown.{Adds}
-use Rattle.run_listing.specs.declared.Listed.{Listed}
 use Rattle.run_listing.specs.Listings.{listing_of}
 use Rattle.run_listing.specs.Shown.{listed_in, Lists}
 use Rattle.text_words.specs.Saying.{fitted, Says}
@@ -43,7 +39,6 @@ use Rattle.host_bundle.specs.Lent.{Gives}
 use Rattle.host_bundle.specs.Bundled.{AddsIn, ListsIn}
 use Rattle.host_bundle.specs.Salvaging.{salvage_for, SalvagesIn}
 use Rattle.host_sweep.specs.Sweeping.{SweepsIn}
-use Rattle.run_picture.specs.declared.Drawn.{Drawn}
 use Rattle.run_picture.specs.Shown.{drawn_in, Draws}
 use Rattle.host_picture.specs.Pictured.{DrawsIn}
 use Rattle.run_verdicts.specs.declared.Verdict.{Verdict}
@@ -63,7 +58,7 @@ Unchanged leaves before = (n : ℕ) → leaves (refusal n) ≡ before
 module _ (n : ℕ) where
   abbrev pub WritingUnchanged : Type 0
   WritingUnchanged =
-      (t : Telegram) (before after : List ℕ) (r : Written) → write_line t (length before) ≡ refusal n
+      (t : Telegram) (before after : List ℕ) (r : Result ℕ Refusal) → write_line t (length before) ≡ refusal n
       → Writes (write_line t (length before)) before after r → after ≡ before
 
   abbrev pub WakeUnchanged : Type 0
@@ -73,27 +68,27 @@ module _ (n : ℕ) where
 
   abbrev pub AddingUnchanged : Type 0
   AddingUnchanged =
-      (before after : List ℕ) (filled : ℕ) (k : Recorded) (r : Added) → add_of before filled k ≡ refusal n
+      (before after : List ℕ) (filled : ℕ) (k : Recorded) (r : Result ℕ Refusal) → add_of before filled k ≡ refusal n
       → Adds before filled k r after → after ≡ before
 
   abbrev pub SweepingUnchanged : Type 0
   SweepingUnchanged =
-      (before after : List ℕ) (filled position : ℕ) (r : Swept) → sweep_of before filled position ≡ refusal n
+      (before after : List ℕ) (filled position : ℕ) (r : Result ℕ Refusal) → sweep_of before filled position ≡ refusal n
       → Sweeps before filled position r after → after ≡ before
 
   abbrev pub TurningUnchanged : Type 0
   TurningUnchanged =
-      (written : Columns → List ℕ) (a : Answer Columns) (before after : List ℕ) (r : Checked) → a ≡ refusal n
+      (written : Columns → List ℕ) (a : Answer Columns) (before after : List ℕ) (r : Result ℕ Refusal) → a ≡ refusal n
       → Turns written a before r after → after ≡ before
 
   abbrev pub SalvagingUnchanged : Type 0
-  SalvagingUnchanged = (b before after : List ℕ) (r : SalvageTold) → salvage_into b before ≡ refusal n → Salvages b before r after → after ≡ before
+  SalvagingUnchanged = (b before after : List ℕ) (r : Result Salvaged Refusal) → salvage_into b before ≡ refusal n → Salvages b before r after → after ≡ before
 
   abbrev pub ListingUnchanged : Type 0
-  ListingUnchanged = (b before after : List ℕ) (r : Listed) → listed_in (listing_of b) before ≡ refusal n → Lists b before r after → after ≡ before
+  ListingUnchanged = (b before after : List ℕ) (r : Result ℕ Refusal) → listed_in (listing_of b) before ≡ refusal n → Lists b before r after → after ≡ before
 
   abbrev pub DrawingUnchanged : Type 0
-  DrawingUnchanged = (b before after : List ℕ) (r : Drawn) → drawn_in b before ≡ refusal n → Draws b before r after → after ≡ before
+  DrawingUnchanged = (b before after : List ℕ) (r : Result ℕ Refusal) → drawn_in b before ≡ refusal n → Draws b before r after → after ≡ before
 
   -- Where a stretch of the caller's memory is asked for, a refusal hands out an empty one.
   abbrev pub StretchEmpty : Type 0

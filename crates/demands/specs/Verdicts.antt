@@ -6,7 +6,8 @@ use Rattle.base_characters.specs.Characters.{chars}
 use Rattle.mbus_rules.specs.declared.Request.{Request}
 use Rattle.mbus_rules.specs.declared.Outline.TheVariants.{Asks}
 use Rattle.bench_clock.specs.Wakes.{is_wake}
-use Rattle.exchange_steps.specs.Steps.{heard_on, shown_step, ends_well}
+use Rattle.base_rules.specs.Shown as answers
+use Rattle.exchange_steps.specs.Steps.{heard_on, ends_well}
 use Rattle.bundle_check.specs.Bundles.{contents_of, check_of}
 use Rattle.bundle_check.specs.Records.{Recorded}
 use Rattle.bundle_columns.specs.Columns.{columns_of}
@@ -54,7 +55,7 @@ LeftOverIsTold =
 abbrev pub CountsAsTheExchangeEnds : Type 0
 CountsAsTheExchangeEnds =
     (before : List Recorded) (k : Recorded) → is_wake (chars k.body) ≡ false → is_sent k ≡ false
-    → is_counts (verdict_behind before k) ≡ ends_well (shown_step (heard_on (slot_of k.position before) (row_outline k) (row_clock k.time)))
+    → is_counts (verdict_behind before k) ≡ ends_well (answers.shown (heard_on (slot_of k.position before) (row_outline k) (row_clock k.time)))
 
 -- For reads that is 2026-04's: each row adds its number to those that count for a position exactly when it is looked at, the last row sent is an
 -- accepted read, and its verdict is that it counts.

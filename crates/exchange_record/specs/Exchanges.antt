@@ -2,7 +2,7 @@
 use Rattle.std.specs.Prelude.{ℕ, Bool, not, cond, ◌&&◌, List, [], ◌∷◌, ◌++◌, eqb, ltb, leb, take, drop, replicate}
 use Rattle.mbus_rules.specs.declared.Request.{Request}
 use Rattle.mbus_rules.specs.declared.Request.TheVariants.{Read, Enter, Leave}
-use Rattle.base_rules.specs.Answers.{Answer, reads, refusal, refuse, within, follow}
+use Rattle.base_rules.specs.Answers.{Answer, reads, refuse, within, follow}
 use Rattle.base_rules.specs.Lists.{at}
 use Rattle.exchange_steps.specs.declared.Cause.{Cause}
 use Rattle.exchange_steps.specs.declared.Cause.TheVariants.{Silent, Damaged, WrongKind}
@@ -16,8 +16,6 @@ use Rattle.base_lent.specs.Same.{same}
 use Rattle.base_numbers.specs.Numbers.{number}
 use Rattle.base_numbers.specs.Records.{record_of}
 use Rattle.base_lent.specs.Recorded.{no_record, recorded}
-use Rattle.exchange_record.specs.declared.Taken.{Taken}
-use Rattle.exchange_record.specs.declared.Taken.TheVariants.{Is, Refused}
 
 abbrev pub exchange_size : ℕ
 exchange_size = 24
@@ -115,8 +113,3 @@ slot_bytes (Busy x) = exchange_bytes x
 
 abbrev pub slot_from : List ℕ → Answer Slot
 slot_from b = cond (same b none_bytes) (reads Idle) (within Busy (exchange_from b))
-
--- The program's case for each answer.
-abbrev pub shown_slot : Answer Slot → Taken
-shown_slot (refusal n) = Refused n
-shown_slot (reads b) = Is b

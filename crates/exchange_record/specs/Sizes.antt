@@ -1,5 +1,5 @@
 -- What fits the record of an exchange: the address that is asked, and the times of steps.
-use Rattle.std.specs.Prelude.{ℕ, ◌^◌, ◌<◌, List, [], ◌∷◌}
+use Rattle.std.specs.Prelude.{◌^◌, ◌<◌, List, [], ◌∷◌}
 use Rattle.mbus_rules.specs.declared.Request.{Request}
 use Rattle.mbus_rules.specs.declared.Request.TheVariants.{Read, Enter, Leave}
 use Rattle.exchange_steps.specs.declared.Slot.{Slot}

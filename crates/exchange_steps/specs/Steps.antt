@@ -1,6 +1,6 @@
 -- 01, "The exchange", and 02, 2026-09: the one way to say that a send has ended, lines and ticks. Each takes the exchange as it stood, or none, and gives
 -- the exchange as it then stands.
-use Rattle.std.specs.Prelude.{ℕ, ◌+◌, Bool, true, false, cond, not, ◌&&◌, eqb, ltb}
+use Rattle.std.specs.Prelude.{ℕ, ◌+◌, Bool, true, false, cond, not, ◌&&◌, eqb, ltb, Result, Ok, Err}
 use Rattle.bench_clock.specs.declared.Clock.{Clock}
 use Rattle.bench_clock.specs.Times.{late, earlier}
 use Rattle.mbus_rules.specs.declared.Request.{Request}
@@ -9,7 +9,9 @@ use Rattle.mbus_rules.specs.declared.Telegram.{Telegram}
 use Rattle.mbus_rules.specs.declared.Outline.{Outline}
 use Rattle.mbus_rules.specs.declared.Outline.TheVariants as outlines
 use Rattle.base_rules.specs.Answers.{Answer, reads, refusal, refuse, follow}
-use Rattle.mbus_rules.specs.Telegrams.{blank, shown}
+use Rattle.base_rules.specs.declared.refusals.Refusal.{Refusal}
+use Rattle.base_rules.specs.Shown as answers
+use Rattle.mbus_rules.specs.Telegrams.{blank, telegram_read}
 use Rattle.mbus_rules.specs.Outlines.{outlined}
 use Rattle.exchange_steps.specs.declared.Cause.{Cause}
 use Rattle.exchange_steps.specs.declared.Cause.TheVariants.{Silent, Damaged, WrongKind}
@@ -18,8 +20,6 @@ use Rattle.exchange_steps.specs.declared.State.TheVariants.{Waiting, Resend, Wel
 use Rattle.exchange_steps.specs.declared.Exchange.{Exchange}
 use Rattle.exchange_steps.specs.declared.Slot.{Slot}
 use Rattle.exchange_steps.specs.declared.Slot.TheVariants.{Idle, Busy}
-use Rattle.exchange_steps.specs.declared.Stepped.{Stepped}
-use Rattle.exchange_steps.specs.declared.Stepped.TheVariants.{To, Refused}
 use Rattle.exchange_steps.specs.declared.Heard.{Heard}
 use Rattle.exchange_replies.specs.Fits.{fits}
 
@@ -162,11 +162,6 @@ tick_on (Busy x) t = tick_in x t
 
 -- ---- what the program answers
 
--- The program's case for each answer: the exchange as it then stands, or the number.
-abbrev pub shown_step : Answer Exchange → Stepped
-shown_step (refusal n) = Refused n
-shown_step (reads x) = To x
-
 -- The step ended the exchange well.
 abbrev pub is_well : State → Bool
 is_well Waiting = false
@@ -174,14 +169,14 @@ is_well (Resend cause) = false
 is_well Well = true
 is_well (Failed cause) = false
 
-abbrev pub ends_well : Stepped → Bool
-ends_well (Refused n) = false
-ends_well (To x) = is_well x.state
+abbrev pub ends_well : Result Exchange Refusal → Bool
+ends_well (Err e) = false
+ends_well (Ok x) = is_well x.state
 
 -- The whole answer for a line heard, by what reading the line answers. The reply is the telegram of the line by which the
 -- exchange ended well; where it did not, it is blank.
 abbrev pub heard_of : Slot → Answer Telegram → Clock → Heard
 heard_of b reading t = record {
-  stepped = shown_step (heard_on b (outlined reading) t);
-  reply = cond (ends_well (shown_step (heard_on b (outlined reading) t))) (shown reading).telegram blank;
+  stepped = answers.shown (heard_on b (outlined reading) t);
+  reply = cond (ends_well (answers.shown (heard_on b (outlined reading) t))) (telegram_read reading) blank;
 }

@@ -2,18 +2,20 @@
 #![tactic(auto)]
 
 ghost use Rattle.std.specs.Prelude.{cond, ◌≡◌};
+ghost use Rattle.std.specs.Result.{result_unwrap_or};
 ghost use Rattle.base_rules.specs.Answers.{reads};
+ghost use Rattle.base_rules.specs.Shown.{shown};
 ghost use Rattle.mbus_rules.specs.Lines.{read_line};
 ghost use Rattle.mbus_rules.specs.Telegrams.{blank};
 ghost use Rattle.mbus_rules.specs.Outlines.{outlined};
-ghost use Rattle.exchange_steps.specs.Steps.{ends_well, heard_in, heard_of, heard_on, in_progress, moved, resent_in, send_ended_on, sending, sent_in, shown_step};
+ghost use Rattle.exchange_steps.specs.Steps.{ends_well, heard_in, heard_of, heard_on, in_progress, moved, resent_in, send_ended_on, sending, sent_in};
 ghost use Rattle.exchange_steps.specs.Steps.{start_with, step, tick_in, tick_on};
 
-use base_rules::Outcome;
+use base_rules::Refusal;
 use bench_clock::Clock;
 use mbus_reading::{outlined, read_line};
-use mbus_rules::{Kind, Outline, Reading, Request, Telegram};
-use mbus_telegrams::plain;
+use mbus_rules::{Kind, Outline, Request, Telegram};
+use mbus_telegrams::bare;
 use progress::has_ended;
 use requests::asks_for;
 use states::{after_line, after_tick, asks_resend, waits};
@@ -56,23 +58,19 @@ pub struct Exchange {
 }
 
 // Whether there is an exchange, in progress or ended: at first there is none.
+// No Option: its steps are methods on self by value, and the theorems on histories speak of Idle and Busy.
 #[derive(Clone, Copy)]
 pub enum Slot {
     Idle,
     Busy(Exchange),
 }
 
-// The exchange as it then stands, or the number by which the step is refused; what there was is then as it was.
-#[derive(Clone, Copy)]
-pub enum Stepped {
-    To(Exchange),
-    Refused(u16),
-}
-
-// What a line heard answers. The reply is the line's telegram where the line ended the exchange well, and blank in every other case.
+// What a line heard answers: the exchange as it then stands, or the number by which the step is refused; what there was is then as it was. The
+// reply is the line's telegram where the line ended the exchange well, and blank in every other case.
+// No Option: the definition heard_of says that the reply is then blank.
 #[derive(Clone, Copy)]
 pub struct Heard {
-    pub stepped: Stepped,
+    pub stepped: Result<Exchange, Refusal>,
     pub reply: Telegram,
 }
 
@@ -90,41 +88,33 @@ fn sending(request: Request, sends: u8, t: Clock) -> Exchange
 }
 
 // Whether the step ended the exchange well.
-fn ends_well(stepped: Stepped) -> bool
+fn ends_well(stepped: Result<Exchange, Refusal>) -> bool
     ensures { result ≡ ends_well stepped }
 {
-    let Stepped::To(x) = stepped else {
-        return false;
-    };
-    let state = x.state;
-    match state {
-        State::Waiting => false,
-        State::Resend(_) => false,
-        State::Well => true,
-        State::Failed(_) => false,
+    match stepped {
+        Ok(x) => matches!(x.state, State::Well),
+        Err(_) => false,
     }
 }
 
 // The reply of a reading: its telegram where it ended the exchange well, and the blank one where it did not.
-fn reply_of(reading: Reading, well: bool) -> Telegram
-    ensures { result ≡ cond well reading.telegram blank }
+fn reply_of(reading: Result<Telegram, Refusal>, well: bool) -> Telegram
+    ensures { result ≡ cond well (result_unwrap_or reading blank) blank }
 {
+    let blank = bare(Kind::Ack, 0, 0);
     if well {
-        return reading.telegram;
+        return reading.unwrap_or(blank);
     }
-    let none = plain(Kind::Ack, 0, 0);
-    none.telegram
+    blank
 }
 
 // A new exchange, by what was sent.
-fn start_with(outline: Outline, t: Clock) -> Stepped
-    ensures { result ≡ shown_step (start_with outline t) }
+fn start_with(outline: Outline, t: Clock) -> Result<Exchange, Refusal>
+    ensures { result ≡ shown (start_with outline t) }
 {
     match outline {
-        Outline::Refused(_) => Stepped::Refused(42),
-        Outline::Ack => Stepped::Refused(42),
-        Outline::Asks(request) => Stepped::To(sending(request, 1, t)),
-        Outline::Data(_) => Stepped::Refused(42),
+        Outline::Asks(request) => Ok(sending(request, 1, t)),
+        Outline::Refused(_) | Outline::Ack | Outline::Data(_) => Err(Refusal::EXCHANGE_NO_REQUEST),
     }
 }
 
@@ -141,76 +131,58 @@ impl Exchange {
     }
 
     // The step to the next exchange, if its time and the state allow it.
-    fn step(self, t: Clock, called: bool, next: Exchange) -> Stepped
-        ensures { result ≡ shown_step (step self t called next) }
+    fn step(self, t: Clock, called: bool, next: Exchange) -> Result<Exchange, Refusal>
+        ensures { result ≡ shown (step self t called next) }
     {
-        let last = self.last;
-        let back = last.earlier(t);
-        if back {
-            return Stepped::Refused(40);
+        if self.last.earlier(t) {
+            return Err(Refusal::EXCHANGE_TIME_BACK);
         }
         if called {
-            return Stepped::To(next);
+            return Ok(next);
         }
-        Stepped::Refused(41)
+        Err(Refusal::EXCHANGE_NOT_CALLED_FOR)
     }
 
     // A line of this outline heard at t.
-    fn seen(self, outline: Outline, t: Clock) -> Stepped
-        ensures { result ≡ shown_step (heard_in self outline t) }
+    fn seen(self, outline: Outline, t: Clock) -> Result<Exchange, Refusal>
+        ensures { result ≡ shown (heard_in self outline t) }
     {
-        let request = self.request;
-        let stood = self.state;
-        let called = waits(stood);
-        let began = self.began;
-        let silent = began.late(t);
-        let state = after_line(request, self.sends, silent, outline);
-        let next = self.moved(state, t);
-        self.step(t, called, next)
+        let called = waits(self.state);
+        let silent = self.began.late(t);
+        let state = after_line(self.request, self.sends, silent, outline);
+        self.step(t, called, self.moved(state, t))
     }
 
     // No line has begun up to t.
-    fn tick(self, t: Clock) -> Stepped
-        ensures { result ≡ shown_step (tick_in self t) }
+    fn tick(self, t: Clock) -> Result<Exchange, Refusal>
+        ensures { result ≡ shown (tick_in self t) }
     {
-        let stood = self.state;
-        let called = waits(stood);
-        let began = self.began;
-        let silent = began.late(t);
+        let called = waits(self.state);
+        let silent = self.began.late(t);
         let state = after_tick(self.sends, silent);
-        let next = self.moved(state, t);
-        self.step(t, called, next)
+        self.step(t, called, self.moved(state, t))
     }
 
     // A resend of the request has ended at t.
-    fn sent(self, t: Clock) -> Stepped
-        ensures { result ≡ shown_step (sent_in self t) }
+    fn sent(self, t: Clock) -> Result<Exchange, Refusal>
+        ensures { result ≡ shown (sent_in self t) }
     {
-        let request = self.request;
-        let stood = self.state;
-        let sends = self.sends;
-        let called = asks_resend(stood, sends);
+        let called = asks_resend(self.state, self.sends);
         if called {
-            let next = sending(request, sends + 1, t);
-            return self.step(t, true, next);
+            return self.step(t, true, sending(self.request, self.sends + 1, t));
         }
         self.step(t, false, self)
     }
 
     // A resend of what the outline is has ended at t; a different request is 43.
-    pub fn resent(self, outline: Outline, t: Clock) -> Stepped
-        ensures { result ≡ shown_step (resent_in self outline t) }
+    pub fn resent(self, outline: Outline, t: Clock) -> Result<Exchange, Refusal>
+        ensures { result ≡ shown (resent_in self outline t) }
     {
-        let request = self.request;
-        let stepped = self.sent(t);
-        let same = asks_for(request, outline);
-        if same {
-            return stepped;
+        let next = self.sent(t)?;
+        if asks_for(self.request, outline) {
+            return Ok(next);
         }
-        match stepped {
-            Stepped::Refused(n) => Stepped::Refused(n),
-            Stepped::To(_) => Stepped::Refused(43),
-        }
+        Err(Refusal::EXCHANGE_OTHER_REQUEST)
     }
 }
 
@@ -221,39 +193,28 @@ impl Slot {
     {
         match self {
             Slot::Idle => Slot::Idle,
-            Slot::Busy(x) => {
-                let state = x.state;
-                let done = has_ended(state);
-                if done {
-                    return Slot::Idle;
-                }
-                Slot::Busy(x)
-            }
+            Slot::Busy(x) => if has_ended(x.state) { Slot::Idle } else { self },
         }
     }
 
     // A send has ended at t: it begins an exchange where none is in progress, and is the next send of one that asks for a resend. Only the
     // telegram's kind, address and method are looked at: whether it can be written is the writer's to say.
-    pub fn send_ended(self, telegram: Telegram, t: Clock) -> Stepped
-        ensures { result ≡ shown_step (send_ended_on self (outlined (reads telegram)) t) }
+    pub fn send_ended(self, telegram: Telegram, t: Clock) -> Result<Exchange, Refusal>
+        ensures { result ≡ shown (send_ended_on self (outlined (reads telegram)) t) }
     {
-        let outline = outlined(Reading {
-            outcome: Outcome::Accepted,
-            telegram,
-        });
-        let slot = self.in_progress();
-        match slot {
+        let outline = outlined(Ok(telegram));
+        match self.in_progress() {
             Slot::Idle => start_with(outline, t),
             Slot::Busy(x) => x.resent(outline, t),
         }
     }
 
     // A line of this outline heard at t.
-    pub fn seen(self, outline: Outline, t: Clock) -> Stepped
-        ensures { result ≡ shown_step (heard_on self outline t) }
+    pub fn seen(self, outline: Outline, t: Clock) -> Result<Exchange, Refusal>
+        ensures { result ≡ shown (heard_on self outline t) }
     {
         match self {
-            Slot::Idle => Stepped::Refused(41),
+            Slot::Idle => Err(Refusal::EXCHANGE_NOT_CALLED_FOR),
             Slot::Busy(x) => x.seen(outline, t),
         }
     }
@@ -272,11 +233,11 @@ impl Slot {
     }
 
     // No line has begun up to t.
-    pub fn tick(self, t: Clock) -> Stepped
-        ensures { result ≡ shown_step (tick_on self t) }
+    pub fn tick(self, t: Clock) -> Result<Exchange, Refusal>
+        ensures { result ≡ shown (tick_on self t) }
     {
         match self {
-            Slot::Idle => Stepped::Refused(41),
+            Slot::Idle => Err(Refusal::EXCHANGE_NOT_CALLED_FOR),
             Slot::Busy(x) => x.tick(t),
         }
     }

@@ -8,10 +8,5 @@ use crate::State;
 pub fn has_ended(state: State) -> bool
     ensures { result ≡ ended state }
 {
-    match state {
-        State::Waiting => false,
-        State::Resend(_) => false,
-        State::Well => true,
-        State::Failed(_) => true,
-    }
+    matches!(state, State::Well | State::Failed(_))
 }

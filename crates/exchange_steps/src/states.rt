@@ -15,9 +15,7 @@ fn cause_of(outline: Outline) -> Cause
 {
     match outline {
         Outline::Refused(_) => Cause::Damaged,
-        Outline::Ack => Cause::WrongKind,
-        Outline::Asks(_) => Cause::WrongKind,
-        Outline::Data(_) => Cause::WrongKind,
+        Outline::Ack | Outline::Asks(_) | Outline::Data(_) => Cause::WrongKind,
     }
 }
 
@@ -25,8 +23,7 @@ fn cause_of(outline: Outline) -> Cause
 fn failed(sends: u8, cause: Cause) -> State
     ensures { result ≡ failed sends cause }
 {
-    let more = sends < MOST;
-    if more {
+    if sends < MOST {
         return State::Resend(cause);
     }
     State::Failed(cause)
@@ -39,8 +36,7 @@ pub fn after_line(request: Request, sends: u8, silent: bool, outline: Outline) -
     if silent {
         return failed(sends, Cause::Silent);
     }
-    let fitting = fits(request, outline);
-    if fitting {
+    if fits(request, outline) {
         return State::Well;
     }
     failed(sends, cause_of(outline))
@@ -60,22 +56,12 @@ pub fn after_tick(sends: u8, silent: bool) -> State
 pub fn waits(state: State) -> bool
     ensures { result ≡ waits state }
 {
-    match state {
-        State::Waiting => true,
-        State::Resend(_) => false,
-        State::Well => false,
-        State::Failed(_) => false,
-    }
+    matches!(state, State::Waiting)
 }
 
 // Whether a send is called for. No history asks for one after three; there it is refused by 41 as elsewhere.
 pub fn asks_resend(state: State, sends: u8) -> bool
     ensures { result ≡ asks_resend state sends }
 {
-    match state {
-        State::Waiting => false,
-        State::Resend(_) => sends < MOST,
-        State::Well => false,
-        State::Failed(_) => false,
-    }
+    matches!(state, State::Resend(_)) & (sends < MOST)
 }

@@ -7,8 +7,10 @@ ghost use Rattle.bench_clock.specs.Wakes.{wake_of, wake_line};
 ghost use Rattle.base_lent.specs.Lent.{told, done, Leaves};
 ghost use Rattle.host_bench.specs.Calls.{error_for};
 
-use bench_clock::{Clock, Gap, Wake, write_wake};
-use bench_indication::{Indication, error_of};
+use base_lent::handing::hand;
+use base_rules::Refusal;
+use bench_clock::{Clock, write_wake};
+use bench_indication::error_of;
 
 pub mod resistance;
 
@@ -16,10 +18,9 @@ pub mod resistance;
 pub fn skarrowith_write_wake(count: usize, out: &mut [u16]) -> u32
     ensures { Leaves done wake_line (wake_of count out.old) out.old out.new result }
 {
-    let wake = write_wake(count, out);
-    match wake {
-        Wake::Refused(n) => 256 + n as u32,
-        Wake::Written(_) => 0,
+    match write_wake(count, out) {
+        Ok(_) => 0,
+        Err(refused) => refused.told(),
     }
 }
 
@@ -27,11 +28,9 @@ pub fn skarrowith_write_wake(count: usize, out: &mut [u16]) -> u32
 pub fn skarrowith_gap(ended: u64, begins: u64) -> u32
     ensures { result ≡ told done (gap_of ended begins) }
 {
-    let wake = Clock(ended);
-    let gap = wake.gap(Clock(begins));
-    match gap {
-        Gap::Refused(n) => 256 + n as u32,
-        Gap::Fine => 0,
+    match Clock(ended).gap(Clock(begins)) {
+        Ok(()) => 0,
+        Err(refused) => refused.told(),
     }
 }
 
@@ -39,16 +38,8 @@ pub fn skarrowith_gap(ended: u64, begins: u64) -> u32
 pub fn skarrowith_error(m1: u64, m2: u64, s1: u64, s2: u64, tenths: &mut [i64]) -> u32
     ensures { Leaves done (λ e. e ∷ []) (error_for m1 m2 s1 s2 tenths.old) tenths.old tenths.new result }
 {
-    let short = tenths.len() < 1;
-    if short {
-        return 256 + 21;
+    if tenths.is_empty() {
+        return Refusal::TOO_FEW_PLACES.told();
     }
-    let indication = error_of(m1, m2, s1, s2);
-    match indication {
-        Indication::Refused(n) => 256 + n as u32,
-        Indication::Error(e) => {
-            tenths[0] = e;
-            0
-        }
-    }
+    hand(error_of(m1, m2, s1, s2), &mut tenths[0])
 }

@@ -2,30 +2,19 @@
 ghost use Rattle.bench_resistance.specs.Resistances.{resistance_of, temperature_of};
 ghost use Rattle.host_bench.specs.Resistances.{LeavesOne};
 
-use bench_resistance::{Resistance, Temperature, resistance_of, temperature_of};
+use base_lent::handing::hand;
+use bench_resistance::{resistance_of, temperature_of};
 
 // 0 and the resistance in milliohm for a temperature in hundredths of a degree, or 256 plus 90.
 pub fn skarrowith_resistance(hundredths: u32, milliohm: &mut u32) -> u32
     ensures { LeavesOne (resistance_of hundredths) milliohm.old milliohm.new result }
 {
-    match resistance_of(hundredths) {
-        Resistance::Milliohm(found) => {
-            *milliohm = found;
-            0
-        },
-        Resistance::Refused(number) => 256 + number as u32,
-    }
+    hand(resistance_of(hundredths), milliohm)
 }
 
 // 0 and the temperature in hundredths of a degree for a resistance in milliohm, or 256 plus 91.
 pub fn skarrowith_temperature(milliohm: u32, hundredths: &mut u32) -> u32
     ensures { LeavesOne (temperature_of milliohm) hundredths.old hundredths.new result }
 {
-    match temperature_of(milliohm) {
-        Temperature::Hundredths(found) => {
-            *hundredths = found;
-            0
-        },
-        Temperature::Refused(number) => 256 + number as u32,
-    }
+    hand(temperature_of(milliohm), hundredths)
 }

@@ -1,7 +1,5 @@
 -- What follows from the definitions, invariants of loops among it.
 pub mod Lent
-pub mod Bundled
 pub mod Rows
 pub mod Contents
 pub mod Salvaging
-pub mod Joining

@@ -4,8 +4,8 @@ use Rattle.base_rules.specs.Answers.{Answer, reads, refusal, follow}
 use Rattle.base_numbers.specs.Numbers.{bytes_of}
 use Rattle.base_lent.specs.Lent.{done, needs, Leaves}
 use Rattle.bundle_rows.specs.declared.Row.{Row}
-use Rattle.bundle_check.specs.declared.rows.RowFound.{RowFound}
-use Rattle.bundle_check.specs.declared.rows.RowFound.TheVariants.{Fields, Refused}
+use Rattle.std.specs.Prelude.{Result, Ok, Err}
+use Rattle.base_rules.specs.declared.refusals.Refusal.{Refusal}
 use Rattle.bundle_check.specs.Handing.{row_at}
 use Rattle.bundle_columns.specs.Lookups.{row_kept}
 use Rattle.bundle_columns.specs.Record.{columns_from}
@@ -15,9 +15,9 @@ abbrev pub row_record : Row → List ℕ
 row_record r = bytes_of 4 r.time ++ (bytes_of 4 r.offset ++ (bytes_of 2 r.length ++ (r.position ∷ (r.direction ∷ []))))
 
 -- what was found
-abbrev pub row_found : RowFound → Answer Row
-row_found (Fields r) = reads r
-row_found (Refused n) = refusal n
+abbrev pub row_found : Result Row Refusal → Answer Row
+row_found (Ok r) = reads r
+row_found (Err e) = refusal e.0
 
 -- 21 where there is no room for the record, before all others
 abbrev pub row_into : List ℕ → ℕ → List ℕ → Answer Row

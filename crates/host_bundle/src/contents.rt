@@ -7,17 +7,17 @@ ghost use Rattle.host_bundle.specs.Lent.{Gives};
 ghost use Rattle.host_bundle.specs.Rows.{kept_into, GivesRow};
 
 use crate::record::put_row;
-use bundle_check::Checked;
+use base_lent::handing::hand;
 use bundle_columns::making::columns_of;
-use bundle_columns::{NextFound, count_in, next, row};
+use bundle_columns::{count_in, next, row};
 
 // 0 and the record of the five lists, or 256 plus 21 or 30 to 37.
 pub fn skarrowith_contents_of(bundle: &[u8], contents: &mut [u8]) -> u32
     ensures { Leaves done columns_bytes (columns_into bundle.now contents.old) contents.old contents.new result }
 {
     match columns_of(bundle, contents) {
-        Checked::Rows(_) => 0,
-        Checked::Refused(number) => 256 + number as u32,
+        Ok(_) => 0,
+        Err(refused) => refused.told(),
     }
 }
 
@@ -26,11 +26,8 @@ pub fn skarrowith_contents_row(contents: &[u8], i: usize, out: &mut [u8]) -> u32
     ensures { GivesRow (kept_into contents.now i out.old) out.old result out.new }
 {
     match count_in(contents) {
-        Checked::Rows(_) => {
-            let found = row(contents, i);
-            put_row(found, out)
-        },
-        Checked::Refused(number) => 256 + number as u32,
+        Ok(_) => put_row(row(contents, i), out),
+        Err(refused) => refused.told(),
     }
 }
 
@@ -38,11 +35,5 @@ pub fn skarrowith_contents_row(contents: &[u8], i: usize, out: &mut [u8]) -> u32
 pub fn skarrowith_contents_next(contents: &[u8], position: u8, from: usize, i: &mut usize) -> u32
     ensures { Gives (next_kept contents.now position from) i.old result i.new }
 {
-    match next(contents, position, from) {
-        NextFound::At(place) => {
-            *i = place;
-            0
-        },
-        NextFound::Refused(number) => 256 + number as u32,
-    }
+    hand(next(contents, position, from), i)
 }

@@ -2,7 +2,7 @@
 ghost use Rattle.bundle_adding.specs.Adding.{new_record};
 ghost use Rattle.host_bundle.specs.Bundled.{InsertsIn};
 
-use bundle_adding::Added;
+use base_lent::handing::hand;
 use bundle_adding::inserting::insert;
 
 // 0, the row at its place in time and how many bytes the bundle then fills, or 256 plus 30 to 38.
@@ -17,11 +17,8 @@ pub fn skarrowith_bundle_insert(
     ensures { InsertsIn buffer.old filled.old (new_record position direction time body.now) result buffer.new
         filled.new }
 {
-    match insert(buffer, *filled, position, direction, time, body) {
-        Added::Filled(bytes) => {
-            *filled = bytes;
-            0
-        },
-        Added::Refused(number) => 256 + number as u32,
-    }
+    hand(
+        insert(buffer, *filled, position, direction, time, body),
+        filled,
+    )
 }

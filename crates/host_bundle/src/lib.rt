@@ -8,10 +8,11 @@ ghost use Rattle.host_bundle.specs.Rows.{row_into, GivesRow};
 ghost use Rattle.host_bundle.specs.Bundled.{AddsIn, ListsIn};
 
 use crate::record::put_row;
-use bundle_adding::{Added, add};
+use base_lent::handing::hand;
+use bundle_adding::add;
+use bundle_check::check;
 use bundle_check::rows::row;
-use bundle_check::{Checked, check};
-use run_listing::{Listed, list};
+use run_listing::list;
 
 pub mod contents;
 pub mod inserting;
@@ -23,21 +24,14 @@ pub mod salvaging;
 pub fn skarrowith_bundle_check(bundle: &[u8], rows: &mut usize) -> u32
     ensures { Gives (check_of bundle.now) rows.old result rows.new }
 {
-    match check(bundle) {
-        Checked::Rows(count) => {
-            *rows = count;
-            0
-        },
-        Checked::Refused(number) => 256 + number as u32,
-    }
+    hand(check(bundle), rows)
 }
 
 // 0 and the record of row i, or 256 plus 21, 30 to 37 or 39.
 pub fn skarrowith_bundle_row(bundle: &[u8], i: usize, out: &mut [u8]) -> u32
     ensures { GivesRow (row_into bundle.now i out.old) out.old result out.new }
 {
-    let found = row(bundle, i);
-    put_row(found, out)
+    put_row(row(bundle, i), out)
 }
 
 // 0, the row added and how many bytes the bundle then fills, or 256 plus 30 to 38.
@@ -52,24 +46,15 @@ pub fn skarrowith_bundle_add(
     ensures { AddsIn buffer.old filled.old (new_record position direction time body.now) result buffer.new
         filled.new }
 {
-    match add(buffer, *filled, position, direction, time, body) {
-        Added::Filled(bytes) => {
-            *filled = bytes;
-            0
-        },
-        Added::Refused(number) => 256 + number as u32,
-    }
+    hand(
+        add(buffer, *filled, position, direction, time, body),
+        filled,
+    )
 }
 
 // 0, the listing in the first places and how many bytes it has, or 256 plus 21.
 pub fn skarrowith_bundle_list(bundle: &[u8], out: &mut [u8], written: &mut usize) -> u32
     ensures { ListsIn bundle.now out.old written.old result out.new written.new }
 {
-    match list(bundle, out) {
-        Listed::Written(bytes) => {
-            *written = bytes;
-            0
-        },
-        Listed::Refused(number) => 256 + number as u32,
-    }
+    hand(list(bundle, out), written)
 }

@@ -5,7 +5,7 @@ ghost use Rattle.host_bundle.specs.Rows.{row_record, row_found, GivesRow};
 
 use base_lent::store;
 use base_numbers::bytes_of;
-use bundle_check::rows::RowFound;
+use base_rules::Refusal;
 use bundle_rows::Row;
 
 // The bytes of a row's record.
@@ -35,19 +35,17 @@ pub(crate) fn record_of(row: Row) -> [u8; ROW_BYTES]
 }
 
 // 0 and the record of a row that was found, or 256 plus 21 or the number that refuses it.
-pub(crate) fn put_row(found: RowFound, out: &mut [u8]) -> u32
+pub(crate) fn put_row(found: Result<Row, Refusal>, out: &mut [u8]) -> u32
     ensures { GivesRow (needs 12 out.old (row_found found)) out.old result out.new }
 {
-    let short = out.len() < ROW_BYTES;
-    if short {
-        return 256 + 21;
+    if out.len() < ROW_BYTES {
+        return Refusal::TOO_FEW_PLACES.told();
     }
     match found {
-        RowFound::Fields(fields) => {
-            let bytes = record_of(fields);
-            store(&bytes, out);
+        Ok(row) => {
+            store(&record_of(row), out);
             0
         },
-        RowFound::Refused(number) => 256 + number as u32,
+        Err(refused) => refused.told(),
     }
 }

@@ -5,6 +5,7 @@ ghost use Rattle.std.specs.Prelude.{◌≡◌};
 ghost use Rattle.mbus_rules.specs.Host.{host_number};
 ghost use Rattle.host_check.specs.Numbers.{outline_number};
 
+use base_rules::Refusal;
 use mbus_reading::pairs::outline_of;
 use mbus_rules::{Outline, Request};
 
@@ -13,13 +14,11 @@ fn number_of(outline: Outline) -> u32
     ensures { result ≡ outline_number outline }
 {
     match outline {
-        Outline::Refused(n) => 256 + n as u32,
+        Outline::Refused(n) => Refusal(n).told(),
         Outline::Ack => 1,
-        Outline::Asks(request) => match request {
-            Request::Read(_) => 2,
-            Request::Enter(_, _) => 3,
-            Request::Leave(_) => 4,
-        },
+        Outline::Asks(Request::Read(_)) => 2,
+        Outline::Asks(Request::Enter(_, _)) => 3,
+        Outline::Asks(Request::Leave(_)) => 4,
         Outline::Data(_) => 5,
     }
 }
@@ -29,8 +28,7 @@ pub fn skarrowith_check_line(bytes: &[u8]) -> u32
     ensures { result ≡ host_number bytes.now }
 {
     if bytes.len() % 2 == 1 {
-        return 256 + 17;
+        return Refusal::ODD_BYTES.told();
     }
-    let outline = outline_of(bytes);
-    number_of(outline)
+    number_of(outline_of(bytes))
 }

@@ -7,11 +7,11 @@ ghost use Rattle.cjt_rules.specs.CjtWriting.{write_cjt_line};
 ghost use Rattle.mbus_records.specs.Telegrams.{entry_bytes};
 ghost use Rattle.host_cjt.specs.CjtCalls.{write_cjt_for, entry_cjt_for};
 
-use base_characters::carrying::Written;
 use base_lent::lay;
-use cjt_energy::{Converted, entry_for};
+use base_rules::Refusal;
+use cjt_energy::entry_for;
 use cjt_records::cjt_from;
-use cjt_rules::{CjtReading, CjtTelegram};
+use cjt_rules::CjtTelegram;
 use cjt_writing::write_line;
 use mbus_records::telegrams::entry_bytes;
 
@@ -24,10 +24,9 @@ const ENTRY: usize = 16;
 fn write(telegram: CjtTelegram, out: &mut [u16]) -> u32
     ensures { Leaves length (λ line. line) (write_cjt_line telegram (length out.old)) out.old out.new result }
 {
-    let written = write_line(telegram, out);
-    match written {
-        Written::Refused(n) => 256 + n as u32,
-        Written::Length(n) => n as u32,
+    match write_line(telegram, out) {
+        Ok(length) => length as u32,
+        Err(refused) => refused.told(),
     }
 }
 
@@ -36,8 +35,8 @@ pub fn skarrowith_cjt_write_line(telegram: &[u8], out: &mut [u16]) -> u32
     ensures { Leaves length (λ line. line) (write_cjt_for telegram.now out.old) out.old out.new result }
 {
     match cjt_from(telegram) {
-        CjtReading::Refused(n) => 256 + n as u32,
-        CjtReading::Read(read) => write(read, out),
+        Err(no_record) => no_record.told(),
+        Ok(read) => write(read, out),
     }
 }
 
@@ -47,11 +46,11 @@ pub fn skarrowith_cjt_energy_entry(count: u32, code: u8, place: &mut [u8]) -> u3
 {
     let short = place.len() < ENTRY;
     if short {
-        return 256 + 21;
+        return Refusal::TOO_FEW_PLACES.told();
     }
     match entry_for(count, code) {
-        Converted::Refused(n) => 256 + n as u32,
-        Converted::To(entry) => {
+        Err(no_entry) => no_entry.told(),
+        Ok(entry) => {
             let bytes = entry_bytes(entry);
             lay(place, 0, &bytes);
             0

@@ -6,10 +6,11 @@ ghost use Rattle.cjt_records.specs.CjtRecords.{cjt_bytes};
 ghost use Rattle.host_cjt.specs.CjtCalls.{read_cjt_for};
 
 use base_lent::store;
+use base_rules::Refusal;
 use cjt_reading::pairs::outline_of;
 use cjt_reading::read_line;
 use cjt_records::cjt_bytes;
-use cjt_rules::{CjtOutline, CjtReading, CjtTelegram};
+use cjt_rules::{CjtKind, CjtTelegram};
 
 // The host's number of a telegram.
 fn kind_number(telegram: CjtTelegram) -> u32
@@ -26,12 +27,14 @@ pub fn skarrowith_cjt_check_line(bytes: &[u8]) -> u32
     ensures { result ≡ cjt_host_number bytes.now }
 {
     if bytes.len() % 2 == 1 {
-        return 256 + 17;
+        return Refusal::ODD_BYTES.told();
     }
     match outline_of(bytes) {
-        CjtOutline::Refused(n) => 256 + n as u32,
-        CjtOutline::Request => 1,
-        CjtOutline::Answer => 2,
+        Err(no_line) => no_line.told(),
+        Ok(kind) => match kind {
+            CjtKind::Request => 1,
+            CjtKind::Answer => 2,
+        },
     }
 }
 
@@ -40,12 +43,12 @@ pub fn skarrowith_cjt_read_line(line: &[u16], telegram: &mut [u8]) -> u32
     ensures { Leaves cjt_kind_number cjt_bytes (read_cjt_for line.now telegram.old) telegram.old telegram.new result }
 {
     match read_line(line) {
-        CjtReading::Refused(n) => 256 + n as u32,
-        CjtReading::Read(read) => {
+        Err(refused) => refused.told(),
+        Ok(read) => {
             let bytes = cjt_bytes(read);
             let short = store(&bytes, telegram);
             if short {
-                return 256 + 21;
+                return Refusal::TOO_FEW_PLACES.told();
             }
             kind_number(read)
         }

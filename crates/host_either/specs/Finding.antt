@@ -3,7 +3,8 @@ use Rattle.std.specs.Prelude.{ℕ, List}
 use Rattle.base_rules.specs.Answers.{Answer}
 use Rattle.mbus_either.specs.declared.Interface.{Interface}
 use Rattle.mbus_either.specs.declared.Interface.TheVariants.{Mbus, Optical}
-use Rattle.mbus_either.specs.Interfaces.{LiveLine, find_either}
+use Rattle.mbus_either.specs.declared.LiveLine.{LiveLine}
+use Rattle.mbus_either.specs.Interfaces.{find_either}
 use Rattle.base_lent.specs.Lent.{placed, Leaves}
 use Rattle.host_search.specs.Finding.{spot_bytes}
 

@@ -3,26 +3,22 @@
 
 ghost use Rattle.host_either.specs.Finding.{FindsEither};
 
+use base_rules::Refusal;
 use host_search::put_spot;
-use mbus_either::{EitherFound, Interface, either_at};
+use mbus_either::{Interface, either_at};
 
 // Which capture has an accepted line, M-Bus before optical, with the place and the length of the first one in it.
 pub fn skarrowith_find_either<'a>(mbus: &'a [u16], optical: &'a [u16], found: &mut [u8]) -> u32
     ensures { FindsEither mbus.now optical.now found.old found.new result }
 {
-    let search = either_at(mbus, optical);
-    match search {
-        EitherFound::Refused(n) => 256 + n as u32,
-        EitherFound::At {
-            interface,
-            place,
-            length,
-        } => {
-            let short = put_spot(found, place, length);
+    match either_at(mbus, optical) {
+        Err(refused) => refused.told(),
+        Ok(line) => {
+            let short = put_spot(found, line.spot);
             if short {
-                return 256 + 21;
+                return Refusal::TOO_FEW_PLACES.told();
             }
-            match interface {
+            match line.interface {
                 Interface::Mbus => 1,
                 Interface::Optical => 2,
             }

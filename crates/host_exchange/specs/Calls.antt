@@ -1,11 +1,10 @@
 -- 01, "The exchange", and 02, 2026-09, as C calls them: what the three steps answer, and what they leave in the records lent to them.
-use Rattle.std.specs.Prelude.{ℕ, cond, List, [], ◌∷◌, ◌≡◌}
+use Rattle.std.specs.Prelude.{ℕ, cond, List, [], ◌∷◌, ◌≡◌, Result, Ok, Err}
 use Rattle.mbus_rules.specs.declared.Telegram.{Telegram}
 use Rattle.base_rules.specs.Answers.{Answer, reads, refusal, follow}
+use Rattle.base_rules.specs.declared.refusals.Refusal.{Refusal}
 use Rattle.mbus_rules.specs.Telegrams.{bare}
 use Rattle.exchange_steps.specs.declared.Exchange.{Exchange}
-use Rattle.exchange_steps.specs.declared.Stepped.{Stepped}
-use Rattle.exchange_steps.specs.declared.Stepped.TheVariants.{To, Refused}
 use Rattle.exchange_steps.specs.Steps.{is_well}
 use Rattle.exchange_steps.specs.Histories.{Step, send_ended, heard, tick, answer}
 use Rattle.base_lent.specs.Lent.{Leaves, stored, needs}
@@ -51,6 +50,6 @@ record_after b [] = b
 record_after b (s ∷ h) = record_after (stored exchange_bytes b (step_for b s)) h
 
 -- the answer that a program's case shows
-abbrev pub answer_of : Stepped → Answer Exchange
-answer_of (Refused n) = refusal n
-answer_of (To x) = reads x
+abbrev pub answer_of : Result Exchange Refusal → Answer Exchange
+answer_of (Err e) = refusal e.0
+answer_of (Ok x) = reads x

@@ -3,7 +3,8 @@ use Rattle.std.specs.Prelude.{ℕ, ◌+◌, List, [], ◌∷◌, ◌≡◌}
 use Rattle.base_rules.specs.Answers.{Answer}
 use Rattle.mbus_length.specs.declared.HowLong.{HowLong}
 use Rattle.mbus_length.specs.declared.HowLong.TheVariants.{Known, NotYet, NoLine}
-use Rattle.mbus_after.specs.After.{TimedSpot, find_after}
+use Rattle.mbus_after.specs.declared.TimedSpot.{TimedSpot}
+use Rattle.mbus_after.specs.After.{find_after}
 use Rattle.base_numbers.specs.Records.{words_of}
 use Rattle.base_lent.specs.Lent.{done, placed, Leaves}
 

@@ -5,11 +5,11 @@ ghost use Rattle.std.specs.Prelude.{◌≡◌, ltb};
 ghost use Rattle.std.proofs.Math.ListN;
 ghost use Rattle.base_lent.specs.Copying.{copied};
 ghost use Rattle.mbus_length.specs.Lengths.{line_length};
-ghost use Rattle.mbus_after.specs.After.{timed_at};
 ghost use Rattle.host_incoming.specs.Calls.{TellsLength, timed_bytes, FindsAfter};
 
 use base_numbers::put_record;
-use mbus_after::{FoundAfter, find_line_after};
+use base_rules::Refusal;
+use mbus_after::{TimedSpot, find_line_after};
 use mbus_length::{HowLong, line_length};
 
 pub mod unmarking;
@@ -24,17 +24,17 @@ pub fn skarrowith_line_length(first: &[u16], length: &mut usize) -> u32
             0
         },
         HowLong::NotYet => 1,
-        HowLong::NoLine => 256 + 18,
+        HowLong::NoLine => Refusal::NO_LINE.told(),
     }
 }
 
 // Place, length and time in the first 24 bytes, and whether there are fewer; then nothing is changed.
-fn put_timed(found: &mut [u8], place: usize, length: usize, time: u64) -> bool
+fn put_timed(found: &mut [u8], line: TimedSpot) -> bool
     ensures { (result ≡ ltb (ListN.length found.old) 24)
-        × (found.new ≡ copied found.old 0 (timed_bytes (timed_at place length time))) }
+        × (found.new ≡ copied found.old 0 (timed_bytes line)) }
 {
     let short = found.len() < 24;
-    let words = [place as u64, length as u64, time];
+    let words = [line.spot.place as u64, line.spot.length as u64, line.time];
     put_record(found, b"", &words, b"");
     short
 }
@@ -43,16 +43,15 @@ fn put_timed(found: &mut [u8], place: usize, length: usize, time: u64) -> bool
 pub fn skarrowith_find_line_after(capture: &[u16], times: &[u64], t: u64, found: &mut [u8]) -> u32
     ensures { FindsAfter t capture.now times.now found.old found.new result }
 {
-    let search = find_line_after(capture, times, t);
-    match search {
-        FoundAfter::Refused(n) => 256 + n as u32,
-        FoundAfter::At {
-            place,
-            length,
-            time,
-        } => {
-            let short = put_timed(found, place, length, time);
-            if short { 256 + 21 } else { 0 }
+    match find_line_after(capture, times, t) {
+        Err(refused) => refused.told(),
+        Ok(line) => {
+            let short = put_timed(found, line);
+            if short {
+                Refusal::TOO_FEW_PLACES.told()
+            } else {
+                0
+            }
         }
     }
 }

@@ -7,33 +7,28 @@ ghost use Rattle.base_lent.specs.Lent.{Leaves};
 ghost use Rattle.mbus_records.specs.Telegrams.{telegram_bytes};
 ghost use Rattle.host_lines.specs.Calls.{read_for, kind_of, write_for, request_for};
 
-use base_characters::carrying::Written;
 use base_lent::store;
-use base_rules::Outcome;
+use base_rules::Refusal;
 use mbus_reading::read_line;
 use mbus_records::telegrams::{telegram_bytes, telegram_from};
 use mbus_rules::Telegram;
+use mbus_telegrams::bare;
 use mbus_telegrams::kinds::{kind_in, kind_number};
-use mbus_telegrams::plain;
 use mbus_writing::write_line;
 
 // Reads a line into a telegram's record, and answers its kind.
 pub fn skarrowith_read_line(line: &[u16], telegram: &mut [u8]) -> u32
     ensures { Leaves kind_of telegram_bytes (read_for line.now telegram.old) telegram.old telegram.new result }
 {
-    let reading = read_line(line);
-    let outcome = reading.outcome;
-    let read = reading.telegram;
-    match outcome {
-        Outcome::Refused(n) => 256 + n as u32,
-        Outcome::Accepted => {
+    match read_line(line) {
+        Err(unread) => unread.told(),
+        Ok(read) => {
             let bytes = telegram_bytes(read);
             let short = store(&bytes, telegram);
             if short {
-                return 256 + 21;
+                return Refusal::TOO_FEW_PLACES.told();
             }
-            let kind = read.kind;
-            kind_number(kind) as u32
+            kind_number(read.kind) as u32
         }
     }
 }
@@ -42,10 +37,9 @@ pub fn skarrowith_read_line(line: &[u16], telegram: &mut [u8]) -> u32
 fn write(telegram: Telegram, out: &mut [u16]) -> u32
     ensures { Leaves length (λ line. line) (write_line telegram (length out.old)) out.old out.new result }
 {
-    let written = write_line(telegram, out);
-    match written {
-        Written::Refused(n) => 256 + n as u32,
-        Written::Length(n) => n as u32,
+    match write_line(telegram, out) {
+        Ok(length) => length as u32,
+        Err(refused) => refused.told(),
     }
 }
 
@@ -53,12 +47,9 @@ fn write(telegram: Telegram, out: &mut [u16]) -> u32
 pub fn skarrowith_write_line(telegram: &[u8], out: &mut [u16]) -> u32
     ensures { Leaves length (λ line. line) (write_for telegram.now out.old) out.old out.new result }
 {
-    let reading = telegram_from(telegram);
-    let outcome = reading.outcome;
-    let read = reading.telegram;
-    match outcome {
-        Outcome::Refused(n) => 256 + n as u32,
-        Outcome::Accepted => write(read, out),
+    match telegram_from(telegram) {
+        Err(no_record) => no_record.told(),
+        Ok(read) => write(read, out),
     }
 }
 
@@ -67,7 +58,6 @@ pub fn skarrowith_write_request(kind: u8, address: u8, method: u8, out: &mut [u1
     ensures { Leaves length (λ line. line) (request_for kind address method out.old) out.old out.new result }
 {
     let kind = kind_in(kind);
-    let request = plain(kind, address, method);
-    let telegram = request.telegram;
-    write(telegram, out)
+    let request = bare(kind, address, method);
+    write(request, out)
 }

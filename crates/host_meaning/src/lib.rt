@@ -10,6 +10,7 @@ ghost use Rattle.mbus_rules.specs.Quantities.{row_of, power_of};
 ghost use Rattle.host_meaning.specs.Meanings.{meaning_bytes, meaning_for};
 
 use base_lent::store;
+use base_rules::Refusal;
 use mbus_rules::UnitRow;
 use mbus_telegrams::table::{UNKNOWN, row_of};
 
@@ -20,10 +21,7 @@ pub mod words;
 fn less(n: u8, by: u8) -> u8
     ensures { binary_bytes 1 (sub_ℕ n by) ≡ result ∷ [] }
 {
-    if n < by {
-        return 255 - (by - n - 1);
-    }
-    n - by
+    n.wrapping_sub(by)
 }
 
 // The power of ten as a byte in two's complement: what the unit byte leaves by the one number of its row, less the other.
@@ -31,7 +29,7 @@ fn power_byte(unit: u8, row: UnitRow) -> u8
     requires { row ≡ row_of unit }
     ensures { binary_bytes 1 (power_of unit) ≡ result ∷ [] }
 {
-    less(unit % row.4, row.5)
+    less(unit % row.divisor, row.less)
 }
 
 // The record of what a unit byte means: 0, or 256 plus 11 where the table has no such byte, or plus 21.
@@ -39,13 +37,13 @@ pub fn skarrowith_entry_meaning(unit: u8, meaning: &mut [u8]) -> u32
     ensures { Leaves done meaning_bytes (meaning_for unit meaning.old) meaning.old meaning.new result }
 {
     let row = row_of(unit);
-    let quantity = row.2;
-    let none = quantity == UNKNOWN;
-    if none {
-        return 256 + 11;
+    if row.quantity == UNKNOWN {
+        return Refusal::WRONG_ENTRY.told();
     }
     let power = power_byte(unit, row);
-    let bytes = [quantity, row.3, power, 0];
-    let short = store(&bytes, meaning);
-    if short { 256 + 21 } else { 0 }
+    let bytes = [row.quantity, row.unit, power, 0];
+    if store(&bytes, meaning) {
+        return Refusal::TOO_FEW_PLACES.told();
+    }
+    0
 }

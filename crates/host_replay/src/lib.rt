@@ -5,7 +5,9 @@ ghost use Rattle.std.specs.Prelude.{[], ◌∷◌};
 ghost use Rattle.base_lent.specs.Lent.{done, Leaves};
 ghost use Rattle.host_replay.specs.Calls.{replay_for};
 
-use run_replay::{Replayed, replay};
+use base_lent::handing::hand;
+use base_rules::Refusal;
+use run_replay::replay;
 
 // The error by C.1 in tenths of a percent.
 pub fn skarrowith_replay_error(
@@ -19,15 +21,9 @@ pub fn skarrowith_replay_error(
     ensures { Leaves done (λ e. e ∷ []) (replay_for bundle.now position s1 s2 elapsed tenths.old) tenths.old
         tenths.new result }
 {
-    let short = tenths.len() < 1;
-    if short {
-        return 256 + 21;
+    if tenths.is_empty() {
+        return Refusal::TOO_FEW_PLACES.told();
     }
-    match replay(bundle, position, s1, s2, elapsed) {
-        Replayed::Error(_, _, error) => {
-            tenths[0] = error;
-            0
-        },
-        Replayed::Refused(n) => 256 + n as u32,
-    }
+    let error = replay(bundle, position, s1, s2, elapsed).map(|replayed| replayed.tenths);
+    hand(error, &mut tenths[0])
 }

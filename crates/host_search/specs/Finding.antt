@@ -1,7 +1,8 @@
 -- Search for C: what it answers, and what it leaves.
-use Rattle.std.specs.Prelude.{ℕ, List, [], ◌∷◌, length}
+use Rattle.std.specs.Prelude.{ℕ, List, [], ◌∷◌}
 use Rattle.base_rules.specs.Answers.{Answer}
-use Rattle.mbus_search.specs.Searching.{Spot, find_in}
+use Rattle.mbus_search.specs.declared.Spot.{Spot}
+use Rattle.mbus_search.specs.Searching.{find_in}
 use Rattle.base_numbers.specs.Records.{words_of}
 use Rattle.base_lent.specs.Lent.{done, placed, Leaves}
 

@@ -1,2 +1,1 @@
--- Laws that belong to no one function: Laws.
-pub mod Laws
+-- What the functions' proofs have in common: nothing.

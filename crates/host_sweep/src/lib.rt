@@ -3,17 +3,12 @@
 
 ghost use Rattle.host_sweep.specs.Sweeping.{SweepsIn};
 
-use bundle_sweep::{Swept, sweep};
+use base_lent::handing::hand;
+use bundle_sweep::sweep;
 
 // 0, the rows removed and how many bytes the bundle then fills, or 256 plus 30 to 37.
 pub fn skarrowith_bundle_sweep(buffer: &mut [u8], filled: &mut usize, position: u8) -> u32
     ensures { SweepsIn buffer.old filled.old position result buffer.new filled.new }
 {
-    match sweep(buffer, *filled, position) {
-        Swept::Filled(bytes) => {
-            *filled = bytes;
-            0
-        },
-        Swept::Refused(number) => 256 + number as u32,
-    }
+    hand(sweep(buffer, *filled, position), filled)
 }

@@ -1,8 +1,7 @@
 -- The verdicts for C: what is answered there, and what is left in memory that was lent.
-use Rattle.std.specs.Prelude.{ℕ, ◌*◌, ◌≤◌, List, map, ◌≡◌, leb, length, get_or, take}
+use Rattle.std.specs.Prelude.{ℕ, ◌*◌, ◌≤◌, List, ◌≡◌, leb, length, get_or, take, Result, Ok, Err}
 use Rattle.base_rules.specs.Answers.{Answer, reads, refusal, refuse, within, follow}
-use Rattle.base_rules.specs.declared.Outcome.{Outcome}
-use Rattle.base_rules.specs.declared.Outcome.TheVariants.{Accepted, Refused}
+use Rattle.base_rules.specs.declared.refusals.Refusal.{Refusal}
 use Rattle.base_lent.specs.Copying.{laid}
 use Rattle.base_lent.specs.Lent.{done, needs, Leaves}
 use Rattle.base_lent.specs.Pieces.{pieces}
@@ -10,10 +9,7 @@ use Rattle.bundle_rows.specs.Rows.{most_rows}
 use Rattle.host_bundle.specs.Lent.{left_in}
 use Rattle.run_verdicts.specs.declared.Verdict.{Verdict}
 use Rattle.run_verdicts.specs.declared.Verdict.TheVariants.{Unasked}
-use Rattle.run_verdicts.specs.declared.Ruling.{Ruling}
 use Rattle.run_verdicts.specs.declared.Verdicts.{Verdicts}
-use Rattle.host_verdicts.specs.declared.VerdictFound.{VerdictFound}
-use Rattle.host_verdicts.specs.declared.VerdictFound.TheVariants as found
 use Rattle.host_verdicts.specs.Records.{verdict_record}
 
 -- ---- what is answered
@@ -45,25 +41,21 @@ GivesVerdict a out r out' = Leaves done verdict_record a out out' r
 -- ---- what the walk's answer says
 
 -- the verdicts in the first so many places
-abbrev pub verdicts_among : List Ruling → ℕ → List Verdict
-verdicts_among rulings n = map (λ r. r.verdict) (take n rulings)
+abbrev pub verdicts_among : List Verdict → ℕ → List Verdict
+verdicts_among verdicts n = take n verdicts
 
-abbrev pub answer_by : Outcome → List Verdict → Answer (List Verdict)
-answer_by Accepted verdicts = reads verdicts
-answer_by (Refused n) verdicts = refusal n
-
-abbrev pub answer_shown : Verdicts → Answer (List Verdict)
-answer_shown all = answer_by all.outcome (verdicts_among all.rulings all.count)
+abbrev pub answer_shown : Result Verdicts Refusal → Answer (List Verdict)
+answer_shown (Ok all) = reads (verdicts_among all.verdicts all.count)
+answer_shown (Err e) = refusal e.0
 
 -- What the walk's answer always is: no more verdicts than rows of a bundle, and a place for each row.
-pub record InFull (all : Verdicts) : Type 0 where
+pub record Full (all : Verdicts) : Type 0 where
   pub few : all.count ≤ most_rows
-  pub whole : length all.rulings ≡ most_rows
+  pub whole : length all.verdicts ≡ most_rows
 
--- the code's case for each answer
-abbrev pub verdict_found : Answer Verdict → VerdictFound
-verdict_found (reads v) = found.Is v
-verdict_found (refusal n) = found.Refused n
+abbrev pub InFull : Result Verdicts Refusal → Type 0
+InFull (Ok all) = Full all
+InFull (Err e) = Unit {0}
 
 -- what the records leave in the places
 abbrev pub PutsVerdicts : List Verdict → List ℕ → List ℕ → Type 0

@@ -2,82 +2,69 @@
 #![tactic(auto)]
 
 ghost use Rattle.std.specs.Prelude.{◌≡◌, ◌≤◌, ◌*◌, length};
+ghost use Rattle.base_rules.specs.Shown.{shown};
 ghost use Rattle.bundle_rows.specs.Rows.{most_rows};
 ghost use Rattle.run_verdicts.specs.Answering.{verdicts_in, verdicts_kept};
-ghost use Rattle.host_verdicts.specs.Told.{verdicts_among, answer_shown, verdict_in, verdicts_into, verdict_into, verdict_found, InFull, PutsVerdicts};
+ghost use Rattle.host_verdicts.specs.Told.{verdicts_among, answer_shown, verdict_in, verdicts_into, verdict_into, InFull, PutsVerdicts};
 ghost use Rattle.host_verdicts.specs.Told.{GivesVerdicts, GivesVerdict};
 
 use base_lent::{lay, store};
-use base_rules::Outcome;
+use base_rules::Refusal;
 use bundle_rows::MOST_ROWS;
 use record::{VERDICT_BYTES, record_of};
 use run_verdicts::kept::verdicts_kept;
-use run_verdicts::{Ruling, Verdict, Verdicts, verdicts_in};
+use run_verdicts::{Verdict, Verdicts, verdicts_in};
 
 mod record;
 pub mod repeats;
 
-// The verdict of a row, or refused by 30 to 37 or 39.
-#[derive(Clone, Copy)]
-pub(crate) enum VerdictFound {
-    Is(Verdict),
-    Refused(u16),
-}
-
 // The records of so many verdicts, one behind the other.
-fn put_records(rulings: [Ruling; MOST_ROWS], count: usize, out: &mut [u8])
+fn put_records(verdicts: [Verdict; MOST_ROWS], count: usize, out: &mut [u8])
     requires { (count ≤ most_rows) × (4 * count ≤ length out.old) }
-    ensures { PutsVerdicts (verdicts_among rulings count) out.old out.new }
+    ensures { PutsVerdicts (verdicts_among verdicts count) out.old out.new }
 {
     for i in 0..count {
-        let ruling = rulings[i];
-        let verdict = ruling.verdict;
-        let bytes = record_of(verdict);
+        let bytes = record_of(verdicts[i]);
         lay(out, 4 * i, &bytes);
     }
 }
 
 // The records of all verdicts in the first places, and how many there are, where there is room for them.
-fn give(all: Verdicts, out: &mut [u8], count: &mut usize) -> u32
-    requires { InFull all }
-    ensures { GivesVerdicts (verdicts_into (answer_shown all) out.old) out.old count.old result out.new
+fn give(judged: Result<Verdicts, Refusal>, out: &mut [u8], count: &mut usize) -> u32
+    requires { InFull judged }
+    ensures { GivesVerdicts (verdicts_into (answer_shown judged) out.old) out.old count.old result out.new
         count.new }
 {
-    let outcome = all.outcome;
-    match outcome {
-        Outcome::Accepted => {
+    match judged {
+        Ok(all) => {
             let rows = all.count;
             let short = out.len() < VERDICT_BYTES * rows;
             if short {
-                return 256 + 21;
+                return Refusal::TOO_FEW_PLACES.told();
             }
-            let rulings = all.rulings;
-            put_records(rulings, rows, out);
+            put_records(all.verdicts, rows, out);
             *count = rows;
             0
         },
-        Outcome::Refused(number) => 256 + number as u32,
+        Err(unjudged) => unjudged.told(),
     }
 }
 
-// The verdict at a place, where there is one.
-fn found(all: Verdicts, i: usize) -> VerdictFound
-    requires { InFull all }
-    ensures { result ≡ verdict_found (verdict_in (answer_shown all) i) }
+// The verdict at a place, where there is one; else refused by 30 to 37 or 39.
+fn found(judged: Result<Verdicts, Refusal>, i: usize) -> Result<Verdict, Refusal>
+    requires { InFull judged }
+    ensures { result ≡ shown (verdict_in (answer_shown judged) i) }
 {
-    let outcome = all.outcome;
-    match outcome {
-        Outcome::Accepted => {
+    match judged {
+        Ok(all) => {
             let none = all.count <= i;
             if none {
-                return VerdictFound::Refused(39);
+                return Err(Refusal::BUNDLE_NO_SUCH_ROW);
             }
-            let rulings = all.rulings;
-            let ruling = rulings[i];
-            let verdict = ruling.verdict;
-            VerdictFound::Is(verdict)
+            let verdicts = all.verdicts;
+            Ok(verdicts[i])
         },
-        Outcome::Refused(number) => VerdictFound::Refused(number),
+        Err(unjudged) => Err(unjudged),
     }
 }
 
@@ -90,12 +77,12 @@ pub fn skarrowith_verdict(bundle: &[u8], i: usize, verdict: &mut [u8]) -> u32
         return 256 + 21;
     }
     match found(verdicts_in(bundle), i) {
-        VerdictFound::Is(v) => {
+        Ok(v) => {
             let bytes = record_of(v);
             store(&bytes, verdict);
             0
         },
-        VerdictFound::Refused(number) => 256 + number as u32,
+        Err(refused) => refused.told(),
     }
 }
 

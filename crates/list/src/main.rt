@@ -3,7 +3,6 @@
 
 ghost use Rattle.std.specs.Prelude.{◌≤◌, IfOk, length};
 
-use run_listing::Listed;
 use std::io;
 use std::io::Read;
 use std::prelude::Print;
@@ -37,7 +36,7 @@ fn main(rt: HostRuntime) -> io::Result<()> {
     let mut text = [0u8; 15_901];
     let n = read_full(&mut rt.stdin(), &mut input)?;
     match run_listing::list(&input[..n], &mut text) {
-        Listed::Written(size) => print(rt.stdout(), &text, size),
-        Listed::Refused(_) => Ok(()),
+        Ok(size) => print(rt.stdout(), &text, size),
+        Err(_) => Ok(()),
     }
 }

@@ -3,9 +3,9 @@
 use Rattle.std.specs.Prelude.{ℕ, ◌+◌, ◌≤◌, ◌<◌, Bool, cond, ◌&&◌, List, [], ◌∷◌, ltb, leb, length, drop}
 use Rattle.base_rules.specs.Answers.{Answer, reads, refusal}
 use Rattle.base_rules.specs.Lists.{at}
-use Rattle.mbus_search.specs.Searching.{Begins, Spot, length_here, find_in, moved_by}
-use Rattle.mbus_after.specs.declared.FoundAfter.{FoundAfter}
-use Rattle.mbus_after.specs.declared.FoundAfter.TheVariants.{At, Refused}
+use Rattle.mbus_search.specs.declared.Spot.{Spot}
+use Rattle.mbus_search.specs.Searching.{Begins, length_here, find_in, moved_by}
+use Rattle.mbus_after.specs.declared.TimedSpot.{TimedSpot}
 
 -- an accepted line begins at the place, with the length, and its first character began at or after t
 pub record BeginsAfter (t : ℕ) (s times : List ℕ) (place n : ℕ) : Type 0 where
@@ -14,10 +14,6 @@ pub record BeginsAfter (t : ℕ) (s times : List ℕ) (place n : ℕ) : Type 0 w
   pub since : t ≤ at times place
 
 -- where a line was found, and when it began
-pub record TimedSpot : Type 0 where
-  pub spot : Spot
-  pub time : ℕ
-
 abbrev pub timed_at : ℕ → ℕ → ℕ → TimedSpot
 timed_at place n time = record { spot = record { place = place; length = n }; time = time }
 
@@ -36,11 +32,6 @@ find_after t [] times = refusal 18
 find_after t (c ∷ s) [] = refusal 18
 find_after t (c ∷ s) (time ∷ times) =
     or_later (cond (leb t time) (length_here (c ∷ s)) (refusal 18)) time (moved_timed 1 (find_after t s times))
-
--- The program's answer: place, length and time, or the number.
-abbrev pub after_shown : Answer TimedSpot → FoundAfter
-after_shown (refusal n) = Refused n
-after_shown (reads p) = At p.spot.place p.spot.length p.time
 
 -- ---- the steps of the search
 

@@ -14,8 +14,8 @@ use std::io::Read;
 
 fn take(line: Line, to: io::Stdout, bytes: &[u8], words: &mut [u16; 4096]) -> io::Result<Line> {
     let mut longer = line;
-    for i in 0..bytes.len() {
-        longer = longer.with(to, bytes[i], words)?;
+    for b in bytes {
+        longer = longer.with(to, *b, words)?;
     }
     Ok(longer)
 }

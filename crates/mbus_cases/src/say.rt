@@ -1,7 +1,6 @@
 // Answers, written to standard output word by word.
-use base_numbers::signed::{is_below_zero, size_of};
-use base_rules::Outcome;
-use mbus_rules::{Entry, Header, Kind, Moment, Reading, Telegram, Value};
+use base_rules::Refusal;
+use mbus_rules::{Entry, Header, Kind, Moment, Telegram, Value};
 use std::io;
 use std::prelude::Print;
 
@@ -17,7 +16,7 @@ pub(crate) fn say_one(to: io::Stdout, b: u8) -> io::Result<()> {
 // A hexadecimal digit, of a number's last four bits.
 fn digit(n: u8) -> u8 {
     let d = n % 16;
-    if d < 10 { 48 + d } else { 55 + d }
+    if d < 10 { b'0' + d } else { b'A' - 10 + d }
 }
 
 // Two hexadecimal digits behind a space.
@@ -27,8 +26,7 @@ fn say_byte(to: io::Stdout, b: u8) -> io::Result<()> {
 }
 
 fn say_maker(to: io::Stdout, n: u16) -> io::Result<()> {
-    let high = (n / 256) as u8;
-    let low = (n % 256) as u8;
+    let [low, high] = n.to_le_bytes();
     say_byte(to, high)?;
     let text = [digit(low / 16), digit(low)];
     say(to, &text)
@@ -42,34 +40,29 @@ fn say_decimal(to: io::Stdout, n: u64) -> io::Result<()> {
 
 // The same for a number that may be below zero.
 fn say_signed(to: io::Stdout, n: i64) -> io::Result<()> {
-    let size = size_of(n);
-    let below = is_below_zero(n);
-    if below {
+    if n < 0 {
         say(to, b" -")?;
     } else {
         say(to, b" +")?;
     }
-    to.print(size)
+    to.print(n.unsigned_abs())
 }
 
-fn say_refusal(to: io::Stdout, n: u16) -> io::Result<()> {
+fn say_refusal(to: io::Stdout, refused: Refusal) -> io::Result<()> {
     say(to, b"refused ")?;
-    to.print(n)
+    to.print(refused.0)
 }
 
-pub(crate) fn say_reading(to: io::Stdout, reading: Reading) -> io::Result<()> {
-    let outcome = reading.outcome;
-    let telegram = reading.telegram;
-    match outcome {
-        Outcome::Refused(n) => say_refusal(to, n),
-        Outcome::Accepted => say_telegram(to, telegram),
+pub(crate) fn say_reading(to: io::Stdout, reading: Result<Telegram, Refusal>) -> io::Result<()> {
+    match reading {
+        Err(refused) => say_refusal(to, refused),
+        Ok(telegram) => say_telegram(to, telegram),
     }
 }
 
 // The kind, and then what a telegram of this kind carries.
 fn say_telegram(to: io::Stdout, t: Telegram) -> io::Result<()> {
-    let kind = t.kind;
-    match kind {
+    match t.kind {
         Kind::Ack => say(to, b"ack"),
         Kind::Read => say_addressed(to, b"read", t.address),
         Kind::Leave => say_addressed(to, b"leave", t.address),
@@ -87,12 +80,10 @@ fn say_addressed(to: io::Stdout, kind: &[u8], address: u8) -> io::Result<()> {
 }
 
 fn say_data(to: io::Stdout, t: Telegram) -> io::Result<()> {
-    let header = t.header;
-    let entries = t.entries;
     say_addressed(to, b"data", t.address)?;
     say_byte(to, t.method)?;
-    say_header(to, header)?;
-    say_entries(to, t.count, entries)
+    say_header(to, t.header)?;
+    say_entries(to, t.count, t.entries)
 }
 
 fn say_header(to: io::Stdout, h: Header) -> io::Result<()> {
@@ -106,19 +97,16 @@ fn say_header(to: io::Stdout, h: Header) -> io::Result<()> {
 
 fn say_entries(to: io::Stdout, count: usize, entries: [Entry; 7]) -> io::Result<()> {
     say_decimal(to, count as u64)?;
-    for i in 0..7 {
-        if i < count {
-            say_entry(to, entries[i])?;
-        }
+    for entry in entries.iter().take(count) {
+        say_entry(to, *entry)?;
     }
     Ok(())
 }
 
 fn say_entry(to: io::Stdout, e: Entry) -> io::Result<()> {
-    let value = e.value;
     say_byte(to, e.structure)?;
     say_byte(to, e.unit)?;
-    match value {
+    match e.value {
         Value::Number(d) => {
             say(to, b" number")?;
             say_signed(to, d.count)

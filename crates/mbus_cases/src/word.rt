@@ -16,29 +16,18 @@ const NONE: u8 = 255;
 
 fn digit_of(b: u8) -> u8 {
     match b {
-        48..=57 => b - 48,
-        65..=70 => b - 55,
+        b'0'..=b'9' => b - b'0',
+        b'A'..=b'F' => b - b'A' + 10,
         _ => NONE,
     }
 }
 
-// The letters of `read`, the one name that is known.
-fn letter_at(i: usize) -> u8 {
-    match i {
-        0 => b'r',
-        1 => b'e',
-        2 => b'a',
-        3 => b'd',
-        _ => 0,
-    }
-}
+// The one name that is known.
+const NAME: [u8; 4] = *b"read";
 
 // One digit or letter more, if it is right. No word has over 20 of them.
 fn longer(is_decimal: bool, count: usize, value: u32, is_right: bool) -> Word {
-    let mut next = BAD;
-    if is_right {
-        next = value;
-    }
+    let next = if is_right { value } else { BAD };
     if 20 <= count {
         return Word {
             is_decimal,
@@ -89,7 +78,7 @@ impl Word {
     // One byte more of the word that stands at a place: the first is a name, the others are numbers.
     pub(crate) fn with(self, b: u8, place: usize) -> Word {
         if place == 0 {
-            let is_right = (self.value < BAD) & (b == letter_at(self.count));
+            let is_right = (self.value < BAD) & (NAME.get(self.count) == Some(&b));
             return longer(false, self.count, 0, is_right);
         }
         self.with_digit(b)

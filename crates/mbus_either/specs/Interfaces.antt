@@ -2,17 +2,13 @@
 -- has one. The order is by interface, never by place.
 use Rattle.std.specs.Prelude.{ℕ, List}
 use Rattle.base_rules.specs.Answers.{Answer, reads, refusal, within}
-use Rattle.mbus_search.specs.Searching.{Spot, find_in}
+use Rattle.mbus_search.specs.declared.Spot.{Spot}
+use Rattle.mbus_search.specs.Searching.{find_in}
 use Rattle.mbus_either.specs.declared.Interface.{Interface}
 use Rattle.mbus_either.specs.declared.Interface.TheVariants.{Mbus, Optical}
-use Rattle.mbus_either.specs.declared.EitherFound.{EitherFound}
-use Rattle.mbus_either.specs.declared.EitherFound.TheVariants.{At, Refused}
+use Rattle.mbus_either.specs.declared.LiveLine.{LiveLine}
 
 -- which capture, and where in it
-pub record LiveLine : Type 0 where
-  pub interface : Interface
-  pub spot : Spot
-
 abbrev pub live_on : Interface → Spot → LiveLine
 live_on i p = record { interface = i; spot = p }
 
@@ -23,8 +19,3 @@ or_optical (refusal n) optical = within (live_on Optical) optical
 
 abbrev pub find_either : List ℕ → List ℕ → Answer LiveLine
 find_either mbus optical = or_optical (find_in mbus) (find_in optical)
-
--- The program's answer: the interface, the place and the length, or the number.
-abbrev pub either_shown : Answer LiveLine → EitherFound
-either_shown (refusal n) = Refused n
-either_shown (reads l) = At l.interface l.spot.place l.spot.length

@@ -2,11 +2,14 @@
 use Rattle.std.specs.Prelude.{ℕ, ◌+◌, ◌*◌, List, ◌≡◌, take, drop}
 use Rattle.std.specs.Borrow.{Bor}
 use Rattle.base_rules.specs.Answers.{Answer, reads, refusal}
-use Rattle.mbus_search.specs.Searching.{Spot, spot_at}
+use Rattle.base_rules.specs.Shown.{shown}
+use Rattle.mbus_search.specs.declared.Spot.{Spot}
+use Rattle.mbus_search.specs.Searching.{spot_at}
 use Rattle.mbus_either.specs.declared.Interface.{Interface}
 use Rattle.mbus_either.specs.declared.Interface.TheVariants.{Mbus, Optical}
 use Rattle.mbus_either.specs.declared.Either.{Either}
-use Rattle.mbus_either.specs.Interfaces.{LiveLine, live_on, find_either, either_shown}
+use Rattle.mbus_either.specs.declared.LiveLine.{LiveLine}
+use Rattle.mbus_either.specs.Interfaces.{live_on, find_either}
 
 -- of the two captures, that of an interface
 abbrev pub capture_of : {A : Type 0} → Interface → A → A → A
@@ -29,5 +32,5 @@ StretchOf a mbus optical part = PartAt (handed_out a).spot (capture_of (handed_o
 
 -- the whole answer: what was found, and the stretch
 pub record HandsEither (mbus optical : Bor (List ℕ)) (r : Either) : Type 0 where
-  pub answer : r.found ≡ either_shown (find_either mbus.now optical.now)
+  pub answer : r.found ≡ shown (find_either mbus.now optical.now)
   pub stretch : StretchOf (find_either mbus.now optical.now) mbus optical r.stretch

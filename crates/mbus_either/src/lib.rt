@@ -3,11 +3,12 @@
 
 ghost use Rattle.std.specs.Prelude.{◌+◌, ◌≤◌, ◌≡◌};
 ghost use Rattle.std.proofs.Math.ListN;
-ghost use Rattle.mbus_search.specs.Searching.{spot_at};
-ghost use Rattle.mbus_either.specs.Interfaces.{find_either, either_shown};
+ghost use Rattle.base_rules.specs.Shown.{shown};
+ghost use Rattle.mbus_either.specs.Interfaces.{find_either};
 ghost use Rattle.mbus_either.specs.Stretches.{PartAt, StretchOf, HandsEither};
 
-use mbus_search::{Found, find_line};
+use base_rules::Refusal;
+use mbus_search::{Spot, find_line};
 
 // The two interfaces of a position.
 #[derive(Clone, Copy)]
@@ -16,69 +17,65 @@ pub enum Interface {
     Optical,
 }
 
-// The interface whose capture has an accepted line, with the place and the length of the first one in it, or refused by 18.
+// The interface whose capture has an accepted line, and where the first one in it lies.
 #[derive(Clone, Copy)]
-pub enum EitherFound {
-    At {
-        interface: Interface,
-        place: usize,
-        length: usize,
-    },
-    Refused(u16),
+pub struct LiveLine {
+    pub interface: Interface,
+    pub spot: Spot,
 }
 
 // What was found, and the stretch of the caller's own capture that it is; an empty one where it is refused.
 #[derive(Clone, Copy)]
 pub struct Either<'a> {
     pub stretch: &'a [u16],
-    pub found: EitherFound,
+    pub found: Result<LiveLine, Refusal>,
 }
 
 // Where the first accepted line of the M-Bus capture lies, or else of the optical one, which is not looked at before.
-pub fn either_at<'a>(mbus: &'a [u16], optical: &'a [u16]) -> EitherFound
-    ensures { result ≡ either_shown (find_either mbus.now optical.now) }
+pub fn either_at<'a>(mbus: &'a [u16], optical: &'a [u16]) -> Result<LiveLine, Refusal>
+    ensures { result ≡ shown (find_either mbus.now optical.now) }
 {
-    let first = find_line(mbus);
-    if let Found::At { place, length } = first {
-        return EitherFound::At {
+    if let Ok(spot) = find_line(mbus) {
+        return Ok(LiveLine {
             interface: Interface::Mbus,
-            place,
-            length,
-        };
+            spot,
+        });
     }
-    let second = find_line(optical);
-    match second {
-        Found::At { place, length } => EitherFound::At {
-            interface: Interface::Optical,
-            place,
-            length,
-        },
-        Found::Refused(number) => EitherFound::Refused(number),
-    }
+    let spot = find_line(optical)?;
+    Ok(LiveLine {
+        interface: Interface::Optical,
+        spot,
+    })
 }
 
 // A part of a capture.
-fn part_of<'a>(capture: &'a [u16], place: usize, length: usize) -> &'a [u16]
-    requires { place + length ≤ ListN.length capture.now }
-    ensures { PartAt (spot_at place length) capture.entry result }
+fn part_of<'a>(capture: &'a [u16], spot: Spot) -> &'a [u16]
+    requires { spot.place + spot.length ≤ ListN.length capture.now }
+    ensures { PartAt spot capture.entry result }
 {
-    &capture[place..place + length]
+    &capture[spot.place..spot.place + spot.length]
 }
 
 // The stretch where the line was found to lie, and an empty one, of M-Bus, where it was refused.
-fn stretch_at<'a>(mbus: &'a [u16], optical: &'a [u16], found: EitherFound) -> &'a [u16]
-    requires { found ≡ either_shown (find_either mbus.now optical.now) }
+fn stretch_at<'a>(
+    mbus: &'a [u16],
+    optical: &'a [u16],
+    found: Result<LiveLine, Refusal>,
+) -> &'a [u16]
+    requires { found ≡ shown (find_either mbus.now optical.now) }
     ensures { StretchOf (find_either mbus.now optical.now) mbus.entry optical.entry result }
 {
     match found {
-        EitherFound::Refused(_) => part_of(mbus, 0, 0),
-        EitherFound::At {
-            interface,
-            place,
-            length,
-        } => match interface {
-            Interface::Mbus => part_of(mbus, place, length),
-            Interface::Optical => part_of(optical, place, length),
+        Err(_) => part_of(
+            mbus,
+            Spot {
+                place: 0,
+                length: 0,
+            },
+        ),
+        Ok(line) => match line.interface {
+            Interface::Mbus => part_of(mbus, line.spot),
+            Interface::Optical => part_of(optical, line.spot),
         },
     }
 }

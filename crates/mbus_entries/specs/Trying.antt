@@ -2,16 +2,14 @@
 use Rattle.std.specs.Prelude.{ℕ, ◌≤◌, Bool, true, false, cond, not, ◌&&◌, ◌||◌, List, ◌≡◌, length, get_or}
 use Rattle.mbus_rules.specs.declared.Value.{Value}
 use Rattle.mbus_rules.specs.declared.Value.TheVariants.{Number, Time, Binary}
-use Rattle.mbus_rules.specs.declared.Entry.{Entry}
 use Rattle.base_rules.specs.Lists.{at}
-use Rattle.base_rules.specs.Answers.{Answer, reads, refusal, refuse, within, follow}
+use Rattle.base_rules.specs.Answers.{Answer, reads, refuse, within, follow}
 use Rattle.mbus_rules.specs.Quantities.{quantity_of, width_of, is_time}
 use Rattle.base_numbers.specs.TwosComplement.{binary_of}
 use Rattle.mbus_rules.specs.Moments.{wrong_moment, moment_of}
 use Rattle.mbus_rules.specs.Entries.{may_fall, value_bytes, value_of, unfit, wrong_binary, wrong_number}
 use Rattle.mbus_fields.specs.declared.digits.Signed.{Signed}
-use Rattle.mbus_entries.specs.declared.entry.Valued.{Valued}
-use Rattle.mbus_entries.specs.declared.entry.Tried.{Tried}
+use Rattle.mbus_entries.specs.declared.entry.Taken.{Taken}
 
 -- what a value in binary or a point in time needs to be read: at most eight bytes, and six for a point in time
 pub record Long (unit : ℕ) (value : List ℕ) : Type 0 where
@@ -39,18 +37,12 @@ low_valued unit b = cond (is_time unit) (refuse 13 (wrong_moment b) (reads (Time
 abbrev pub valued : ℕ → ℕ → List ℕ → Answer Value
 valued st unit b = refuse 12 (wrong_number st unit b) (refuse 13 (is_time unit && wrong_moment b) (reads (value_of st unit b)))
 
-abbrev pub valued_shown : Answer Value → Valued
-valued_shown (refusal n) = Valued.Refused n
-valued_shown (reads v) = Valued.Holds v
-
--- an entry as it is taken off the rest: its quantity, the width of its value, and itself
-pub record Taken : Type 0 where
-  pub quantity : ℕ
-  pub width : ℕ
-  pub entry : Entry
+-- an entry with its value, as it is taken off the rest: its quantity, the width of its value, and itself
+abbrev pub taken_with : ℕ → ℕ → ℕ → ℕ → Value → Taken
+taken_with st unit q w v = record { quantity = q; width = w; entry = record { structure = st; unit = unit; value = v } }
 
 abbrev pub taken_of : List ℕ → Value → Taken
-taken_of s v = record { quantity = quantity_of (at s 1); width = width_of (at s 0); entry = record { structure = at s 0; unit = at s 1; value = v } }
+taken_of s v = taken_with (at s 0) (at s 1) (quantity_of (at s 1)) (width_of (at s 0)) v
 
 -- the entry that the list begins with, or what 11, 12 and 13 say of it
 abbrev pub tried : List ℕ → Answer Taken
@@ -63,13 +55,3 @@ unseen marks t = refuse 14 (get_or marks t.quantity false) (reads t)
 -- the next entry, or what 11 to 14 say of it
 abbrev pub next_of : List ℕ → List Bool → Answer Taken
 next_of s marks = follow (tried s) (unseen marks)
-
--- The program's answer for each answer about one entry.
-abbrev pub tried_shown : Answer Taken → Tried
-tried_shown (refusal n) = Tried.Refused n
-tried_shown (reads t) = Tried.Passed t.quantity t.width t.entry
-
--- An entry with its value, or what the value is refused by.
-abbrev pub with_value : ℕ → ℕ → ℕ → ℕ → Valued → Tried
-with_value st unit q w (Valued.Refused n) = Tried.Refused n
-with_value st unit q w (Valued.Holds v) = Tried.Passed q w (record { structure = st; unit = unit; value = v })

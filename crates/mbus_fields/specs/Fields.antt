@@ -1,17 +1,15 @@
--- The fields of a data telegram as they are read: packed digits and the point in time, each with whether its rule is broken; binary; and a pair.
-use Rattle.std.specs.Prelude.{ℕ, zero, suc, ◌+◌, ◌-◌, ◌*◌, min, Bool, true, false, cond, ◌&&◌, ◌||◌, List, ltb, leb, eqb, pos, neg_ℤ, length, take, drop}
+-- The fields of a data telegram as they are read: packed digits, with whether their rule is broken; binary; and a pair.
+use Rattle.std.specs.Prelude.{ℕ, zero, suc, ◌+◌, ◌-◌, ◌*◌, min, Bool, true, false, Option, Some, None, cond, ◌&&◌, ◌||◌, List, ltb, leb, eqb, pos, neg_ℤ, length, take, drop}
 use Rattle.base_rules.specs.Lists.{any}
 use Rattle.base_digits.specs.Digits.{over_nine, packed_of}
 use Rattle.mbus_rules.specs.Signs.{minus, signed_of, wrong_signed}
 use Rattle.base_numbers.specs.TwosComplement.{negative, binary_of}
-use Rattle.mbus_rules.specs.Moments.{wrong_moment, moment_of}
 use Rattle.mbus_rules.specs.Quantities.{is_packed, is_binary, width_of, time, unknown}
 use Rattle.base_numbers.specs.Numbers.{number, bytes_of}
 use Rattle.base_digits.specs.declared.Packed.{Packed}
 use Rattle.mbus_fields.specs.declared.digits.Signed.{Signed}
 use Rattle.mbus_fields.specs.declared.digits.Wide.{Wide}
 use Rattle.mbus_fields.specs.declared.binary.Coded.{Coded}
-use Rattle.mbus_fields.specs.declared.moments.Timed.{Timed}
 
 -- 02, 2026-07: the same with a sign.
 abbrev pub signed_in : List ℕ → Signed
@@ -37,20 +35,16 @@ abbrev pub signed_by : ℕ → ℕ → Signed
 signed_by width word = cond (any over_nine (bytes_of 8 word)) (marked_in (mark_of (min width 8)) word) (sign_on false (packed_of (bytes_of 8 word)))
 
 -- the value of so many bytes behind structure and unit, as a word; past the end there is none
-abbrev pub wide_by : ℕ → List ℕ → Wide
-wide_by width s = cond (ltb (length s) (2 + width)) (record { width = 0; word = 0 }) (record { width = width; word = number (take width (drop 2 s)) })
+abbrev pub wide_by : ℕ → List ℕ → Option Wide
+wide_by width s = cond (ltb (length s) (2 + width)) None (Some (record { width = width; word = number (take width (drop 2 s)) }))
 
 -- 01, "Entry": the value of packed BCD that the structure says
-abbrev pub wide_of : ℕ → List ℕ → Wide
-wide_of st s = cond (is_packed st) (wide_by (width_of st) s) (record { width = 0; word = 0 })
+abbrev pub wide_of : ℕ → List ℕ → Option Wide
+wide_of st s = cond (is_packed st) (wide_by (width_of st) s) None
 
 -- 02, 2026-06: binary, and whether it is negative.
 abbrev pub coded_of : List ℕ → Coded
 coded_of b = record { falls = negative b; count = binary_of b }
-
--- 01, "Time, 6 bytes".
-abbrev pub timed_of : List ℕ → Timed
-timed_of b = record { wrong = wrong_moment b; moment = moment_of b }
 
 -- 01, "Entry": time goes with structure 06 only, packed BCD and binary with each other quantity.
 abbrev pub goes_with : ℕ → ℕ → Bool

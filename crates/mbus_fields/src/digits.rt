@@ -7,6 +7,7 @@ use base_numbers::number_at;
 use mbus_telegrams::table::structure_of;
 
 // What packed digits with a sign hold: the rule is broken, F stands in the highest place, and the number that they are.
+// (No Option: the definition tells the sign and the number of any digits, as `Packed` does.)
 #[derive(Clone, Copy)]
 pub struct Signed {
     pub wrong: bool,
@@ -14,7 +15,7 @@ pub struct Signed {
     pub count: i64,
 }
 
-// The width of a value and the word that its bytes are; of no value no width.
+// The width of a value and the word that its bytes are.
 #[derive(Clone, Copy)]
 pub struct Wide {
     pub width: usize,
@@ -22,78 +23,59 @@ pub struct Wide {
 }
 
 // The value of so many bytes that stands behind structure and unit, if it is not past the end.
-fn wide_at(rest: &[u8], width: usize) -> Wide
+fn wide_at(rest: &[u8], width: usize) -> Option<Wide>
     requires { width ≤ 8 }
     ensures { result ≡ wide_by width rest.now }
 {
     if rest.len() < 2 + width {
-        return Wide { width: 0, word: 0 };
+        return None;
     }
     let word = number_at(rest, 2, width);
-    Wide { width, word }
+    Some(Wide { width, word })
 }
 
 // The same: a width that is named here is read without a loop.
-fn named_at(rest: &[u8], width: usize) -> Wide
+fn named_at(rest: &[u8], width: usize) -> Option<Wide>
     requires { width ≤ 8 }
     ensures { result ≡ wide_by width rest.now }
 {
-    if width == 4 {
-        return wide_at(rest, 4);
+    match width {
+        2 => wide_at(rest, 2),
+        3 => wide_at(rest, 3),
+        4 => wide_at(rest, 4),
+        6 => wide_at(rest, 6),
+        _ => wide_at(rest, width),
     }
-    if width == 2 {
-        return wide_at(rest, 2);
-    }
-    if width == 3 {
-        return wide_at(rest, 3);
-    }
-    if width == 6 {
-        return wide_at(rest, 6);
-    }
-    wide_at(rest, width)
 }
 
 // The value of packed digits that stands behind structure and unit.
-pub fn digits_at(structure: u8, rest: &[u8]) -> Wide
+#[tactic(auto, unfolding(mbus_rules::specs::Quantities::width_of))]
+pub fn digits_at(structure: u8, rest: &[u8]) -> Option<Wide>
     ensures { result ≡ wide_of structure rest.now }
 {
     let row = structure_of(structure);
-    let packed = row.2;
-    if packed {
-        return named_at(rest, row.1);
+    if row.packed {
+        return named_at(rest, row.width);
     }
-    Wide { width: 0, word: 0 }
+    None
 }
 
 // F in the highest place of so many bytes, at most eight, and 1 of none, which no word of none reaches.
+#[tactic(auto, unfolding(crate::specs::Fields::mark_of))]
 pub(crate) fn mark_of(width: usize) -> u64
     ensures { result ≡ mark_of (min width 8) }
 {
-    if width == 4 {
-        return 0xF000_0000;
+    match width {
+        0 => 1,
+        1 => 0xF0,
+        2 => 0xF000,
+        3 => 0xF0_0000,
+        4 => 0xF000_0000,
+        5 => 0xF0_0000_0000,
+        6 => 0xF000_0000_0000,
+        7 => 0xF0_0000_0000_0000,
+        _ => 0xF000_0000_0000_0000,
     }
-    if width == 2 {
-        return 0xF000;
-    }
-    if width == 3 {
-        return 0xF0_0000;
-    }
-    if width == 6 {
-        return 0xF000_0000_0000;
-    }
-    if width == 0 {
-        return 1;
-    }
-    if width == 1 {
-        return 0xF0;
-    }
-    if width == 5 {
-        return 0xF0_0000_0000;
-    }
-    if width == 7 {
-        return 0xF0_0000_0000_0000;
-    }
-    0xF000_0000_0000_0000
 }
 
 // The word without its mark, if it has one.

@@ -61,10 +61,11 @@ pub fn maker_named(maker: u16) -> bool
 pub fn heat_meter(meter_type: u8) -> bool
     ensures { result ≡ heat_meter meter_type }
 {
-    (meter_type == 0x04) | (meter_type == 0x0B) | (meter_type == 0x0C) | (meter_type == 0x0D)
+    matches!(meter_type, 0x04 | 0x0B | 0x0C | 0x0D)
 }
 
 // The header rule is broken.
+#[tactic(auto, unfolding(mbus_rules::specs::Headers::wrong_header))]
 pub fn wrong_header(part: &[u8]) -> bool
     ensures { result ≡ wrong_header part.now }
 {

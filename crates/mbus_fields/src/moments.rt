@@ -1,19 +1,11 @@
 // The point in time.
 ghost use Rattle.std.specs.Prelude.{◌≡◌, ◌+◌};
-ghost use Rattle.mbus_rules.specs.Moments.{moment_of, spare_bits, date_exists, time_exists, weekday_exists};
+ghost use Rattle.mbus_rules.specs.Moments.{moment_of, spare_bits, date_exists, time_exists, weekday_exists, wrong_moment};
 ghost use Rattle.base_calendar.specs.Months.{days_in};
-ghost use Rattle.mbus_fields.specs.Fields.{timed_of};
 
 use base_calendar::days_of;
 use base_numbers::byte_at;
 use mbus_rules::Moment;
-
-// What the bytes of a point in time hold: the rule is broken, and the fields.
-#[derive(Clone, Copy)]
-pub struct Timed {
-    pub wrong: bool,
-    pub moment: Moment,
-}
 
 // The fields that the six bytes hold.
 pub fn moment_of(value: &[u8]) -> Moment
@@ -73,16 +65,11 @@ pub fn weekday_exists(m: Moment) -> bool
     m.weekday < 8
 }
 
-// The six bytes read as a point in time.
-pub fn timed_of(value: &[u8]) -> Timed
-    ensures { result ≡ timed_of value.now }
+// The six bytes break the rule of a point in time: a bit that must be zero is not, or there is no such date or time of day.
+#[tactic(auto, unfolding(mbus_rules::specs::Moments::wrong_moment))]
+pub fn wrong_moment(value: &[u8]) -> bool
+    ensures { result ≡ wrong_moment value.now }
 {
-    let spare = spare_bits(value);
     let moment = moment_of(value);
-    let date = date_exists(moment);
-    let time = time_exists(moment);
-    Timed {
-        wrong: spare | !date | !time,
-        moment,
-    }
+    spare_bits(value) | !date_exists(moment) | !time_exists(moment)
 }

@@ -5,7 +5,6 @@ ghost use Rattle.std.specs.Prelude.{◌≡◌};
 ghost use Rattle.mbus_length.specs.Lengths.{unsound_in, line_length};
 
 use base_characters::line::{low_at, soundness_of};
-use base_rules::Outcome;
 use mbus_shape::LONG;
 use mbus_shape::first::left_by;
 
@@ -21,35 +20,25 @@ pub enum HowLong {
 fn unsound_in(first: &[u16], count: usize) -> bool
     ensures { result ≡ unsound_in count first.now }
 {
-    let there = if first.len() < count {
-        first.len()
-    } else {
-        count
-    };
-    let sound = soundness_of(&first[..there]);
-    match sound {
-        Outcome::Refused(_) => true,
-        Outcome::Accepted => false,
-    }
+    soundness_of(&first[..count.min(first.len())]).is_err()
 }
 
 // How many characters the accepted line has that begins with these. Those behind its end change nothing.
 pub fn line_length(first: &[u16]) -> HowLong
     ensures { result ≡ line_length first.now }
 {
-    if first.len() == 0 {
+    if first.is_empty() {
         return HowLong::NotYet;
     }
     let count = left_by(first);
     if count == 0 {
         return HowLong::NoLine;
     }
-    let unsound = unsound_in(first, count);
-    if unsound {
+    if unsound_in(first, count) {
         return HowLong::NoLine;
     }
     let start = low_at(first, 0);
-    if (start == LONG) & (first.len() < 2) {
+    if start == LONG && first.len() < 2 {
         return HowLong::NotYet;
     }
     HowLong::Known(count)

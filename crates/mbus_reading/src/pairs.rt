@@ -1,16 +1,15 @@
 // A line whose characters come as bytes, two per character, low byte first.
-ghost use Rattle.std.specs.Prelude.{map, ◌≡◌, ◌/◌, ◌%◌, ◌≤◌, ◌<◌, length};
-ghost use Rattle.base_characters.specs.Characters.{byte_of, chars};
+ghost use Rattle.std.specs.Prelude.{◌≡◌, ◌/◌, ◌≤◌, ◌<◌, length};
+ghost use Rattle.base_characters.specs.Characters.{chars};
 ghost use Rattle.mbus_rules.specs.Lines.{read_line};
-ghost use Rattle.base_rules.specs.Lists.{total};
 ghost use Rattle.mbus_rules.specs.Outlines.{outlined};
-ghost use Rattle.mbus_reading.specs.Taking.{TakenBytes};
+ghost use Rattle.mbus_reading.specs.Taking.{TakenFew};
 
 use crate::body::outline_in;
 use crate::taking::{MOST, far_of, write_apart};
 use base_characters::counts_odd;
 use base_characters::pairs::{any_over, character_at, gather, soundness_of};
-use base_rules::Outcome;
+use base_rules::Refusal;
 use mbus_rules::Outline;
 use mbus_shape::brief_shape;
 
@@ -20,25 +19,29 @@ const FEW: usize = 5;
 
 // Takes in few characters: their bytes go into the first places, up to the first that is not sound. Behind an odd one only the range is
 // still to be told.
-fn take_few(bytes: &[u8], out: &mut [u8]) -> Outcome
+fn take_few(bytes: &[u8], out: &mut [u8]) -> Result<(), Refusal>
     requires { (0 < length bytes.now / 2) × (length bytes.now / 2 ≤ length out.old) }
-    ensures { TakenBytes (chars bytes.now) out.new result (total (map byte_of (chars bytes.now)) % 256) }
+    ensures { TakenFew (chars bytes.now) out.new result }
 {
     let mut i = 0;
     while i < bytes.len() / 2 {
         let c = character_at(bytes, i);
         if 511 < c {
-            return Outcome::Refused(2);
+            return Err(Refusal::WRONG_CHARACTER);
         }
         if counts_odd(c) {
             let over = any_over(&bytes[2 * i..]);
-            return Outcome::Refused(if over { 2 } else { 3 });
+            return Err(if over {
+                Refusal::WRONG_CHARACTER
+            } else {
+                Refusal::ODD_PARITY
+            });
         }
         let b = (c % 256) as u8;
         out[i] = b;
         i += 1;
     }
-    Outcome::Accepted
+    Ok(())
 }
 
 // The outline of few characters. They have no header and no entries: their shape is all.
@@ -48,14 +51,13 @@ fn outline_few(bytes: &[u8]) -> Outline
 {
     let count = bytes.len() / 2;
     if count == 0 {
-        return Outline::Refused(1);
+        return Outline::Refused(Refusal::EMPTY_LINE.0);
     }
     let mut few = [0u8; FEW];
-    let outcome = take_few(bytes, &mut few);
-    if let Outcome::Refused(n) = outcome {
-        return Outline::Refused(n);
+    match take_few(bytes, &mut few) {
+        Ok(()) => brief_shape(&few[..count]),
+        Err(refused) => Outline::Refused(refused.0),
     }
-    brief_shape(&few[..count])
 }
 
 // The outline of more than MOST characters, which no form has: no byte of them is stored.
@@ -63,10 +65,9 @@ fn outline_far(bytes: &[u8]) -> Outline
     requires { 261 < length bytes.now / 2 }
     ensures { result ≡ outlined (read_line (chars bytes.now)) }
 {
-    let sound = soundness_of(bytes);
     let first = character_at(bytes, 0);
-    let number = far_of(sound, (first % 256) as u8);
-    Outline::Refused(number)
+    let refused = far_of(soundness_of(bytes), (first % 256) as u8);
+    Outline::Refused(refused.0)
 }
 
 // The outline of so many characters as a long form can have.
@@ -77,12 +78,10 @@ fn outline_many(bytes: &[u8]) -> Outline
     let mut low = [0u8; MOST];
     write_apart(&mut low);
     let taken = gather(bytes, &mut low);
-    let outcome = taken.outcome;
-    if let Outcome::Refused(n) = outcome {
-        return Outline::Refused(n);
+    match taken.outcome {
+        Ok(()) => outline_in(&low[..bytes.len() / 2], taken.sum),
+        Err(refused) => Outline::Refused(refused.0),
     }
-    let count = bytes.len() / 2;
-    outline_in(&low[..count], taken.sum)
 }
 
 // Kind, address and method of a line, or what it is refused by.

@@ -1,5 +1,5 @@
 -- What fits the record of a telegram: each number in the bytes that the record has for it.
-use Rattle.std.specs.Prelude.{ℕ, ◌^◌, ◌<◌, List, [], ◌∷◌, ◌≡◌, length}
+use Rattle.std.specs.Prelude.{◌^◌, ◌<◌, List, [], ◌∷◌, ◌≡◌, length}
 use Rattle.std.specs.Int.{w64}
 use Rattle.std.proofs.Common.{SFits}
 use Rattle.mbus_rules.specs.declared.Value.{Value}

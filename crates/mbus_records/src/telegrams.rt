@@ -1,18 +1,18 @@
 // The record of a telegram.
 ghost use Rattle.std.specs.Prelude.{◌≡◌, ◌+◌, ◌≤◌, length};
 ghost use Rattle.base_numbers.specs.Numbers.{bytes_of};
+ghost use Rattle.base_rules.specs.Lists.{at};
 ghost use Rattle.mbus_rules.specs.declared.Value.TheVariants.{Time};
-ghost use Rattle.mbus_rules.specs.Telegrams.{shown};
-ghost use Rattle.mbus_records.specs.Telegrams.{sort_of, value_record, entry_bytes, entries_bytes, telegram_head, telegram_bytes, entry_in, entry_at, entries_in};
+ghost use Rattle.base_rules.specs.Shown.{shown};
+ghost use Rattle.mbus_records.specs.Telegrams.{sort_of, value_record, entry_bytes, entries_bytes, telegram_head, telegram_bytes, value_in, entry_in, entry_at, entries_in};
 ghost use Rattle.mbus_records.specs.Telegrams.{header_in, telegram_in, telegram_from};
 
 use base_lent::{is_same, lay};
 use base_numbers::signed::{count_of, word_of};
 use base_numbers::{bytes_of, number_at, put_record};
-use base_rules::Outcome;
-use mbus_rules::{Decimal, Entry, Header, Kind, Moment, Reading, Telegram, Value, Whole};
+use base_rules::Refusal;
+use mbus_rules::{Decimal, Entry, Header, Kind, Moment, Telegram, Value, Whole};
 use mbus_telegrams::kinds::{kind_in, kind_number};
-use mbus_telegrams::refused;
 
 // The bytes of a telegram's record.
 pub const SIZE: usize = 136;
@@ -50,35 +50,19 @@ fn value_word(value: Value) -> u64
 fn value_bytes(value: Value) -> [u8; 8]
     ensures { result ≡ value_record value }
 {
-    let word = value_word(value);
-    bytes_of(word)
+    bytes_of(value_word(value))
 }
 
 // The record of an entry.
 pub fn entry_bytes(e: Entry) -> [u8; 16]
     ensures { result ≡ entry_bytes e }
 {
-    let value = e.value;
-    let sort = sort_of(value);
-    let v = value_bytes(value);
-    [
-        e.structure,
-        e.unit,
-        sort,
-        0,
-        0,
-        0,
-        0,
-        0,
-        v[0],
-        v[1],
-        v[2],
-        v[3],
-        v[4],
-        v[5],
-        v[6],
-        v[7],
-    ]
+    let mut bytes = [0; 16];
+    bytes[0] = e.structure;
+    bytes[1] = e.unit;
+    bytes[2] = sort_of(e.value);
+    bytes[8..].copy_from_slice(&value_bytes(e.value));
+    bytes
 }
 
 // All that stands before the count.
@@ -86,12 +70,10 @@ fn head_bytes(t: Telegram) -> [u8; 16]
     ensures { result ≡ telegram_head t }
 {
     let h = t.header;
-    let k = t.kind;
-    let kind = kind_number(k);
     let n = bytes_of(h.number as u64);
     let m = bytes_of(h.maker as u64);
     [
-        kind,
+        kind_number(t.kind),
         t.address,
         t.method,
         h.version,
@@ -114,11 +96,8 @@ fn entries_bytes(entries: [Entry; 7]) -> [u8; 112]
     ensures { result ≡ entries_bytes entries }
 {
     let mut bytes = [0u8; 112];
-    let mut i = 0;
-    while i < 7 {
-        let e = entry_bytes(entries[i]);
-        lay(&mut bytes, 16 * i, &e);
-        i += 1;
+    for (i, entry) in entries.iter().enumerate() {
+        lay(&mut bytes, 16 * i, &entry_bytes(*entry));
     }
     bytes
 }
@@ -127,25 +106,23 @@ fn entries_bytes(entries: [Entry; 7]) -> [u8; 112]
 pub fn telegram_bytes(t: Telegram) -> [u8; 136]
     ensures { result ≡ telegram_bytes t }
 {
-    let head = head_bytes(t);
-    let words = [t.count as u64];
-    let e = t.entries;
-    let entries = entries_bytes(e);
     let mut bytes = [0u8; 136];
-    put_record(&mut bytes, &head, &words, &entries);
+    put_record(
+        &mut bytes,
+        &head_bytes(t),
+        &[t.count as u64],
+        &entries_bytes(t.entries),
+    );
     bytes
 }
 
-fn entry_in(b: &[u8]) -> Entry
+// The value of an entry, by the sort in its third byte.
+fn value_in(b: &[u8]) -> Value
     requires { length b.now ≡ 16 }
-    ensures { result ≡ entry_in b.now }
+    ensures { result ≡ value_in (at b.now 2) b.now }
 {
-    let structure = b[0];
-    let unit = b[1];
-    let sort = b[2];
-    let time = sort == 1;
-    if time {
-        let m = Moment {
+    if b[2] == 1 {
+        return Value::Time(Moment {
             year: b[8],
             month: b[9],
             day: b[10],
@@ -153,26 +130,24 @@ fn entry_in(b: &[u8]) -> Entry
             minute: b[12],
             second: b[13],
             weekday: b[14],
-        };
-        return Entry {
-            structure,
-            unit,
-            value: Value::Time(m),
-        };
+        });
     }
     let count = count_of(number_at(b, 8, 8));
-    let binary = sort == 2;
-    if binary {
-        return Entry {
-            structure,
-            unit,
-            value: Value::Binary(Whole { count }),
-        };
+    if b[2] == 2 {
+        return Value::Binary(Whole { count });
     }
+    Value::Number(Decimal { count })
+}
+
+#[tactic(auto, unfolding(crate::specs::Telegrams::entry_in))]
+fn entry_in(b: &[u8]) -> Entry
+    requires { length b.now ≡ 16 }
+    ensures { result ≡ entry_in b.now }
+{
     Entry {
-        structure,
-        unit,
-        value: Value::Number(Decimal { count }),
+        structure: b[0],
+        unit: b[1],
+        value: value_in(b),
     }
 }
 
@@ -199,18 +174,20 @@ fn entry_at(b: &[u8], at: usize) -> Entry
     entry_in(&b[at..at + 16])
 }
 
+// (Entry by entry: a loop would have to fill the array with blank entries first.)
 fn entries_in(b: &[u8]) -> [Entry; 7]
     requires { length b.now ≡ 112 }
     ensures { result ≡ entries_in 7 b.now }
 {
-    let first = entry_at(b, 0);
-    let second = entry_at(b, 16);
-    let third = entry_at(b, 32);
-    let fourth = entry_at(b, 48);
-    let fifth = entry_at(b, 64);
-    let sixth = entry_at(b, 80);
-    let seventh = entry_at(b, 96);
-    [first, second, third, fourth, fifth, sixth, seventh]
+    [
+        entry_at(b, 0),
+        entry_at(b, 16),
+        entry_at(b, 32),
+        entry_at(b, 48),
+        entry_at(b, 64),
+        entry_at(b, 80),
+        entry_at(b, 96),
+    ]
 }
 
 // The telegram that the bytes give, whether they are its record or not.
@@ -235,20 +212,16 @@ fn telegram_in(b: &[u8]) -> Telegram
 }
 
 // The telegram whose record the bytes are, or refused by 101.
-pub fn telegram_from(b: &[u8]) -> Reading
+pub fn telegram_from(b: &[u8]) -> Result<Telegram, Refusal>
     ensures { result ≡ shown (telegram_from b.now) }
 {
     if b.len() != SIZE {
-        return refused(101);
+        return Err(Refusal::NO_RECORD);
     }
     let telegram = telegram_in(b);
     let again = telegram_bytes(telegram);
-    let same = is_same(b, &again);
-    if same {
-        return Reading {
-            outcome: Outcome::Accepted,
-            telegram,
-        };
+    if is_same(b, &again) {
+        return Ok(telegram);
     }
-    refused(101)
+    Err(Refusal::NO_RECORD)
 }

@@ -32,7 +32,7 @@ unfit s = ltb (length s) 2 || not (paired (at s 0) (at s 1)) || ltb (length s) (
 
 -- the table says whether a quantity may be negative (02, 2026-06), by a minus too (2026-07)
 unfoldable pub may_fall : ℕ → Bool
-may_fall unit = (row_of unit).7
+may_fall unit = (row_of unit).may_fall
 
 -- 12: a BCD digit over 9 in an entry; minus zero, or a minus where none is allowed (02, 2026-07)
 abbrev pub wrong_packed : ℕ → List ℕ → Bool
@@ -58,7 +58,7 @@ seen q done = any (λ (e : Entry). eqb (quantity_of e.unit) q) done
 
 -- a row of the table is required, and its quantity is not there
 abbrev pub lacking : (ℕ → Bool) → Bool
-lacking there = any (λ (r : UnitRow). r.6 && not (there r.2)) table
+lacking there = any (λ (r : UnitRow). r.required && not (there r.quantity)) table
 
 -- 16: energy, volume, inlet, outlet and time must be there
 abbrev pub missing : List Entry → Bool

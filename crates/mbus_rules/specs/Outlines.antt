@@ -1,9 +1,8 @@
 -- A reading as the two ends of an exchange look at it: nobody else matches on kinds.
-use Rattle.std.specs.Prelude.{ℕ}
+use Rattle.std.specs.Prelude.{ℕ, Result, Ok, Err}
 use Rattle.mbus_rules.specs.declared.Kind.{Kind}
 use Rattle.mbus_rules.specs.declared.Kind.TheVariants as kinds
-use Rattle.base_rules.specs.declared.Outcome.{Outcome}
-use Rattle.base_rules.specs.declared.Outcome.TheVariants as outcomes
+use Rattle.base_rules.specs.declared.refusals.Refusal.{Refusal}
 use Rattle.mbus_rules.specs.declared.Request.TheVariants.{Read, Enter, Leave}
 use Rattle.mbus_rules.specs.declared.Outline.{Outline}
 use Rattle.mbus_rules.specs.declared.Outline.TheVariants.{Refused, Ack, Asks, Data}
@@ -24,6 +23,6 @@ outlined (refusal n) = Refused n
 outlined (reads t) = outline_of t.kind t.address t.method
 
 -- The outline of a program's reading.
-abbrev pub outline_in : Outcome → Telegram → Outline
-outline_in outcomes.Accepted t = outline_of t.kind t.address t.method
-outline_in (outcomes.Refused n) t = Refused n
+abbrev pub outline_in : Result Telegram Refusal → Outline
+outline_in (Ok t) = outline_of t.kind t.address t.method
+outline_in (Err e) = Refused e.0

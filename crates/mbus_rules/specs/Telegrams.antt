@@ -7,8 +7,6 @@ use Rattle.mbus_rules.specs.declared.Value.TheVariants.{Number}
 use Rattle.mbus_rules.specs.declared.Entry.{Entry}
 use Rattle.mbus_rules.specs.declared.Header.{Header}
 use Rattle.mbus_rules.specs.declared.Telegram.{Telegram}
-use Rattle.base_rules.specs.declared.Outcome.TheVariants.{Accepted, Refused}
-use Rattle.mbus_rules.specs.declared.Reading.{Reading}
 use Rattle.base_rules.specs.Answers.{Answer, reads, refusal}
 
 abbrev pub blank_entry : Entry
@@ -43,11 +41,11 @@ data_of a h done = record {
   entries = done ++ replicate (7 - length done) blank_entry;
 }
 
--- The blank telegram, which stands beside a refusal.
+-- The blank telegram, which stands for none.
 abbrev pub blank : Telegram
 blank = ack
 
--- The program's answer for each answer of reading: the number alone, or the telegram.
-abbrev pub shown : Answer Telegram → Reading
-shown (refusal n) = record { outcome = Refused n; telegram = blank }
-shown (reads t) = record { outcome = Accepted; telegram = t }
+-- The telegram that was read, and the blank one where a line was refused.
+abbrev pub telegram_read : Answer Telegram → Telegram
+telegram_read (refusal n) = blank
+telegram_read (reads t) = t

@@ -1,16 +1,14 @@
 // What document 01 says of a line: here the types, in specs/ the definitions and the laws about them.
 #![tactic(auto)]
 
-use base_rules::Outcome;
-
-// The five telegrams.
-#[derive(Clone, Copy)]
+// The five telegrams, with the host's numbers.
+#[derive(Clone, Copy, Debug, PartialEq, Eq)]
 pub enum Kind {
-    Ack,
-    Read,
-    Enter,
-    Leave,
-    Data,
+    Ack = 1,
+    Read = 2,
+    Enter = 3,
+    Leave = 4,
+    Data = 5,
 }
 
 // A decimal number: the digits of an entry as a count of its last digit, below zero where they have a minus.
@@ -63,22 +61,27 @@ pub struct Header {
 }
 
 // A row of the table of quantities: its first and last unit byte; the quantity and its unit; the power of ten, which is what the unit byte
-// leaves by the one number, less the other; whether a telegram must have the quantity, and whether it may be below zero.
+// leaves by the divisor, less the other number; whether a telegram must have the quantity, and whether it may be below zero.
 #[derive(Clone, Copy)]
-pub struct UnitRow(
-    pub u8,
-    pub u8,
-    pub u8,
-    pub u8,
-    pub u8,
-    pub u8,
-    pub bool,
-    pub bool,
-);
+pub struct UnitRow {
+    pub first: u8,
+    pub last: u8,
+    pub quantity: u8,
+    pub unit: u8,
+    pub divisor: u8,
+    pub less: u8,
+    pub required: bool,
+    pub may_fall: bool,
+}
 
 // A row of the structures: the structure byte, the bytes of a value, and whether they are packed digits or binary.
 #[derive(Clone, Copy)]
-pub struct StructureRow(pub u8, pub usize, pub bool, pub bool);
+pub struct StructureRow {
+    pub structure: u8,
+    pub width: usize,
+    pub packed: bool,
+    pub binary: bool,
+}
 
 // A telegram. What its kind does not use is zero, and so are the entry places past the count.
 #[derive(Clone, Copy)]
@@ -91,15 +94,8 @@ pub struct Telegram {
     pub entries: [Entry; 7],
 }
 
-// The answer of reading. Where the outcome is a refusal, the telegram is blank.
-#[derive(Clone, Copy)]
-pub struct Reading {
-    pub outcome: Outcome,
-    pub telegram: Telegram,
-}
-
 // What a bench sends: a read, an enter with its method, or a leave, each to an address.
-#[derive(Clone, Copy)]
+#[derive(Clone, Copy, PartialEq, Eq)]
 pub enum Request {
     Read(u8),
     Enter(u8, u8),
@@ -107,7 +103,7 @@ pub enum Request {
 }
 
 // A reading as the two ends of an exchange look at it: a refused line, an ack, a request, or data from an address.
-#[derive(Clone, Copy)]
+#[derive(Clone, Copy, PartialEq, Eq)]
 pub enum Outline {
     Refused(u16),
     Ack,

@@ -3,8 +3,7 @@
 use Rattle.std.specs.Prelude.{◌≡◌, ℕ, zero, suc, ◌+◌, ◌≤◌, Bool, true, false, cond, List, [], ◌∷◌, length, take, drop}
 use Rattle.base_rules.specs.Answers.{Answer, reads, refusal}
 use Rattle.mbus_rules.specs.Lines.{read_line}
-use Rattle.mbus_search.specs.declared.Found.{Found}
-use Rattle.mbus_search.specs.declared.Found.TheVariants.{At, Refused}
+use Rattle.mbus_search.specs.declared.Spot.{Spot}
 
 -- reading accepts
 abbrev pub accepts : {A : Type 0} → Answer A → Bool
@@ -25,10 +24,6 @@ abbrev pub length_here : List ℕ → Answer ℕ
 length_here s = length_from (length s) 1 s
 
 -- where a line was found
-pub record Spot : Type 0 where
-  pub place : ℕ
-  pub length : ℕ
-
 abbrev pub spot_at : ℕ → ℕ → Spot
 spot_at place n = record { place = place; length = n }
 
@@ -51,8 +46,3 @@ find_in (c ∷ s) = or_else (length_here (c ∷ s)) (further (find_in s))
 abbrev pub moved_by : ℕ → Answer Spot → Answer Spot
 moved_by k (refusal n) = refusal n
 moved_by k (reads p) = reads (record { place = k + p.place; length = p.length })
-
--- The program's answer: the place and the length, or the number.
-abbrev pub found_shown : Answer Spot → Found
-found_shown (refusal n) = Refused n
-found_shown (reads p) = At p.place p.length

@@ -2,7 +2,8 @@
 #![tactic(auto)]
 
 ghost use Rattle.std.specs.Prelude.{◌≡◌, map};
-ghost use Rattle.mbus_search.specs.Searching.{accepts, find_in, found_shown};
+ghost use Rattle.base_rules.specs.Shown.{shown};
+ghost use Rattle.mbus_search.specs.Searching.{accepts, find_in};
 ghost use Rattle.base_characters.specs.Characters.{byte_of};
 ghost use Rattle.mbus_rules.specs.Lines.{read_body};
 ghost use Rattle.mbus_shape.specs.Shapes.{frame_by};
@@ -10,17 +11,18 @@ ghost use Rattle.mbus_search.specs.Ending.{ends_in};
 
 use base_characters::counts_odd;
 use base_characters::line::low_at;
+use base_rules::Refusal;
 use mbus_reading::body::outline_in;
 use mbus_reading::taking::MOST;
 use mbus_rules::Outline;
 use mbus_shape::END;
 use mbus_shape::first::left_by;
 
-// Where the first accepted line of a capture begins, and its length.
+// Where a line begins in a capture, and its length.
 #[derive(Clone, Copy)]
-pub enum Found {
-    At { place: usize, length: usize },
-    Refused(u16),
+pub struct Spot {
+    pub place: usize,
+    pub length: usize,
 }
 
 // A line of so many characters is there and ends in 16, as far as its form has an end.
@@ -52,12 +54,13 @@ fn is_accepted(bytes: &[u8], sum: u8) -> bool
 
 // The lowest place at which an accepted line begins. At each place the one length that can be is walked over, character by character:
 // their bytes are stored and summed, and the rules on bytes are asked only if each of them is sound.
-pub fn find_line(capture: &[u16]) -> Found
-    ensures { result ≡ found_shown (find_in capture.now) }
+pub fn find_line(capture: &[u16]) -> Result<Spot, Refusal>
+    ensures { result ≡ shown (find_in capture.now) }
 {
-    let mut found = Found::Refused(18);
+    let mut found = Err(Refusal::NO_LINE);
     let mut bytes = [0u8; MOST];
     let mut place: usize = 0;
+    // by hand: a `for` over the places is dearer for each of them
     'places: while place < capture.len() {
         let rest = &capture[place..];
         let length = left_by(rest);
@@ -66,8 +69,7 @@ pub fn find_line(capture: &[u16]) -> Found
             let ended = is_ended(rest, length);
             if ended {
                 let mut sum: u8 = 0;
-                let mut i: usize = 0;
-                while i != length {
+                for i in 0..length {
                     let c = rest[i];
                     if (511 < c) | counts_odd(c) {
                         break;
@@ -75,11 +77,10 @@ pub fn find_line(capture: &[u16]) -> Found
                     let b = (c % 256) as u8;
                     bytes[i] = b;
                     sum = std::num::wrapping_add_u8(sum, b);
-                    i += 1;
-                    if i == length {
+                    if i + 1 == length {
                         let accepted = is_accepted(&bytes[..length], sum);
                         if accepted {
-                            found = Found::At { place, length };
+                            found = Ok(Spot { place, length });
                             break 'places;
                         }
                     }

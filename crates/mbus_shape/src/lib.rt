@@ -31,7 +31,7 @@ const FRAME: u8 = 0xE6;
 pub fn wrong_start(first: u8) -> bool
     ensures { result ≡ wrong_start (first ∷ []) }
 {
-    !((first == ACK) | (first == SHORT) | (first == LONG))
+    !matches!(first, ACK | SHORT | LONG)
 }
 
 // 5 after 68: the count is under 6 or not the second byte and 6.
@@ -41,7 +41,7 @@ fn wrong_length(bytes: &[u8]) -> bool
 {
     let count = bytes.len();
     let second = byte_at(bytes, 1);
-    (count < 6) | !(count == second as usize + 6)
+    (count < 6) | (count != second as usize + 6)
 }
 
 // 7: the last byte is not 16.
@@ -49,8 +49,7 @@ fn wrong_end(bytes: &[u8]) -> bool
     requires { 5 ≤ length bytes.now }
     ensures { result ≡ end_wrong bytes.now }
 {
-    let end = byte_at(bytes, bytes.len() - 1);
-    !(end == END)
+    byte_at(bytes, bytes.len() - 1) != END
 }
 
 // 8 of the short form: the byte before the last is not the sum of those from C up to before it.
@@ -58,8 +57,7 @@ fn wrong_sum(bytes: &[u8], sum: u8) -> bool
     requires { 5 ≤ length bytes.now }
     ensures { result ≡ sum_wrong sum bytes.now }
 {
-    let checksum = byte_at(bytes, bytes.len() - 2);
-    !(checksum == sum)
+    byte_at(bytes, bytes.len() - 2) != sum
 }
 
 // 8 of the long form, by the sum of all bytes: 68, L twice, 68, the bytes that CS is the sum of, CS and 16.
@@ -69,9 +67,8 @@ fn wrong_whole(bytes: &[u8], sum: u8) -> bool
 {
     let second = byte_at(bytes, 1);
     let checksum = byte_at(bytes, bytes.len() - 2);
-    let both = std::num::wrapping_add_u8(second, checksum);
-    let twice = std::num::wrapping_add_u8(both, both);
-    !(sum == std::num::wrapping_add_u8(twice, FRAME))
+    let both = second.wrapping_add(checksum);
+    sum != both.wrapping_add(both).wrapping_add(FRAME)
 }
 
 // L = 4 with C 53, CI 50 and an S of enter or leave.
@@ -84,8 +81,7 @@ fn is_command(field: &[u8]) -> bool
     let control = byte_at(field, 0);
     let information = byte_at(field, 2);
     let s = byte_at(field, 3);
-    let method = is_method(s);
-    (control == 0x53) & (information == 0x50) & (method | (s == NO_METHOD))
+    (control == 0x53) & (information == 0x50) & (is_method(s) | (s == NO_METHOD))
 }
 
 // L of 15 and more with C 08 and CI 72.
@@ -135,8 +131,7 @@ fn short_form(bytes: &[u8]) -> Outline
     }
     let control = byte_at(bytes, 1);
     let address = byte_at(bytes, 2);
-    let sum = std::num::wrapping_add_u8(control, address);
-    if wrong_sum(bytes, sum) {
+    if wrong_sum(bytes, control.wrapping_add(address)) {
         return Outline::Refused(8);
     }
     short_shape(control, address)
@@ -150,7 +145,7 @@ fn long_form(bytes: &[u8], sum: u8) -> Outline
     let second = byte_at(bytes, 1);
     let third = byte_at(bytes, 2);
     let fourth = byte_at(bytes, 3);
-    if !(second == third) | !(fourth == LONG) {
+    if (second != third) | (fourth != LONG) {
         return Outline::Refused(6);
     }
     if wrong_end(bytes) {

@@ -9,34 +9,19 @@ use mbus_rules::Kind;
 pub fn kind_number(kind: Kind) -> u8
     ensures { result ≡ kind_number kind }
 {
-    match kind {
-        Kind::Ack => 1,
-        Kind::Read => 2,
-        Kind::Enter => 3,
-        Kind::Leave => 4,
-        Kind::Data => 5,
-    }
+    kind as u8
 }
 
-// The kind of a number. One that is no kind's is taken as data, which no record of another number is and no request can be.
+// The kind of a number. One that is no kind's is taken as data, which no record of another number is and no request can be:
+// theorems speak of that, so this is no `TryFrom`.
 pub fn kind_in(n: u8) -> Kind
     ensures { result ≡ kind_in n }
 {
-    let ack = n == 1;
-    if ack {
-        return Kind::Ack;
+    match n {
+        1 => Kind::Ack,
+        2 => Kind::Read,
+        3 => Kind::Enter,
+        4 => Kind::Leave,
+        _ => Kind::Data,
     }
-    let read = n == 2;
-    if read {
-        return Kind::Read;
-    }
-    let enter = n == 3;
-    if enter {
-        return Kind::Enter;
-    }
-    let leave = n == 4;
-    if leave {
-        return Kind::Leave;
-    }
-    Kind::Data
 }

@@ -3,12 +3,10 @@
 #![tactic(auto)]
 
 ghost use Rattle.std.specs.Prelude.{◌≡◌};
-ghost use Rattle.base_rules.specs.Answers.{reads, refusal};
 ghost use Rattle.mbus_rules.specs.Lines.{is_method};
-ghost use Rattle.mbus_rules.specs.Telegrams.{bare, blank_entry, shown};
+ghost use Rattle.mbus_rules.specs.Telegrams.{bare, blank_entry};
 
-use base_rules::Outcome;
-use mbus_rules::{Decimal, Entry, Header, Kind, Reading, Telegram, Value};
+use mbus_rules::{Decimal, Entry, Header, Kind, Telegram, Value};
 
 pub mod kinds;
 pub mod table;
@@ -29,7 +27,7 @@ pub const NO_METHOD: u8 = 0x00;
 pub fn is_method(s: u8) -> bool
     ensures { result ≡ is_method s }
 {
-    (s == START_STOP) | (s == SIMULATED_FLOW) | (s == REAL_TIME)
+    matches!(s, START_STOP | SIMULATED_FLOW | REAL_TIME)
 }
 
 // An entry place past the count.
@@ -62,25 +60,5 @@ pub fn bare(kind: Kind, address: u8, method: u8) -> Telegram
         },
         count: 0,
         entries: [blank; 7],
-    }
-}
-
-// The number of a refusal, beside the blank telegram.
-pub fn refused(n: u16) -> Reading
-    ensures { result ≡ shown (refusal n) }
-{
-    Reading {
-        outcome: Outcome::Refused(n),
-        telegram: bare(Kind::Ack, 0, 0),
-    }
-}
-
-// A telegram without header and entries, accepted.
-pub fn plain(kind: Kind, address: u8, method: u8) -> Reading
-    ensures { result ≡ shown (reads (bare kind address method)) }
-{
-    Reading {
-        outcome: Outcome::Accepted,
-        telegram: bare(kind, address, method),
     }
 }

@@ -1,11 +1,12 @@
 // The tables of quantities and structures: their rows, and what is looked up in them. A new unit byte is a row here and one in specs.
 ghost use Rattle.std.specs.Prelude.{◌≡◌, get_or, false};
-ghost use Rattle.mbus_rules.specs.Quantities.{table, row_of, structures, structure_of};
+ghost use Rattle.mbus_rules.specs.Quantities.{table, unit_row, row_of, structures, structure_row, structure_of};
 ghost use Rattle.mbus_rules.specs.Entries.{lacking};
 
 use mbus_rules::{StructureRow, UnitRow};
 
-// The quantities in the table's order, and a number for a unit byte that is in no row.
+// The quantities in the table's order, and a number for a unit byte that is in no row. (Numbers and no enum: the definitions look marks up by
+// them, and C is told them.)
 pub const ENERGY: u8 = 0;
 
 pub const VOLUME: u8 = 1;
@@ -22,7 +23,7 @@ pub const TIME: u8 = 6;
 
 pub const UNKNOWN: u8 = 7;
 
-// Their units; a point in time has none.
+// Their units; a point in time has none. (Numbers too, as C is told them.)
 const NO_UNIT: u8 = 0;
 
 const WATT_HOUR: u8 = 1;
@@ -74,23 +75,48 @@ pub const EIGHT_BYTES: u8 = 0x07;
 // How many rows the table of quantities has.
 const ROWS: usize = 8;
 
-// The table: first and last unit byte, quantity, unit, power of ten, whether it must be there, whether it may be below zero.
+// A row of the table: first and last unit byte, quantity, unit, power of ten, whether it must be there, whether it may be below zero.
+fn unit_row(
+    first: u8,
+    last: u8,
+    quantity: u8,
+    unit: u8,
+    divisor: u8,
+    less: u8,
+    required: bool,
+    may_fall: bool,
+) -> UnitRow
+    ensures { result ≡ unit_row first last quantity unit divisor less required may_fall }
+{
+    UnitRow {
+        first,
+        last,
+        quantity,
+        unit,
+        divisor,
+        less,
+        required,
+        may_fall,
+    }
+}
+
+// The table.
 fn rows() -> [UnitRow; ROWS]
     ensures { result ≡ table }
 {
     [
-        UnitRow(0x00, 0x07, ENERGY, WATT_HOUR, N, 3, true, false),
-        UnitRow(0x08, 0x0F, ENERGY, JOULE, N, 0, true, false),
-        UnitRow(0x10, 0x17, VOLUME, CUBIC_METRE, N, 6, true, false),
-        UnitRow(0x28, 0x2F, POWER, WATT, N, 3, false, false),
-        UnitRow(0x38, 0x3F, FLOW, CUBIC_METRE_AN_HOUR, N, 6, false, true),
-        UnitRow(0x58, 0x5B, INLET, DEGREE, M, 3, true, true),
-        UnitRow(0x5C, 0x5F, OUTLET, DEGREE, M, 3, true, true),
-        UnitRow(0x6D, 0x6D, TIME, NO_UNIT, NONE, 0, true, false),
+        unit_row(0x00, 0x07, ENERGY, WATT_HOUR, N, 3, true, false),
+        unit_row(0x08, 0x0F, ENERGY, JOULE, N, 0, true, false),
+        unit_row(0x10, 0x17, VOLUME, CUBIC_METRE, N, 6, true, false),
+        unit_row(0x28, 0x2F, POWER, WATT, N, 3, false, false),
+        unit_row(0x38, 0x3F, FLOW, CUBIC_METRE_AN_HOUR, N, 6, false, true),
+        unit_row(0x58, 0x5B, INLET, DEGREE, M, 3, true, true),
+        unit_row(0x5C, 0x5F, OUTLET, DEGREE, M, 3, true, true),
+        unit_row(0x6D, 0x6D, TIME, NO_UNIT, NONE, 0, true, false),
     ]
 }
 
-// The row that has the unit byte.
+// The row that has the unit byte. (Here and below rows are counted: over a `for` the back end keeps the table on the stack, which is dearer.)
 pub fn row_of(unit: u8) -> UnitRow
     ensures { result ≡ row_of unit }
 {
@@ -98,13 +124,13 @@ pub fn row_of(unit: u8) -> UnitRow
     let mut i = 0;
     while i < ROWS {
         let row = rows[i];
-        let inside = (row.0 <= unit) & (unit <= row.1);
+        let inside = (row.first <= unit) & (unit <= row.last);
         if inside {
             return row;
         }
         i += 1;
     }
-    UnitRow(0, 0, UNKNOWN, NO_UNIT, NONE, 0, false, false)
+    unit_row(0, 0, UNKNOWN, NO_UNIT, NONE, 0, false, false)
 }
 
 // A required quantity is not marked.
@@ -116,8 +142,8 @@ pub fn any_missing(marks: [bool; 8]) -> bool
     let mut i = 0;
     while i < ROWS {
         let row = rows[i];
-        let quantity = row.2 as usize;
-        missing = missing | (row.6 & !marks[quantity]);
+        let quantity = row.quantity as usize;
+        missing = missing | (row.required & !marks[quantity]);
         i += 1;
     }
     missing
@@ -126,21 +152,33 @@ pub fn any_missing(marks: [bool; 8]) -> bool
 // How many rows the structures have.
 const STRUCTURES: usize = 10;
 
-// The structures: the byte, the bytes of a value, whether they are packed digits, whether binary.
+// A row of the structures: the byte, the bytes of a value, whether they are packed digits, whether binary.
+fn structure_row(structure: u8, width: usize, packed: bool, binary: bool) -> StructureRow
+    ensures { result ≡ structure_row structure width packed binary }
+{
+    StructureRow {
+        structure,
+        width,
+        packed,
+        binary,
+    }
+}
+
+// The structures.
 fn structures() -> [StructureRow; STRUCTURES]
     ensures { result ≡ structures }
 {
     [
-        StructureRow(FOUR_DIGITS, 2, true, false),
-        StructureRow(SIX_DIGITS, 3, true, false),
-        StructureRow(EIGHT_DIGITS, 4, true, false),
-        StructureRow(TWELVE_DIGITS, 6, true, false),
-        StructureRow(ONE_BYTE, 1, false, true),
-        StructureRow(TWO_BYTES, 2, false, true),
-        StructureRow(THREE_BYTES, 3, false, true),
-        StructureRow(FOUR_BYTES, 4, false, true),
-        StructureRow(SIX_BYTES, 6, false, true),
-        StructureRow(EIGHT_BYTES, 8, false, true),
+        structure_row(FOUR_DIGITS, 2, true, false),
+        structure_row(SIX_DIGITS, 3, true, false),
+        structure_row(EIGHT_DIGITS, 4, true, false),
+        structure_row(TWELVE_DIGITS, 6, true, false),
+        structure_row(ONE_BYTE, 1, false, true),
+        structure_row(TWO_BYTES, 2, false, true),
+        structure_row(THREE_BYTES, 3, false, true),
+        structure_row(FOUR_BYTES, 4, false, true),
+        structure_row(SIX_BYTES, 6, false, true),
+        structure_row(EIGHT_BYTES, 8, false, true),
     ]
 }
 
@@ -152,11 +190,11 @@ pub fn structure_of(structure: u8) -> StructureRow
     let mut i = 0;
     while i < STRUCTURES {
         let row = rows[i];
-        let same = structure == row.0;
+        let same = structure == row.structure;
         if same {
             return row;
         }
         i += 1;
     }
-    StructureRow(0, 0, false, false)
+    structure_row(0, 0, false, false)
 }

@@ -1,7 +1,7 @@
 // 20: the telegrams that no accepted line reads as.
 #![tactic(auto)]
 
-ghost use Rattle.std.specs.Prelude.{◌≡◌, take, drop, ◌^◌, ◌≤◌, not};
+ghost use Rattle.std.specs.Prelude.{◌≡◌, ◌^◌, ◌≤◌, not};
 ghost use Rattle.base_rules.specs.Lists.{any};
 ghost use Rattle.mbus_rules.specs.Quantities.{width_of};
 ghost use Rattle.mbus_rules.specs.Signs.{fits_signed};
@@ -32,25 +32,21 @@ fn used_value(value: Value) -> bool
 fn used_entry(e: Entry) -> bool
     ensures { result ≡ used_entry e }
 {
-    let value = e.value;
-    let used = used_value(value);
-    (0 < e.structure) | (0 < e.unit) | used
+    (0 < e.structure) | (0 < e.unit) | used_value(e.value)
 }
 
-// An entry place from the given one on is not blank.
-fn any_used(entries: [Entry; 7], from: usize) -> bool
-    ensures { result ≡ any used_entry (drop from entries) }
+// One of the entry places is not blank.
+fn any_used(entries: &[Entry]) -> bool
+    ensures { result ≡ any used_entry entries.now }
 {
     let mut found = false;
-    let mut i = from;
-    while i < 7 {
-        let e = entries[i];
-        found = found | used_entry(e);
-        i += 1;
+    for entry in entries {
+        found |= used_entry(*entry);
     }
     found
 }
 
+// A field of the header is not zero. (Field by field, as the definition is: a comparison with a blank header is no plainer.)
 fn used_header(h: Header) -> bool
     ensures { result ≡ used_header h }
 {
@@ -66,40 +62,24 @@ fn used_header(h: Header) -> bool
 fn used_body(t: Telegram) -> bool
     ensures { result ≡ used_body t }
 {
-    let header = t.header;
-    let entries = t.entries;
-    let headed = used_header(header);
-    let entered = any_used(entries, 0);
-    headed | (0 < t.count) | entered
+    used_header(t.header) | (0 < t.count) | any_used(&t.entries)
 }
 
-// One more than the greatest number that so many bytes have digits for. The widths of the table's digits come first.
+// One more than the greatest number that so many bytes have digits for.
 fn limit_of(width: usize) -> u64
     requires { width ≤ 8 }
     ensures { result ≡ 100 ^ width }
 {
-    if width == 4 {
-        return 100000000;
-    }
-    if width == 2 {
-        return 10000;
-    }
-    if width == 3 {
-        return 1000000;
-    }
-    if width == 6 {
-        return 1000000000000;
-    }
-    if width < 2 {
-        return if width == 0 { 1 } else { 100 };
-    }
-    if width < 6 {
-        return 10000000000;
-    }
-    if width < 8 {
-        100000000000000
-    } else {
-        10000000000000000
+    match width {
+        0 => 1,
+        1 => 100,
+        2 => 10_000,
+        3 => 1_000_000,
+        4 => 100_000_000,
+        5 => 10_000_000_000,
+        6 => 1_000_000_000_000,
+        7 => 100_000_000_000_000,
+        _ => 10_000_000_000_000_000,
     }
 }
 
@@ -109,11 +89,10 @@ fn is_long(structure: u8, count: i64) -> bool
 {
     let limit = limit_of(width_of(structure));
     let size = size_of(count);
-    let below = is_below_zero(count);
-    if below {
+    if is_below_zero(count) {
         return (limit - 1) / 10 < size;
     }
-    !(size < limit)
+    limit <= size
 }
 
 // A value of the wrong kind for its unit or its structure, too long for its structure, below zero where none is allowed, or a point in
@@ -127,22 +106,18 @@ fn wrong_value(structure: u8, unit: u8, value: Value) -> bool
             if binary {
                 return true;
             }
-            let long = is_long(structure, d.count);
-            let below = is_below_zero(d.count);
-            let may = may_fall(unit);
-            (unit == UNIT_OF_TIME) | long | (below & !may)
+            (unit == UNIT_OF_TIME)
+                | is_long(structure, d.count)
+                | (is_below_zero(d.count) & !may_fall(unit))
         }
         Value::Binary(w) => {
-            let fits = fits_binary(width_of(structure), w.count);
-            let below = is_below_zero(w.count);
-            let may = may_fall(unit);
-            (unit == UNIT_OF_TIME) | !binary | !fits | (below & !may)
+            (unit == UNIT_OF_TIME)
+                | !binary
+                | !fits_binary(width_of(structure), w.count)
+                | (is_below_zero(w.count) & !may_fall(unit))
         }
         Value::Time(m) => {
-            let date = date_exists(m);
-            let time = time_exists(m);
-            let weekday = weekday_exists(m);
-            !(unit == UNIT_OF_TIME) | !date | !time | !weekday
+            (unit != UNIT_OF_TIME) | !date_exists(m) | !time_exists(m) | !weekday_exists(m)
         }
     }
 }
@@ -150,38 +125,27 @@ fn wrong_value(structure: u8, unit: u8, value: Value) -> bool
 fn wrong_entry(e: Entry) -> bool
     ensures { result ≡ wrong_entry e }
 {
-    let value = e.value;
-    let paired = is_paired(e.structure, e.unit);
-    let wrong = wrong_value(e.structure, e.unit, value);
-    !paired | wrong
+    !is_paired(e.structure, e.unit) | wrong_value(e.structure, e.unit, e.value)
 }
 
 fn unwritten_header(h: Header) -> bool
     ensures { result ≡ unwritten_header h }
 {
-    let maker = maker_named(h.maker);
-    let meter_type = heat_meter(h.meter_type);
-    !(h.number < 100000000) | !maker | !meter_type
+    (100_000_000 <= h.number) | !maker_named(h.maker) | !heat_meter(h.meter_type)
 }
 
-// Of the entries within the count: one is wrong, one repeats a quantity, or a required quantity is missing.
-fn wrong_entries(entries: [Entry; 7], count: usize) -> bool
-    requires { count ≤ 7 }
-    ensures { result ≡ wrong_together (take count entries) }
+// Of the entries: one is wrong, one repeats a quantity, or a required quantity is missing.
+fn wrong_entries(entries: &[Entry]) -> bool
+    ensures { result ≡ wrong_together entries.now }
 {
     let mut seen = [false; 8];
     let mut wrong = false;
-    let mut i = 0;
-    while i < count {
-        let e = entries[i];
-        let quantity = quantity_of(e.unit) as usize;
-        let bad = wrong_entry(e);
-        wrong = wrong | bad | seen[quantity];
+    for entry in entries {
+        let quantity = quantity_of(entry.unit) as usize;
+        wrong = wrong | wrong_entry(*entry) | seen[quantity];
         seen[quantity] = true;
-        i += 1;
     }
-    let missing = any_missing(seen);
-    wrong | missing
+    wrong | any_missing(seen)
 }
 
 // A header, a count or entries that no data line has.
@@ -192,41 +156,18 @@ fn wrong_data(t: Telegram) -> bool
     if 7 < count {
         return true;
     }
-    let header = t.header;
-    let entries = t.entries;
-    let unwritten = unwritten_header(header);
-    let wrong = wrong_entries(entries, count);
-    let past = any_used(entries, count);
-    unwritten | wrong | past
+    unwritten_header(t.header) | wrong_entries(&t.entries[..count]) | any_used(&t.entries[count..])
 }
 
 // No accepted line reads as this telegram.
+#[tactic(auto, unfolding(mbus_rules::specs::Writing::unwritable))]
 pub fn is_unwritable(t: Telegram) -> bool
     ensures { result ≡ unwritable t }
 {
-    let kind = t.kind;
-    let method = t.method;
-    match kind {
-        Kind::Ack => {
-            let used = used_body(t);
-            (0 < t.address) | (0 < method) | used
-        }
-        Kind::Read => {
-            let used = used_body(t);
-            (0 < method) | used
-        }
-        Kind::Enter => {
-            let used = used_body(t);
-            let known = is_method(method);
-            !known | used
-        }
-        Kind::Leave => {
-            let used = used_body(t);
-            (0 < method) | used
-        }
-        Kind::Data => {
-            let wrong = wrong_data(t);
-            (0 < method) | wrong
-        }
+    match t.kind {
+        Kind::Ack => (0 < t.address) | (0 < t.method) | used_body(t),
+        Kind::Read | Kind::Leave => (0 < t.method) | used_body(t),
+        Kind::Enter => !is_method(t.method) | used_body(t),
+        Kind::Data => (0 < t.method) | wrong_data(t),
     }
 }

@@ -1,6 +1,5 @@
 // The bytes of a telegram, without parity.
 ghost use Rattle.std.specs.Prelude.{◌≡◌, true, false, [], ◌∷◌, ◌++◌, ◌+◌, ◌*◌, ◌/◌, ◌%◌, ◌≤◌, length, take};
-ghost use Rattle.base_digits.specs.Digits.{packed};
 ghost use Rattle.mbus_rules.specs.Signs.{fits_signed};
 ghost use Rattle.base_numbers.specs.TwosComplement.{binary_bytes};
 ghost use Rattle.mbus_rules.specs.Quantities.{width_of};
@@ -10,25 +9,12 @@ ghost use Rattle.mbus_writing.specs.Laying.{signed_six, eight_bytes, exists, Ent
 ghost use Rattle.mbus_writing.specs.Laying.{FrameClosed, BytesLaid, DataFits};
 
 use base_characters::sum_of;
-use base_digits::two_digits;
+use base_digits::packed_digits;
 use base_lent::lay;
 use base_numbers::bytes_of;
 use base_numbers::signed::{is_below_zero, size_of, word_of};
 use mbus_fields::quantities::width_of;
 use mbus_rules::{Entry, Header, Kind, Moment, Telegram, Value};
-
-// The digits in six bytes, no value has more.
-fn packed_six(n: u64) -> [u8; 6]
-    ensures { result ≡ packed 6 n }
-{
-    let first = two_digits(n);
-    let second = two_digits(n / 100);
-    let third = two_digits(n / 100 / 100);
-    let fourth = two_digits(n / 100 / 100 / 100);
-    let fifth = two_digits(n / 100 / 100 / 100 / 100);
-    let sixth = two_digits(n / 100 / 100 / 100 / 100 / 100);
-    [first, second, third, fourth, fifth, sixth]
-}
 
 fn moment_bytes(m: Moment) -> [u8; 6]
     requires { (date_exists m ≡ true) × (time_exists m ≡ true) × (weekday_exists m ≡ true) }
@@ -45,9 +31,8 @@ fn signed_six(width: usize, count: i64) -> [u8; 6]
     requires { (fits_signed width count ≡ true) × (width ≤ 6) }
     ensures { result ≡ signed_six width count }
 {
-    let below = is_below_zero(count);
-    let mut b = packed_six(size_of(count));
-    if below {
+    let mut b = packed_digits(size_of(count));
+    if is_below_zero(count) {
         b[width - 1] = 0xF0 + b[width - 1] % 16;
     }
     b
@@ -57,15 +42,16 @@ fn signed_six(width: usize, count: i64) -> [u8; 6]
 fn widened(b: [u8; 6]) -> [u8; 8]
     ensures { result ≡ b ++ (0 ∷ 0 ∷ []) }
 {
-    [b[0], b[1], b[2], b[3], b[4], b[5], 0, 0]
+    let mut eight = [0; 8];
+    eight[..6].copy_from_slice(&b);
+    eight
 }
 
 // The number in eight bytes of binary: the lowest of them are the number in so many.
 fn binary_eight(count: i64) -> [u8; 8]
     ensures { result ≡ binary_bytes 8 count }
 {
-    let word = word_of(count);
-    bytes_of(word)
+    bytes_of(word_of(count))
 }
 
 // The value in eight bytes, of which the width says how many count.
@@ -84,32 +70,18 @@ fn entry_bytes(e: Entry) -> [u8; 10]
     requires { exists (width_of e.structure) e.value ≡ true }
     ensures { result ≡ e.structure ∷ e.unit ∷ eight_bytes (width_of e.structure) e.value }
 {
-    let value = e.value;
-    let width = width_of(e.structure);
-    let b = value_bytes(width, value);
-    [
-        e.structure,
-        e.unit,
-        b[0],
-        b[1],
-        b[2],
-        b[3],
-        b[4],
-        b[5],
-        b[6],
-        b[7],
-    ]
+    let mut bytes = [0; 10];
+    bytes[0] = e.structure;
+    bytes[1] = e.unit;
+    bytes[2..].copy_from_slice(&value_bytes(width_of(e.structure), e.value));
+    bytes
 }
 
 // The start of a data line, up to its entries.
 fn head_bytes(l: u8, address: u8, h: Header) -> [u8; 19]
     ensures { result ≡ 0x68 ∷ l ∷ l ∷ 0x68 ∷ 0x08 ∷ address ∷ 0x72 ∷ bytes_of_header h }
 {
-    let n = h.number as u64;
-    let first = two_digits(n);
-    let second = two_digits(n / 100);
-    let third = two_digits(n / 100 / 100);
-    let fourth = two_digits(n / 100 / 100 / 100);
+    let [first, second, third, fourth] = packed_digits::<4>(h.number as u64);
     let low = (h.maker % 256) as u8;
     let high = (h.maker / 256) as u8;
     [
@@ -152,11 +124,8 @@ fn put_entries(entries: [Entry; 7], count: usize, bytes: &mut [u8]) -> usize
     ensures { EntriesLaid (take count entries) bytes.old bytes.new result }
 {
     let mut at = 19;
-    let mut i = 0;
-    while i < count {
-        let e = entries[i];
-        at = put_entry(bytes, at, e);
-        i += 1;
+    for entry in &entries[..count] {
+        at = put_entry(bytes, at, *entry);
     }
     at
 }
@@ -191,11 +160,8 @@ fn put_data(t: Telegram, bytes: &mut [u8]) -> usize
     requires { DataFits t bytes.old }
     ensures { BytesLaid (bytes_of_kind Kind.Data t) bytes.new result }
 {
-    let header = t.header;
-    let entries = t.entries;
-    let end = put_entries(entries, t.count, bytes);
-    let head = head_bytes((end - 4) as u8, t.address, header);
-    lay(bytes, 0, &head);
+    let end = put_entries(t.entries, t.count, bytes);
+    lay(bytes, 0, &head_bytes((end - 4) as u8, t.address, t.header));
     close(bytes, 4, end)
 }
 
@@ -204,8 +170,7 @@ pub(crate) fn put_bytes(t: Telegram, bytes: &mut [u8]) -> usize
     requires { (unwritable t ≡ false) × (length bytes.old ≡ longest) }
     ensures { BytesLaid (bytes_of_kind t.kind t) bytes.new result }
 {
-    let kind = t.kind;
-    match kind {
+    match t.kind {
         Kind::Ack => {
             lay(bytes, 0, &[0xE5]);
             1

@@ -2,22 +2,20 @@
 #![tactic(auto)]
 
 ghost use Rattle.std.specs.Prelude.{◌≡◌, length, drop};
-ghost use Rattle.base_rules.specs.Answers.{refusal};
+ghost use Rattle.base_rules.specs.Shown.{shown};
 ghost use Rattle.mbus_rules.specs.Lines.{is_method};
-ghost use Rattle.meter_steps.specs.Meters.{shown_setup};
-ghost use Rattle.base_lent.specs.Recorded.{no_record};
 ghost use Rattle.mbus_records.specs.Telegrams.{telegram_bytes};
 ghost use Rattle.meter_record.specs.MeterRecords.{mode_number, method_of, since_of, meter_head, meter_front, meter_bytes, mode_in, meter_in};
 ghost use Rattle.meter_record.specs.MeterRecords.{wrong_mode, wrong_pair, unreached, recalled, meter_from};
 
 use base_lent::{is_same, lay};
 use base_numbers::{bytes_of, number_at, put_record};
-use base_rules::Outcome;
+use base_rules::Refusal;
 use bench_clock::Clock;
 use mbus_records::telegrams::{telegram_bytes, telegram_from};
-use mbus_rules::{Kind, Telegram};
-use mbus_telegrams::{is_method, plain};
-use meter_steps::{Core, Meter, Mode, Setup};
+use mbus_rules::Telegram;
+use mbus_telegrams::is_method;
+use meter_steps::{Core, Meter, Mode};
 use meter_template::{Pair, TOTAL_MOST, is_unfit};
 
 // The bytes of a meter's record.
@@ -179,53 +177,32 @@ fn is_unreached(m: Meter) -> bool
     unfit | stuck | low | high
 }
 
-// No meter: refused by 101, beside a meter set up with nothing.
-fn no_meter() -> Setup
-    ensures { result ≡ shown_setup (refusal no_record) }
-{
-    let blank = plain(Kind::Ack, 0, 0);
-    let none = Meter::set_up(0, blank.telegram);
-    let meter = none.meter;
-    Setup {
-        outcome: Outcome::Refused(101),
-        meter,
-    }
-}
-
 // The meter that the bytes and a template give, if they are its record and some history leads to it. The template's own bytes were held
 // against it when it was taken, and are not again.
-fn recalled(b: &[u8], template: Telegram) -> Setup
+fn recalled(b: &[u8], template: Telegram) -> Result<Meter, Refusal>
     requires { (length b.now ≡ 192) × (telegram_bytes template ≡ drop 56 b.now) }
-    ensures { result ≡ shown_setup (recalled b.now (meter_in b.now template)) }
+    ensures { result ≡ shown (recalled b.now (meter_in b.now template)) }
 {
     let meter = meter_in(b, template);
     let again = front_bytes(meter);
     let same = is_same(&b[..56], &again);
     let other = !same;
     if other {
-        return no_meter();
+        return Err(Refusal::NO_RECORD);
     }
-    let unreached = is_unreached(meter);
-    if unreached {
-        return no_meter();
+    if is_unreached(meter) {
+        return Err(Refusal::NO_RECORD);
     }
-    Setup {
-        outcome: Outcome::Accepted,
-        meter,
-    }
+    Ok(meter)
 }
 
 // The meter whose record the bytes are, or refused by 101.
-pub fn meter_from(b: &[u8]) -> Setup
-    ensures { result ≡ shown_setup (meter_from b.now) }
+pub fn meter_from(b: &[u8]) -> Result<Meter, Refusal>
+    ensures { result ≡ shown (meter_from b.now) }
 {
     if b.len() != SIZE {
-        return no_meter();
+        return Err(Refusal::NO_RECORD);
     }
-    let reading = telegram_from(&b[56..192]);
-    let outcome = reading.outcome;
-    if let Outcome::Refused(_) = outcome {
-        return no_meter();
-    }
-    recalled(b, reading.telegram)
+    let template = telegram_from(&b[56..192])?;
+    recalled(b, template)
 }

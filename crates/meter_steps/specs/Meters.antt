@@ -1,15 +1,15 @@
 -- 01, "The simulated meter".
-use Rattle.std.specs.Prelude.{ℕ, Bool, cond, ◌||◌, List, eqb}
+use Rattle.std.specs.Prelude.{ℕ, Bool, cond, ◌||◌, List, eqb, Option, None, Some, Ok, Err}
 use Rattle.bench_clock.specs.Times.{due, earlier}
 use Rattle.bench_clock.specs.declared.Clock.{Clock}
-use Rattle.base_rules.specs.declared.Outcome.TheVariants as outcomes
 use Rattle.mbus_rules.specs.declared.Telegram.{Telegram}
 use Rattle.mbus_rules.specs.declared.Request.{Request}
 use Rattle.mbus_rules.specs.declared.Request.TheVariants.{Read, Enter, Leave}
 use Rattle.mbus_rules.specs.declared.Outline.{Outline}
 use Rattle.mbus_rules.specs.declared.Outline.TheVariants as outlines
 use Rattle.base_rules.specs.Answers.{Answer, reads, refusal, refuse}
-use Rattle.mbus_rules.specs.Telegrams.{ack, blank}
+use Rattle.base_rules.specs.Shown.{refused_by}
+use Rattle.mbus_rules.specs.Telegrams.{ack}
 use Rattle.mbus_rules.specs.Lines.{read_line}
 use Rattle.mbus_rules.specs.Outlines.{outlined}
 use Rattle.meter_template.specs.declared.Pair.{Pair}
@@ -17,10 +17,7 @@ use Rattle.meter_template.specs.Templates.{unfit_template, pair_in, raised, data
 use Rattle.meter_steps.specs.declared.Mode.{Mode}
 use Rattle.meter_steps.specs.declared.Mode.TheVariants.{Use, Verifying}
 use Rattle.meter_steps.specs.declared.Core.{Core}
-use Rattle.meter_steps.specs.declared.Reply.{Reply}
-use Rattle.meter_steps.specs.declared.Reply.TheVariants as replies
 use Rattle.meter_steps.specs.declared.Meter.{Meter}
-use Rattle.meter_steps.specs.declared.Setup.{Setup}
 use Rattle.meter_steps.specs.declared.Step.{Step}
 
 -- ---- set-up
@@ -166,30 +163,18 @@ measured_at m v e t = refuse 70 (earlier m.last.0 t.0) (measured (returned t m.c
 
 -- ---- the program's answers: 01's number and values for each
 
--- a refusal has a meter set up with nothing beside it
-abbrev pub shown_setup : Answer Meter → Setup
-shown_setup (refusal n) = record { outcome = outcomes.Refused n; meter = begun_meter 0 blank }
-shown_setup (reads m) = record { outcome = outcomes.Accepted; meter = m }
-
-abbrev pub reply_of : Said → Reply
-reply_of silence = replies.Silence
-reply_of (says t) = replies.Says
-
-abbrev pub telegram_of : Said → Telegram
-telegram_of silence = blank
-telegram_of (says t) = t
+-- a telegram, or silence
+abbrev pub said_of : Said → Option Telegram
+said_of silence = None
+said_of (says t) = Some t
 
 -- a step that was taken at t
 abbrev pub taken_at : Clock → Deed → Step
-taken_at t d = record { meter = record { last = t; core = d.core }; reply = reply_of d.said; telegram = telegram_of d.said }
-
--- a step with no telegram but the ack, which is also the blank one
-abbrev pub plain_step : Meter → Reply → Step
-plain_step m r = record { meter = m; reply = r; telegram = blank }
+taken_at t d = record { meter = record { last = t; core = d.core }; reply = Ok (said_of d.said) }
 
 -- a refusal leaves the meter as it stood
 abbrev pub refused_step : Meter → ℕ → Step
-refused_step m n = plain_step m (replies.Refused n)
+refused_step m n = record { meter = m; reply = Err (refused_by n) }
 
 abbrev pub shown_meter_step : Meter → Clock → Answer Deed → Step
 shown_meter_step m t (refusal n) = refused_step m n

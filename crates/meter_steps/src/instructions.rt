@@ -1,22 +1,20 @@
 // What the return and each instruction make of a meter.
-ghost use Rattle.std.specs.Prelude.{◌≡◌};
+ghost use Rattle.std.specs.Prelude.{◌≡◌, Ok};
 ghost use Rattle.mbus_rules.specs.Telegrams.{ack};
 ghost use Rattle.meter_steps.specs.Meters.{mode_at, force_of, cleared_from, instructed_at, returned, in_force, with_force, with_mode, entered, read};
-ghost use Rattle.meter_steps.specs.Meters.{data_answer, address_of, instructed, asked, hears, quiet, answers, taken_at, plain_step};
+ghost use Rattle.meter_steps.specs.Meters.{data_answer, address_of, instructed, asked, hears, quiet, answers, taken_at};
 
-use crate::{Core, Meter, Mode, Reply, Step};
+use crate::{Core, Meter, Mode, Step};
 use bench_clock::Clock;
 use mbus_rules::{Kind, Outline, Request, Telegram};
-use mbus_telegrams::{BROADCAST, plain};
+use mbus_telegrams::{BROADCAST, bare};
 use meter_template::{Pair, data_with, raised};
 
-// The telegram ack, which is also the blank one.
-pub(crate) fn acknowledgement() -> Telegram
+// The telegram ack.
+fn acknowledgement() -> Telegram
     ensures { result ≡ ack }
 {
-    let reading = plain(Kind::Ack, 0, 0);
-    let telegram = reading.telegram;
-    telegram
+    bare(Kind::Ack, 0, 0)
 }
 
 // The address that a request is sent to.
@@ -24,9 +22,7 @@ fn address_of(request: Request) -> u8
     ensures { result ≡ address_of request }
 {
     match request {
-        Request::Read(address) => address,
-        Request::Enter(address, _) => address,
-        Request::Leave(address) => address,
+        Request::Read(address) | Request::Enter(address, _) | Request::Leave(address) => address,
     }
 }
 
@@ -37,14 +33,7 @@ impl Mode {
     {
         match self {
             Mode::Use => Mode::Use,
-            Mode::Verifying(method, since) => {
-                let due = since.due(t);
-                if due {
-                    Mode::Use
-                } else {
-                    Mode::Verifying(method, since)
-                }
-            }
+            Mode::Verifying(_, since) => if since.due(t) { Mode::Use } else { self },
         }
     }
 
@@ -83,15 +72,16 @@ impl Mode {
 }
 
 impl Core {
-    // A step that says no more than ack, and leaves this meter with the time of its last step.
-    pub(crate) fn replies(self, last: Clock, reply: Reply) -> Step
-        ensures { result ≡ plain_step (record { last = last; core = self }) reply }
+    // A step at t that leaves this meter and says this much.
+    fn says(self, t: Clock, said: Option<Telegram>) -> Step
+        ensures { result ≡ record { meter = record { last = t; core = self }; reply = Ok said } }
     {
-        let telegram = acknowledgement();
         Step {
-            meter: Meter { last, core: self },
-            reply,
-            telegram,
+            meter: Meter {
+                last: t,
+                core: self,
+            },
+            reply: Ok(said),
         }
     }
 
@@ -99,8 +89,7 @@ impl Core {
     pub(crate) fn in_force(self) -> Pair
         ensures { result ≡ in_force self }
     {
-        let mode = self.mode;
-        mode.force(self.used, self.verified)
+        self.mode.force(self.used, self.verified)
     }
 
     // A measure at t that gave these totals: they stand in the pair in force.
@@ -108,10 +97,9 @@ impl Core {
         ensures { result ≡ taken_at t (quiet (with_force self totals)) }
     {
         let mut core = self;
-        let mode = self.mode;
-        core.used = mode.force(totals, self.used);
-        core.verified = mode.force(self.verified, totals);
-        core.replies(t, Reply::Silence)
+        core.used = self.mode.force(totals, self.used);
+        core.verified = self.mode.force(self.verified, totals);
+        core.says(t, None)
     }
 
     // The same meter in another mode.
@@ -125,18 +113,15 @@ impl Core {
     pub(crate) fn returned(self, t: Clock) -> Core
         ensures { result ≡ returned t self }
     {
-        let before = self.mode;
-        let mode = before.at(t);
-        self.with_mode(mode)
+        self.with_mode(self.mode.at(t))
     }
 
     // The meter after an enter at t.
     fn entered(self, method: u8, t: Clock) -> Core
         ensures { result ≡ entered t method self }
     {
-        let before = self.mode;
         let mut core = self.with_mode(Mode::Verifying(method, t));
-        core.verified = before.cleared(self.verified);
+        core.verified = self.mode.cleared(self.verified);
         core
     }
 
@@ -144,9 +129,7 @@ impl Core {
     fn read(self, t: Clock) -> Core
         ensures { result ≡ read t self }
     {
-        let before = self.mode;
-        let mode = before.instructed(t);
-        let mut core = self.with_mode(mode);
+        let mut core = self.with_mode(self.mode.instructed(t));
         core.template = raised(self.template);
         core
     }
@@ -155,8 +138,7 @@ impl Core {
     fn answer(self) -> Telegram
         ensures { result ≡ data_answer self }
     {
-        let pair = self.in_force();
-        data_with(self.address, pair, self.template)
+        data_with(self.address, self.in_force(), self.template)
     }
 
     // A read at t.
@@ -164,12 +146,7 @@ impl Core {
         ensures { result ≡ taken_at t (answers (read t self) (data_answer (read t self))) }
     {
         let core = self.read(t);
-        let telegram = core.answer();
-        Step {
-            meter: Meter { last: t, core },
-            reply: Reply::Says,
-            telegram,
-        }
+        core.says(t, Some(core.answer()))
     }
 
     // An instruction at t.
@@ -177,17 +154,9 @@ impl Core {
         ensures { result ≡ taken_at t (instructed t self request) }
     {
         match request {
-            Request::Enter(_, method) => {
-                let core = self.entered(method, t);
-                return core.replies(t, Reply::Says);
-            }
-            Request::Leave(_) => {
-                let left = self.with_mode(Mode::Use);
-                return left.replies(t, Reply::Says);
-            }
-            Request::Read(_) => {
-                return self.answered(t);
-            }
+            Request::Enter(_, method) => self.entered(method, t).says(t, Some(acknowledgement())),
+            Request::Leave(_) => self.with_mode(Mode::Use).says(t, Some(acknowledgement())),
+            Request::Read(_) => self.answered(t),
         }
     }
 
@@ -200,7 +169,7 @@ impl Core {
         if own {
             return self.instructed(request, t);
         }
-        self.replies(t, Reply::Silence)
+        self.says(t, None)
     }
 
     // A line at t, by its outline, after the return.
@@ -208,9 +177,9 @@ impl Core {
         ensures { result ≡ taken_at t (hears t (returned t self) outline) }
     {
         let now = self.returned(t);
-        if let Outline::Asks(request) = outline {
-            return now.asked(request, t);
+        match outline {
+            Outline::Asks(request) => now.asked(request, t),
+            Outline::Refused(_) | Outline::Ack | Outline::Data(_) => now.says(t, None),
         }
-        now.replies(t, Reply::Silence)
     }
 }

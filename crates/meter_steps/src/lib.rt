@@ -3,18 +3,19 @@
 #![tactic(auto)]
 
 ghost use Rattle.std.specs.Prelude.{◌≡◌};
-ghost use Rattle.meter_steps.specs.Meters.{begun_meter, set_up, heard_at, measured_at, shown_setup, shown_meter_step};
+ghost use Rattle.meter_steps.specs.Meters.{refused_step, begun_meter, set_up, heard_at, measured_at, shown_meter_step};
+ghost use Rattle.base_rules.specs.Shown.{shown};
 
-use base_rules::Outcome;
+use base_rules::Refusal;
 use bench_clock::Clock;
-use instructions::acknowledgement;
 use mbus_reading::outline_of;
 use mbus_rules::Telegram;
-use meter_template::{Pair, Sum, is_unfit};
+use meter_template::{Pair, is_unfit};
 
 mod instructions;
 
 // In use, or in verification with the method and the time of the last instruction.
+// No Option: document 01 names both modes, and the theorems speak of Use and Verifying.
 #[derive(Clone, Copy)]
 pub enum Mode {
     Use,
@@ -39,74 +40,59 @@ pub struct Meter {
     pub core: Core,
 }
 
-// What set-up gives: the meter, or the number of a refusal and a meter set up with nothing.
-#[derive(Clone, Copy)]
-pub struct Setup {
-    pub outcome: Outcome,
-    pub meter: Meter,
-}
-
-// What a step answers: silence, a telegram, or the number of a refusal.
-#[derive(Clone, Copy)]
-pub enum Reply {
-    Silence,
-    Says,
-    Refused(u16),
-}
-
-// What a step gives: the meter as it then stands, and its answer. The telegram is blank unless the reply says it.
+// What a step gives: the meter as it then stands, and its answer, which is silence, a telegram, or the number of a refusal.
 #[derive(Clone, Copy)]
 pub struct Step {
     pub meter: Meter,
-    pub reply: Reply,
-    pub telegram: Telegram,
+    pub reply: Result<Option<Telegram>, Refusal>,
 }
 
 impl Meter {
-    // A meter that begins, whatever the template, beside an outcome.
-    fn begun(outcome: Outcome, address: u8, template: Telegram) -> Setup
-        ensures { result ≡ record { outcome = outcome; meter = begun_meter address template } }
+    // A meter that begins, whatever the template.
+    fn begun(address: u8, template: Telegram) -> Meter
+        ensures { result ≡ begun_meter address template }
     {
-        let entries = template.entries;
-        let used = Pair::of(entries);
-        let core = Core {
-            address,
-            mode: Mode::Use,
-            used,
-            verified: Pair {
-                volume: 0,
-                energy: 0,
-            },
-            template,
-        };
-        Setup {
-            outcome,
-            meter: Meter {
-                last: Clock(0),
-                core,
+        Meter {
+            last: Clock(0),
+            core: Core {
+                address,
+                mode: Mode::Use,
+                used: Pair::of(template.entries),
+                verified: Pair {
+                    volume: 0,
+                    energy: 0,
+                },
+                template,
             },
         }
     }
 
     // A meter with its own address and its data template.
-    pub fn set_up(address: u8, template: Telegram) -> Setup
-        ensures { result ≡ shown_setup (set_up address template) }
+    pub fn set_up(address: u8, template: Telegram) -> Result<Meter, Refusal>
+        ensures { result ≡ shown (set_up address template) }
     {
-        let unfit = is_unfit(template);
-        if unfit {
-            let blank = acknowledgement();
-            return Meter::begun(Outcome::Refused(72), 0, blank);
+        if is_unfit(template) {
+            return Err(Refusal::METER_WRONG_TEMPLATE);
         }
-        Meter::begun(Outcome::Accepted, address, template)
+        Ok(Meter::begun(address, template))
+    }
+
+    // A step that is refused.
+    fn refused(self, refusal: Refusal) -> Step
+        ensures { result ≡ refused_step self refusal.0 }
+    {
+        Step {
+            meter: self,
+            reply: Err(refusal),
+        }
     }
 
     // A line heard at t.
     pub fn heard(self, line: &[u16], t: Clock) -> Step
         ensures { result ≡ shown_meter_step self t (heard_at self line.now t) }
     {
-        let back = self.last.earlier(t);
-        if back {
-            return self.core.replies(self.last, Reply::Refused(70));
+        if self.last.earlier(t) {
+            return self.refused(Refusal::METER_TIME_BACK);
         }
         let outline = outline_of(line);
         self.core.hears(outline, t)
@@ -116,16 +102,14 @@ impl Meter {
     pub fn measure(self, volume: u64, energy: u64, t: Clock) -> Step
         ensures { result ≡ shown_meter_step self t (measured_at self volume energy t) }
     {
-        let back = self.last.earlier(t);
-        if back {
-            return self.core.replies(self.last, Reply::Refused(70));
+        if self.last.earlier(t) {
+            return self.refused(Refusal::METER_TIME_BACK);
         }
         let core = self.core.returned(t);
         let pair = core.in_force();
-        let sum = pair.plus(volume, energy);
-        match sum {
-            Sum::Refused(n) => return self.core.replies(self.last, Reply::Refused(n)),
-            Sum::Totals(totals) => return core.measured(totals, t),
+        match pair.plus(volume, energy) {
+            Err(refusal) => self.refused(refusal),
+            Ok(totals) => core.measured(totals, t),
         }
     }
 }

@@ -12,8 +12,6 @@ use Rattle.base_rules.specs.Lists.{any}
 use Rattle.mbus_rules.specs.Quantities.{quantity_of, volume, energy}
 use Rattle.mbus_rules.specs.Writing.{unwritable}
 use Rattle.meter_template.specs.declared.Pair.{Pair}
-use Rattle.meter_template.specs.declared.Sum.{Sum}
-use Rattle.meter_template.specs.declared.Sum.TheVariants.{Totals, Refused}
 
 -- ---- what a template has to be
 
@@ -102,8 +100,3 @@ plus p v e = record { volume = p.volume + v; energy = p.energy + e }
 
 abbrev pub sum_of : Pair → ℕ → ℕ → Answer Pair
 sum_of p v e = refuse 71 (overflows p v e) (reads (plus p v e))
-
--- the program's answer for each: the number alone, or the totals
-abbrev pub shown_sum : Answer Pair → Sum
-shown_sum (refusal n) = Refused n
-shown_sum (reads p) = Totals p

@@ -1,12 +1,13 @@
 // The data template of a simulated meter, and its pairs of totals.
 #![tactic(auto)]
 
-ghost use Rattle.std.specs.Prelude.{◌≡◌, ◌||◌};
-ghost use Rattle.mbus_rules.specs.Quantities.{energy, volume};
+ghost use Rattle.std.specs.Prelude.{◌≡◌};
+ghost use Rattle.base_rules.specs.Shown.{shown};
 ghost use Rattle.meter_template.specs.Templates.{is_data_kind, holds, unfit_template, value_count, total_in, pair_in, counted, filled_entry, filled};
-ghost use Rattle.meter_template.specs.Templates.{lacks, next_access, raised, data_with, passes, sum_of, shown_sum};
+ghost use Rattle.meter_template.specs.Templates.{lacks, next_access, raised, data_with, passes, sum_of};
 
 use base_numbers::signed::size_of;
+use base_rules::Refusal;
 use mbus_fields::quantities::quantity_of;
 use mbus_rules::{Decimal, Entry, Kind, Telegram, Value};
 use mbus_telegrams::table::{EIGHT_DIGITS, ENERGY, VOLUME};
@@ -19,13 +20,6 @@ pub struct Pair {
     pub energy: u64,
 }
 
-// What adding to a pair gives: the new totals, or refused by 71.
-#[derive(Clone, Copy)]
-pub enum Sum {
-    Totals(Pair),
-    Refused(u16),
-}
-
 // No total passes this.
 pub const TOTAL_MOST: u64 = 99_999_999;
 
@@ -36,49 +30,32 @@ const COUNTS: u64 = 0x8000_0000_0000_0000;
 fn holds(e: Entry, quantity: u8) -> bool
     ensures { result ≡ holds quantity e }
 {
-    let row = quantity_of(e.unit);
-    (e.structure == EIGHT_DIGITS) & (row == quantity)
+    (e.structure == EIGHT_DIGITS) & (quantity_of(e.unit) == quantity)
 }
 
-// Whether no entry has energy in eight digits, or none volume: both are asked in one walk.
-fn lacks_one(entries: [Entry; 7]) -> bool
-    ensures { result ≡ (lacks energy entries || lacks volume entries) }
+// Whether no entry has the quantity in eight digits.
+fn lacks(entries: [Entry; 7], quantity: u8) -> bool
+    ensures { result ≡ lacks quantity entries }
 {
-    let mut found_energy = false;
-    let mut found_volume = false;
-    let mut i = 0;
-    while i < 7 {
-        let e = entries[i];
-        found_energy = found_energy | holds(e, ENERGY);
-        found_volume = found_volume | holds(e, VOLUME);
-        i += 1;
-    }
-    !found_energy | !found_volume
+    !entries.iter().any(|e| holds(*e, quantity))
 }
 
 // Whether a telegram is data.
 fn is_data(kind: Kind) -> bool
     ensures { result ≡ is_data_kind kind }
 {
-    match kind {
-        Kind::Ack => false,
-        Kind::Read => false,
-        Kind::Enter => false,
-        Kind::Leave => false,
-        Kind::Data => true,
-    }
+    matches!(kind, Kind::Data)
 }
 
 // Whether a telegram cannot be a template.
 pub fn is_unfit(template: Telegram) -> bool
     ensures { result ≡ unfit_template template }
 {
-    let kind = template.kind;
     let entries = template.entries;
-    let data = is_data(kind);
     let unwritable = is_unwritable(template);
-    let lacking = lacks_one(entries);
-    !data | unwritable | lacking
+    let no_energy = lacks(entries, ENERGY);
+    let no_volume = lacks(entries, VOLUME);
+    !is_data(template.kind) | unwritable | no_energy | no_volume
 }
 
 fn count_of(value: Value) -> u64
@@ -86,8 +63,7 @@ fn count_of(value: Value) -> u64
 {
     match value {
         Value::Number(d) => size_of(d.count),
-        Value::Time(_) => 0,
-        Value::Binary(_) => 0,
+        Value::Time(_) | Value::Binary(_) => 0,
     }
 }
 
@@ -95,15 +71,10 @@ fn count_of(value: Value) -> u64
 fn total_in(entries: [Entry; 7], quantity: u8) -> u64
     ensures { result ≡ total_in quantity entries }
 {
-    let mut i = 0;
-    while i < 7 {
-        let e = entries[i];
-        let held = holds(e, quantity);
-        if held {
-            let value = e.value;
-            return count_of(value);
+    for e in entries.iter() {
+        if holds(*e, quantity) {
+            return count_of(e.value);
         }
-        i += 1;
     }
     0
 }
@@ -124,12 +95,10 @@ fn counted(e: Entry, total: u64) -> Entry
 fn filled_entry(e: Entry, pair: Pair) -> Entry
     ensures { result ≡ filled_entry pair e }
 {
-    let volume = holds(e, VOLUME);
-    if volume {
+    if holds(e, VOLUME) {
         return counted(e, pair.volume);
     }
-    let energy = holds(e, ENERGY);
-    if energy {
+    if holds(e, ENERGY) {
         return counted(e, pair.energy);
     }
     e
@@ -147,8 +116,7 @@ pub fn raised(template: Telegram) -> Telegram
     ensures { result ≡ raised template }
 {
     let mut next = template;
-    let access = next_access(next.header.access);
-    next.header.access = access;
+    next.header.access = next_access(template.header.access);
     next
 }
 
@@ -156,11 +124,9 @@ pub fn raised(template: Telegram) -> Telegram
 pub fn data_with(address: u8, pair: Pair, template: Telegram) -> Telegram
     ensures { result ≡ data_with address pair template }
 {
-    let entries = template.entries;
-    let entries = pair.filled(entries);
     Telegram {
         address,
-        entries,
+        entries: pair.filled(template.entries),
         ..template
     }
 }
@@ -180,9 +146,10 @@ impl Pair {
     pub fn of(entries: [Entry; 7]) -> Pair
         ensures { result ≡ pair_in entries }
     {
-        let volume = total_in(entries, VOLUME);
-        let energy = total_in(entries, ENERGY);
-        Pair { volume, energy }
+        Pair {
+            volume: total_in(entries, VOLUME),
+            energy: total_in(entries, ENERGY),
+        }
     }
 
     // A template's entries with these totals.
@@ -190,25 +157,22 @@ impl Pair {
         ensures { result ≡ filled self entries }
     {
         let mut done = entries;
-        let mut i = 0;
-        while i < 7 {
-            let e = done[i];
-            done[i] = filled_entry(e, self);
-            i += 1;
+        for e in done.iter_mut() {
+            *e = filled_entry(*e, self);
         }
         done
     }
 
     // The totals with amounts of any size added.
-    pub fn plus(self, volume: u64, energy: u64) -> Sum
-        ensures { result ≡ shown_sum (sum_of self volume energy) }
+    pub fn plus(self, volume: u64, energy: u64) -> Result<Pair, Refusal>
+        ensures { result ≡ shown (sum_of self volume energy) }
     {
-        let over = would_pass(self.volume, volume) | would_pass(self.energy, energy);
-        if over {
-            return Sum::Refused(71);
+        if would_pass(self.volume, volume) | would_pass(self.energy, energy) {
+            return Err(Refusal::METER_TOTAL_TOO_LARGE);
         }
-        let volume = self.volume + volume;
-        let energy = self.energy + energy;
-        Sum::Totals(Pair { volume, energy })
+        Ok(Pair {
+            volume: self.volume + volume,
+            energy: self.energy + energy,
+        })
     }
 }

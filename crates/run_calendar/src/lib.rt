@@ -19,27 +19,21 @@ fn year_days(years: u64) -> u64
 fn month_days(year: u8, months: u8) -> u64
     ensures { (result ≡ month_days (2000 + year) months) × (result ≤ 65535) }
 {
-    let mut days: u64 = 0;
-    let mut month: u8 = 0;
-    while month < months {
-        month += 1;
-        days += days_in(year, month) as u64;
+    // Not by `sum`, which asks before the first month that every sum on the way fits.
+    let mut days = 0;
+    for month in 0..months {
+        days += days_in(year, month + 1) as u64;
     }
     days
-}
-
-// One less, and 0 for 0.
-fn one_less(n: u8) -> u8
-    ensures { result ≡ n - 1 }
-{
-    if n == 0 { 0 } else { n - 1 }
 }
 
 // The days before a date.
 fn days_before(year: u8, month: u8, day: u8) -> u64
     ensures { (result ≡ days_before year month day) × (result ≤ 1000000) }
 {
-    year_days(year as u64) + month_days(year, one_less(month)) + one_less(day) as u64
+    year_days(year as u64)
+        + month_days(year, month.saturating_sub(1))
+        + day.saturating_sub(1) as u64
 }
 
 // The milliseconds before a point in time.
@@ -54,7 +48,5 @@ fn milliseconds_at(m: Moment) -> u64
 pub fn interval(first: Moment, last: Moment) -> u64
     ensures { result ≡ interval first last }
 {
-    let from = milliseconds_at(first);
-    let to = milliseconds_at(last);
-    if from < to { to - from } else { 0 }
+    milliseconds_at(last).saturating_sub(milliseconds_at(first))
 }

@@ -3,7 +3,8 @@ use Rattle.std.specs.Prelude.{ℕ, Bool, List, [], ◌∷◌}
 use Rattle.base_rules.specs.Answers.{Answer}
 use Rattle.bench_clock.specs.declared.Clock.{Clock}
 use Rattle.exchange_steps.specs.declared.Exchange.{Exchange}
-use Rattle.exchange_steps.specs.Steps.{heard_in, shown_step, ends_well}
+use Rattle.base_rules.specs.Shown as answers
+use Rattle.exchange_steps.specs.Steps.{heard_in, ends_well}
 use Rattle.exchange_steps.specs.Histories.{exchange_after}
 use Rattle.bundle_check.specs.Records.{Recorded}
 use Rattle.run_counting.specs.Counting.{row_outline}
@@ -23,4 +24,4 @@ told_rows x (k ∷ ks) = told_rows (exchange_after x (row_heard x k)) ks
 
 -- the exchange ends well by a row
 abbrev pub ends_well_by : Exchange → Recorded → Bool
-ends_well_by x k = ends_well (shown_step (row_heard x k))
+ends_well_by x k = ends_well (answers.shown (row_heard x k))

@@ -1,7 +1,5 @@
 -- 01, "The form to use in each place": the number and values for each case of the answer.
 use Rattle.std.specs.Prelude.{ℕ, ◌-◌, List, ◌++◌, ◌≡◌, length, replicate}
-use Rattle.base_rules.specs.Answers.{Answer, reads, refusal}
-use Rattle.base_rules.specs.declared.Outcome.TheVariants.{Accepted, Refused}
 use Rattle.bundle_rows.specs.Rows.{most_rows}
 use Rattle.bundle_check.specs.Records.{records_of}
 use Rattle.run_counting.specs.declared.Counted.{Counted}
@@ -11,10 +9,9 @@ use Rattle.run_counting.specs.Counting.{numbers_of}
 abbrev pub padded : List ℕ → List ℕ
 padded numbers = numbers ++ replicate (most_rows - length numbers) 0
 
--- the numbers of the rows, or the number of the refusal alone
-abbrev pub shown_counting : Answer (List ℕ) → Counted
-shown_counting (refusal n) = record { outcome = Refused n; count = 0; rows = replicate most_rows 0 }
-shown_counting (reads numbers) = record { outcome = Accepted; count = length numbers; rows = padded numbers }
+-- the numbers of the rows in their places
+abbrev pub numbered : List ℕ → Counted
+numbered numbers = record { count = length numbers; rows = padded numbers }
 
 -- What the walk along an accepted bundle leaves: how many numbers there are, and the numbers.
 pub record Numbers (b : List ℕ) (position r : ℕ) (rows : List ℕ) : Type 0 where

@@ -12,38 +12,46 @@ use exchange_replies::fits;
 use mbus_reading::pairs::outline_of;
 use mbus_rules::{Outline, Request};
 
-// Nothing counts before the next accepted read; or the first row heard that begins at or after the end of the read's send decides.
+// The answer to an accepted read: of which address, and the end of the read's send, from which on it may begin.
 #[derive(Clone, Copy)]
-pub(crate) enum Ear {
-    Deaf,
-    Open(u8, u64),
+pub(crate) struct Open {
+    pub(crate) address: u8,
+    pub(crate) end: u64,
 }
 
-// What is open after a row, and whether the row counts.
+// What is open after a row, and whether the row counts. Where nothing is open nothing counts before the next accepted read; else the first row
+// heard that begins at or after the end decides.
 #[derive(Clone, Copy)]
 pub(crate) struct Turn {
-    pub(crate) ear: Ear,
+    pub(crate) ear: Option<Open>,
     pub(crate) counts: bool,
 }
 
+// What is open, put together anew: copied as a whole it takes the bytes between its fields along, which is dearer at run time.
+fn held(ear: Option<Open>) -> Option<Open>
+    ensures { result ≡ ear }
+{
+    match ear {
+        Some(due) => Some(Open {
+            address: due.address,
+            end: due.end,
+        }),
+        None => None,
+    }
+}
+
 // After a sent row: open for the answer to an accepted read.
-fn opened(outline: Outline, end: u64) -> Ear
+fn opened(outline: Outline, end: u64) -> Option<Open>
     ensures { result ≡ ear_opened outline end }
 {
     match outline {
-        Outline::Refused(_) => Ear::Deaf,
-        Outline::Ack => Ear::Deaf,
-        Outline::Asks(request) => match request {
-            Request::Read(address) => Ear::Open(address, end),
-            Request::Enter(_, _) => Ear::Deaf,
-            Request::Leave(_) => Ear::Deaf,
-        },
-        Outline::Data(_) => Ear::Deaf,
+        Outline::Asks(Request::Read(address)) => Some(Open { address, end }),
+        _ => None,
     }
 }
 
 // The same from the line that was sent and the start of its first character.
-fn opened_after(time: u32, body: &[u8]) -> Ear
+fn opened_after(time: u32, body: &[u8]) -> Option<Open>
     requires { length body.now ≤ 65535 }
     ensures { result ≡ opened_after time body.now }
 {
@@ -52,53 +60,43 @@ fn opened_after(time: u32, body: &[u8]) -> Ear
 }
 
 // Whether a line that begins at or after the end of the send is in time, and data that fits the read.
-fn fits_in_time(address: u8, end: u64, time: u32, body: &[u8]) -> bool
-    ensures { result ≡ fits_in_time address end time (outlined (read_line (chars body.now))) }
+fn fits_in_time(due: Open, time: u32, body: &[u8]) -> bool
+    ensures { result ≡ fits_in_time due time (outlined (read_line (chars body.now))) }
 {
-    let ended = Clock(end);
-    let late = ended.late(Clock(time as u64));
-    let fit = fits(Request::Read(address), outline_of(body));
-    !late & fit
+    let late = Clock(due.end).late(Clock(time as u64));
+    !late && fits(Request::Read(due.address), outline_of(body))
 }
 
 // After a row heard: one that begins before the end is passed over, and the first other one decides.
-fn heard_by(ear: Ear, time: u32, body: &[u8]) -> Turn
+fn heard_by(ear: Option<Open>, time: u32, body: &[u8]) -> Turn
     ensures { result ≡ heard_by ear time (outlined (read_line (chars body.now))) }
 {
     match ear {
-        Ear::Deaf => Turn { ear, counts: false },
-        Ear::Open(address, end) => {
-            let early = (time as u64) < end;
-            if early {
-                return Turn {
-                    ear: Ear::Open(address, end),
-                    counts: false,
-                };
+        None => Turn { ear, counts: false },
+        Some(due) => {
+            if (time as u64) < due.end {
+                return Turn { ear, counts: false };
             }
-            let counts = fits_in_time(address, end, time, body);
             Turn {
-                ear: Ear::Deaf,
-                counts,
+                ear: None,
+                counts: fits_in_time(due, time, body),
             }
         }
     }
 }
 
 // After any row with its body: a row of another position and a wake-up are passed over.
-fn passed_by(position: u8, ear: Ear, row: Row, body: &[u8]) -> Turn
+fn passed_by(position: u8, ear: Option<Open>, row: Row, body: &[u8]) -> Turn
     requires { length body.now ≤ 65535 }
     ensures { result ≡ passed_by position ear (row_with row body.now) }
 {
-    let other = row.position != position;
-    if other {
+    if row.position != position {
         return Turn { ear, counts: false };
     }
-    let wake = is_wake(body);
-    if wake {
+    if is_wake(body) {
         return Turn { ear, counts: false };
     }
-    let sent = row.direction == 0;
-    if sent {
+    if row.direction == 0 {
         return Turn {
             ear: opened_after(row.time, body),
             counts: false,
@@ -108,12 +106,12 @@ fn passed_by(position: u8, ear: Ear, row: Row, body: &[u8]) -> Turn
 }
 
 // After row i of a bundle, whose body lies in it.
-pub(crate) fn turn_at(position: u8, ear: Ear, bundle: &[u8], i: usize) -> Turn
+pub(crate) fn turn_at(position: u8, ear: Option<Open>, bundle: &[u8], i: usize) -> Turn
     requires { (unchecked_row bundle.now i).offset + (unchecked_row bundle.now i).length ≤ length bundle.now }
     ensures { result ≡ passed_by position ear (row_in bundle.now i) }
 {
     let row = unchecked_row(bundle, i);
     let at = row.offset as usize;
     let end = at + row.length as usize;
-    passed_by(position, ear, row, &bundle[at..end])
+    passed_by(position, held(ear), row, &bundle[at..end])
 }

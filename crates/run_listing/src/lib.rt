@@ -8,7 +8,8 @@ ghost use Rattle.run_listing.specs.Listings.{word_of, listing_of};
 ghost use Rattle.run_listing.specs.Shown.{Lists};
 
 use base_lent::{lay, store};
-use bundle_check::{Checked, check};
+use base_rules::Refusal;
+use bundle_check::check;
 use lines::{put_rows, refused, word_of};
 use text_filling::put;
 use texts::with;
@@ -16,13 +17,6 @@ use texts::with;
 pub mod line_column;
 mod lines;
 mod texts;
-
-// What became of listing a bundle: the bytes written, or refused by 21.
-#[derive(Clone, Copy)]
-pub enum Listed {
-    Written(usize),
-    Refused(u16),
-}
 
 // Puts the word for a body from a place on, as far as there is room, and answers the place behind it.
 pub fn put_word(out: &mut [u8], at: usize, body: &[u8]) -> usize
@@ -43,12 +37,12 @@ fn write_listing(bundle: &[u8], out: &mut [u8; MOST_TEXT]) -> usize
         × (take result out.new ≡ listing_of bundle.now) }
 {
     match check(bundle) {
-        Checked::Rows(count) => {
+        Ok(count) => {
             lay(out, 0, b"position,direction,time,line\n");
             put_rows(out, 29, bundle, count)
         },
-        Checked::Refused(number) => {
-            let line = with(refused(number), b"\n");
+        Err(refusal) => {
+            let line = with(refused(refusal.0), b"\n");
             let size = line.size;
             let bytes = line.bytes;
             lay(out, 0, &bytes[..size]);
@@ -57,15 +51,14 @@ fn write_listing(bundle: &[u8], out: &mut [u8; MOST_TEXT]) -> usize
     }
 }
 
-// Lists a bundle: the text stands in the first places of `out`. Where it does not fit, `out` stays as it was.
-pub fn list(bundle: &[u8], out: &mut [u8]) -> Listed
+// Lists a bundle: the text stands in the first places of `out`, and the answer is how many bytes it has. Where it does not fit, `out` stays as it was.
+pub fn list(bundle: &[u8], out: &mut [u8]) -> Result<usize, Refusal>
     ensures { Lists bundle.now out.old result out.new }
 {
     let mut text = [0u8; MOST_TEXT];
     let size = write_listing(bundle, &mut text);
-    let short = store(&text[..size], out);
-    if short {
-        return Listed::Refused(21);
+    if store(&text[..size], out) {
+        return Err(Refusal::TOO_FEW_PLACES);
     }
-    Listed::Written(size)
+    Ok(size)
 }

@@ -18,8 +18,7 @@ pub enum Column {
 pub fn column_of(body: &[u8]) -> Column
     ensures { result ≡ column_of (chars body.now) }
 {
-    let wake = is_wake(body);
-    if wake {
+    if is_wake(body) {
         return Column::Wake;
     }
     Column::Reads(outline_of(body))

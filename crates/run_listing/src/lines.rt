@@ -53,8 +53,7 @@ fn with_direction(line: Line, direction: u8) -> Line
     requires { line.size ≤ 10 }
     ensures { Holds 17 result (line_text line ++ (text "," ++ (direction_text direction ++ text ","))) }
 {
-    let sent = direction == 0;
-    if sent {
+    if direction == 0 {
         return with(line, b",sent,");
     }
     with(line, b",heard,")

@@ -6,7 +6,6 @@ pub mod DrawingLaws
 pub mod Told
 pub mod Longest
 pub mod Drawn
-pub mod Shown
 pub mod Words
 pub mod Wording
 pub mod Meaning

@@ -1,12 +1,11 @@
 -- The elements of a picture, as SVG text; each % is a number.
-use Rattle.std.specs.Prelude.{ℕ, ◌+◌, ◌-◌, ◌*◌, ◌/◌, ◌%◌, cond, ◌||◌, List, [], ◌∷◌, ◌++◌, eqb, ltb}
+use Rattle.std.specs.Prelude.{ℕ, ◌+◌, ◌-◌, ◌/◌, ◌%◌, cond, ◌||◌, List, [], ◌∷◌, ◌++◌, eqb, ltb}
 use Rattle.text_filling.specs.Texts.{text}
 use Rattle.base_lent.specs.Pieces.{pieces}
 use Rattle.text_filling.specs.Holes.{filled_with}
 use Rattle.text_stretches.specs.Between.{between, pair_between}
 use Rattle.base_characters.specs.Characters.{chars}
 use Rattle.bundle_check.specs.Records.{Recorded}
-use Rattle.run_counting.specs.Counting.{is_sent}
 use Rattle.run_listing.specs.Listings.{word_of}
 use Rattle.run_verdicts.specs.declared.Verdict.{Verdict}
 use Rattle.run_verdicts.specs.declared.Verdict.TheVariants.{Wake, First, Resend, Refused, Counts, LeftOver, Late, Second, Damaged, WrongKind, Unasked}

@@ -1,5 +1,5 @@
 -- How large a picture is: the scale, and a lane for each position that has rows.
-use Rattle.std.specs.Prelude.{ℕ, zero, suc, ◌+◌, ◌*◌, ◌/◌, ◌%◌, ◌≤◌, ◌<◌, max, Bool, false, cond, ◌||◌, List, [], ◌∷◌, ◌≡◌, eqb, ltb, length, get_or}
+use Rattle.std.specs.Prelude.{ℕ, zero, suc, ◌+◌, ◌*◌, ◌/◌, ◌≤◌, ◌<◌, max, Bool, false, cond, ◌||◌, List, [], ◌∷◌, ◌≡◌, eqb, ltb, length, get_or}
 use Rattle.bundle_check.specs.Records.{Recorded}
 use Rattle.bundle_check.specs.Walks.{end_of}
 use Rattle.run_counting.specs.Counting.{kept_if}

@@ -1,9 +1,7 @@
 -- The picture of a run: time to the right and a lane for each position.
-use Rattle.std.specs.Prelude.{ℕ, zero, suc, ◌+◌, cond, ◌≡◌, List, [], ◌∷◌, ◌++◌, map, eqb, get_or}
+use Rattle.std.specs.Prelude.{ℕ, zero, suc, ◌+◌, cond, ◌≡◌, List, [], ◌∷◌, ◌++◌, eqb, get_or}
 use Rattle.text_filling.specs.Texts.{text}
-use Rattle.text_filling.specs.Holes.{filled_with}
 use Rattle.bundle_check.specs.Records.{Recorded, records_of}
-use Rattle.run_verdicts.specs.declared.Ruling.{Ruling}
 use Rattle.run_verdicts.specs.declared.Verdict.{Verdict}
 use Rattle.run_verdicts.specs.declared.Verdict.TheVariants.{Unasked}
 use Rattle.run_verdicts.specs.Verdicts.{verdicts_of}
@@ -26,10 +24,6 @@ unfoldable pub marks_drawn : Page → List Recorded → ℕ → ℕ → ℕ → 
 marks_drawn p ks zero x place = []
 marks_drawn p ks (suc n) x place =
     mark_text p.bottom x (place + cut_at place unpaced ks) ++ marks_drawn p ks n (x + 240) (place + p.step)
-
--- verdicts in their places
-abbrev pub ruled : List Ruling → List Verdict
-ruled rulings = map (λ r. r.verdict) rulings
 
 -- of rows from number i on, those of a position, each where its pace says
 unfoldable pub rows_drawn : ℕ → List Verdict → Pace → ℕ → List Recorded → List ℕ

@@ -8,8 +8,8 @@ ghost use Rattle.run_picture.specs.Elements.{pauses_open_text, lane_text, verdic
 use crate::pace::less;
 use crate::page::Page;
 use run_verdicts::Verdict;
-use text_filling::fill;
-use text_stretches::{put_between, put_pair, put_text};
+use text_filling::{fill, put};
+use text_stretches::{put_between, put_pair};
 
 // The whole is so wide and so high.
 pub(crate) fn put_opens(out: &mut [u8], at: usize, page: Page) -> usize
@@ -28,7 +28,7 @@ pub(crate) fn put_opens(out: &mut [u8], at: usize, page: Page) -> usize
 pub(crate) fn put_style(out: &mut [u8], at: usize) -> usize
     ensures { PutAt style_text out.old at result out.new }
 {
-    put_text(
+    put(
         out,
         at,
         b"<style>\n\
@@ -57,7 +57,7 @@ pub(crate) fn put_style(out: &mut [u8], at: usize) -> usize
 pub(crate) fn put_legend(out: &mut [u8], at: usize) -> usize
     ensures { PutAt legend_text out.old at result out.new }
 {
-    put_text(
+    put(
         out,
         at,
         b"<text x='60' y='46'>sent</text>\n\
@@ -208,7 +208,7 @@ pub(crate) fn put_part(out: &mut [u8], at: usize, all: &[u8], from: usize, to: u
     requires { (from ≤ to) × (to ≤ length all.now) }
     ensures { PutAt (take (to - from) (drop from all.now)) out.old at result out.new }
 {
-    put_text(out, at, &all[from..to])
+    put(out, at, &all[from..to])
 }
 
 // Before the words of a send, its reply window up to where they go on.

@@ -5,10 +5,11 @@ use Rattle.mbus_rules.specs.declared.Outline.{Outline}
 use Rattle.mbus_rules.specs.declared.Outline.TheVariants.{Refused, Ack, Asks, Data}
 use Rattle.base_lent.specs.Lent.{needs, stored}
 use Rattle.base_lent.specs.Same.{same}
-use Rattle.bundle_check.specs.declared.Checked.{Checked}
+use Rattle.std.specs.Prelude.{Result}
+use Rattle.base_rules.specs.declared.refusals.Refusal.{Refusal}
+use Rattle.base_rules.specs.Shown.{shown}
 use Rattle.bundle_check.specs.Bundles.{check_of}
 use Rattle.bundle_check.specs.Records.{Recorded, records_of}
-use Rattle.bundle_check.specs.Shown.{shown_checked}
 use Rattle.run_counting.specs.Counting.{is_sent, row_outline}
 
 -- ---- one row
@@ -64,6 +65,6 @@ unfoldable pub earlier_into : List ℕ → List ℕ → Answer (List ℕ)
 earlier_into b rows = follow (check_of b) (λ n. needs n rows (reads (earlier_rows (records_of b))))
 
 -- How many rows there are, and the numbers in the first places and nothing beyond; a refusal leaves them as they were.
-pub record TellsEarlier (b before : List ℕ) (r : Checked) (after : List ℕ) : Type 0 where
-  pub count : r ≡ shown_checked (within length (earlier_into b before))
+pub record TellsEarlier (b before : List ℕ) (r : Result ℕ Refusal) (after : List ℕ) : Type 0 where
+  pub count : r ≡ shown (within length (earlier_into b before))
   pub holds : after ≡ stored (λ numbers. numbers) before (earlier_into b before)

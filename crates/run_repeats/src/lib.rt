@@ -11,7 +11,8 @@ ghost use Rattle.run_counting.specs.Ears.{row_in};
 ghost use Rattle.run_repeats.specs.Repeats.{same_reading, first_same, earlier_rows, TellsEarlier};
 ghost use Rattle.run_repeats.specs.Marks.{Marked};
 
-use bundle_check::{Checked, check};
+use base_rules::Refusal;
+use bundle_check::check;
 use bundle_rows::MOST_ROWS;
 use reading::{mark_at, same_at};
 
@@ -38,12 +39,7 @@ fn is_same_reading(
     requires { Marked bundle.now count marks.now × (j < count) × (i < count) × (get_or marks.now i 0 ≡ 0 → ⊥) }
     ensures { result ≡ same_reading (row_in bundle.now j) (row_in bundle.now i) }
 {
-    let mark = marks[i];
-    let other = marks[j];
-    if other != mark {
-        return false;
-    }
-    same_at(bundle, j, i)
+    marks[j] == marks[i] && same_at(bundle, j, i)
 }
 
 // 1 + the number of the lowest row before row i that gives the same reading, or 0.
@@ -51,13 +47,11 @@ fn earlier_of(bundle: &[u8], count: usize, marks: &[u32; MOST_ROWS], i: usize) -
     requires { Marked bundle.now count marks.now × (i < count) }
     ensures { result ≡ first_same 0 (take i (records_of bundle.now)) (row_in bundle.now i) }
 {
-    let mark = marks[i];
-    if mark == 0 {
+    if marks[i] == 0 {
         return 0;
     }
     for j in 0..i {
-        let same = is_same_reading(bundle, count, marks, j, i);
-        if same {
+        if is_same_reading(bundle, count, marks, j, i) {
             return j as u16 + 1;
         }
     }
@@ -75,20 +69,15 @@ fn put_earlier(bundle: &[u8], count: usize, marks: &[u32; MOST_ROWS], rows: &mut
 }
 
 // For each row of a bundle the lowest earlier row that gives the same reading, and how many rows there are.
-pub fn earlier_rows(bundle: &[u8], rows: &mut [u16]) -> Checked
+pub fn earlier_rows(bundle: &[u8], rows: &mut [u16]) -> Result<usize, Refusal>
     ensures { TellsEarlier bundle.now rows.old result rows.new }
 {
-    match check(bundle) {
-        Checked::Refused(number) => Checked::Refused(number),
-        Checked::Rows(count) => {
-            let short = rows.len() < count;
-            if short {
-                return Checked::Refused(21);
-            }
-            let mut marks = [0u32; MOST_ROWS];
-            mark_rows(bundle, count, &mut marks);
-            put_earlier(bundle, count, &marks, rows);
-            Checked::Rows(count)
-        },
+    let count = check(bundle)?;
+    if rows.len() < count {
+        return Err(Refusal::TOO_FEW_PLACES);
     }
+    let mut marks = [0u32; MOST_ROWS];
+    mark_rows(bundle, count, &mut marks);
+    put_earlier(bundle, count, &marks, rows);
+    Ok(count)
 }

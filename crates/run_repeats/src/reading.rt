@@ -15,23 +15,14 @@ use mbus_rules::Outline;
 fn tells_data(outline: Outline) -> bool
     ensures { result ≡ tells_data outline }
 {
-    match outline {
-        Outline::Refused(_) => false,
-        Outline::Ack => false,
-        Outline::Asks(_) => false,
-        Outline::Data(_) => true,
-    }
+    matches!(outline, Outline::Data(_))
 }
 
 // A row with its body gives a reading: it was heard, and is data.
 fn gives_reading(row: Row, body: &[u8]) -> bool
     ensures { result ≡ gives_reading (row_with row body.now) }
 {
-    let sent = row.direction == 0;
-    if sent {
-        return false;
-    }
-    tells_data(outline_of(body))
+    row.direction != 0 && tells_data(outline_of(body))
 }
 
 // The sum of some bytes.
@@ -39,13 +30,7 @@ fn sum_of(bytes: &[u8]) -> u32
     requires { length bytes.now ≤ 65535 }
     ensures { (result ≡ total bytes.now) × (result ≤ 255 * 65535) }
 {
-    let mut sum: u32 = 0;
-    let mut i = 0;
-    while i < bytes.len() {
-        sum += bytes[i] as u32;
-        i += 1;
-    }
-    sum
+    bytes.iter().map(|byte| u32::from(*byte)).sum()
 }
 
 // A row's mark, by which most rows that give another reading differ at once.
@@ -53,12 +38,10 @@ fn mark_of(row: Row, body: &[u8]) -> u32
     requires { length body.now ≤ 65535 }
     ensures { result ≡ row_mark (row_with row body.now) }
 {
-    let gives = gives_reading(row, body);
-    if !gives {
+    if !gives_reading(row, body) {
         return 0;
     }
-    let end = body.len() - 4;
-    1 + sum_of(&body[38..end])
+    1 + sum_of(&body[38..body.len() - 4])
 }
 
 // The same of row i of a bundle, whose body lies in it.
@@ -77,13 +60,7 @@ fn same_parts(s: &[u8], t: &[u8]) -> bool
     requires { (42 ≤ length s.now) × (42 ≤ length t.now) }
     ensures { result ≡ same_parts s.now t.now }
 {
-    let meter = is_same(&s[14..22], &t[14..22]);
-    if !meter {
-        return false;
-    }
-    let s_end = s.len() - 4;
-    let t_end = t.len() - 4;
-    is_same(&s[38..s_end], &t[38..t_end])
+    is_same(&s[14..22], &t[14..22]) && is_same(&s[38..s.len() - 4], &t[38..t.len() - 4])
 }
 
 // The same of rows i and j of a bundle, whose bodies lie in it and are lines of data.

@@ -8,7 +8,7 @@ use Rattle.mbus_rules.specs.declared.Value.TheVariants.{Number, Time, Binary}
 use Rattle.mbus_rules.specs.Lines.{read_line}
 use Rattle.mbus_rules.specs.Moments.{moment_of}
 use Rattle.mbus_rules.specs.Quantities.{row_of, quantity_of, volume, time}
-use Rattle.mbus_rules.specs.Telegrams.{blank_entry, shown}
+use Rattle.mbus_rules.specs.Telegrams.{blank_entry, telegram_read}
 
 -- A volume's value is a count of its last digit, or a number in binary (2026-06), and never below zero; a point in time is none.
 abbrev pub volume_count : Value → ℕ
@@ -18,7 +18,7 @@ volume_count (Binary w) = nat_abs w.count
 
 -- A cubic metre is 10^6 ml: 6 more than the power of ten of a unit byte, which no volume has below 0.
 abbrev pub millilitre_power : ℕ → ℕ
-millilitre_power u = u % (row_of u).4 + (6 - (row_of u).5)
+millilitre_power u = u % (row_of u).divisor + (6 - (row_of u).less)
 
 -- The volume in millilitres of an entry.
 unfoldable pub millilitres : Entry → ℕ
@@ -48,4 +48,4 @@ told_by t = record { volume = millilitres (entry_with volume t.entries); time = 
 
 -- what the line of an answer tells
 abbrev pub line_tells : List ℕ → Told
-line_tells line = told_by (shown (read_line line)).telegram
+line_tells line = told_by (telegram_read (read_line line))

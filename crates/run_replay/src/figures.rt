@@ -9,9 +9,9 @@ use bundle_rows::unchecked_characters;
 use mbus_fields::moments::moment_of;
 use mbus_fields::quantities::quantity_of;
 use mbus_reading::read_line;
-use mbus_rules::{Entry, Moment, Telegram, Value};
-use mbus_telegrams::blank_entry;
+use mbus_rules::{Entry, Kind, Moment, Telegram, Value};
 use mbus_telegrams::table::{TIME, VOLUME, row_of};
+use mbus_telegrams::{bare, blank_entry};
 
 // A volume in millilitres, 10^9 + 1 standing for every larger one, and a time.
 #[derive(Clone, Copy)]
@@ -41,16 +41,7 @@ fn ten_to(n: u8) -> u64
     requires { n < 8 }
     ensures { result ≡ 10 ^ n }
 {
-    match n {
-        0 => 1,
-        1 => 10,
-        2 => 100,
-        3 => 1_000,
-        4 => 10_000,
-        5 => 100_000,
-        6 => 1_000_000,
-        _ => 10_000_000,
-    }
+    10u64.pow(n as u32)
 }
 
 // One of the last digit of a volume, in millilitres.
@@ -58,15 +49,14 @@ fn digit_of(unit: u8) -> u64
     ensures { result ≡ 10 ^ millilitre_power unit }
 {
     let row = row_of(unit);
-    ten_to(unit % row.4) * ten_to(6 - row.5)
+    ten_to(unit % row.divisor) * ten_to(6 - row.less)
 }
 
 // The volume in millilitres of an entry. Whether it is over 10^9 is told without computing it, so that no value overflows.
 fn volume_of(e: Entry) -> u64
     ensures { result ≡ capped_volume (millilitres e) }
 {
-    let value = e.value;
-    let count = volume_count(value);
+    let count = volume_count(e.value);
     let unit = digit_of(e.unit);
     if VOLUME_MOST / unit < count {
         return VOLUME_MOST + 1;
@@ -79,37 +69,27 @@ fn moment_in(value: Value) -> Moment
     ensures { result ≡ moment_in value }
 {
     match value {
-        Value::Number(_) => moment_of(b""),
         Value::Time(m) => m,
-        Value::Binary(_) => moment_of(b""),
+        Value::Number(_) | Value::Binary(_) => moment_of(b""),
     }
 }
 
 // The entry that has the quantity.
-fn entry_with(entries: [Entry; 7], quantity: u8) -> Entry
-    ensures { result ≡ entry_with quantity entries }
+fn entry_with(entries: &[Entry], quantity: u8) -> Entry
+    ensures { result ≡ entry_with quantity entries.now }
 {
-    let mut i = 0;
-    while i < 7 {
-        let e = entries[i];
-        let has = quantity_of(e.unit) == quantity;
-        if has {
-            return e;
-        }
-        i += 1;
+    match entries.iter().find(|e| quantity_of(e.unit) == quantity) {
+        Some(e) => *e,
+        None => blank_entry(),
     }
-    blank_entry()
 }
 
 // What a telegram tells.
 fn told_by(telegram: Telegram) -> Figures
     ensures { result ≡ shown_told (told_by telegram) }
 {
-    let entries = telegram.entries;
-    let volume = volume_of(entry_with(entries, VOLUME));
-    let timed = entry_with(entries, TIME);
-    let value = timed.value;
-    let time = moment_in(value);
+    let volume = volume_of(entry_with(&telegram.entries, VOLUME));
+    let time = moment_in(entry_with(&telegram.entries, TIME).value);
     Figures { volume, time }
 }
 
@@ -119,7 +99,6 @@ pub(crate) fn figures_at(bundle: &[u8], i: usize) -> Figures
 {
     let mut line = [0u16; MOST];
     let count = unchecked_characters(bundle, i, &mut line);
-    let reading = read_line(&line[..count]);
-    let telegram = reading.telegram;
-    told_by(telegram)
+    let read = read_line(&line[..count]);
+    told_by(read.unwrap_or(bare(Kind::Ack, 0, 0)))
 }

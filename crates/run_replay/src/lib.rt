@@ -2,15 +2,15 @@
 #![tactic(auto)]
 
 ghost use Rattle.std.specs.Prelude.{◌≡◌};
+ghost use Rattle.base_rules.specs.Answers.{within};
+ghost use Rattle.base_rules.specs.Shown.{shown};
 ghost use Rattle.bundle_check.specs.Records.{records_of};
-ghost use Rattle.bench_indication.specs.Errors.{shown_indication};
 ghost use Rattle.run_calendar.specs.Days.{interval};
 ghost use Rattle.run_counting.specs.Counting.{numbers_of};
 ghost use Rattle.run_replay.specs.Errors.{wrong_interval, error_of_figures, replay_of};
-ghost use Rattle.run_replay.specs.Shown.{shown_replay};
+ghost use Rattle.run_replay.specs.Shown.{replay_with};
 
-use base_rules::Outcome;
-use bench_indication::Indication;
+use base_rules::Refusal;
 use bench_indication::rises::error_of_rises;
 use figures::{Figures, VOLUME_MOST, figures_at};
 use run_calendar::interval;
@@ -18,11 +18,12 @@ use run_counting::counting;
 
 mod figures;
 
-// The first and the last row that count, and the error in tenths of a percent; or refused by 30 to 37, 61 to 65.
-#[derive(Clone, Copy)]
-pub enum Replayed {
-    Error(usize, usize, i64),
-    Refused(u16),
+// The first and the last row that count, and the error in tenths of a percent.
+#[derive(Clone, Copy, PartialEq, Eq)]
+pub struct Replayed {
+    pub first: usize,
+    pub last: usize,
+    pub tenths: i64,
 }
 
 // The longest interval in milliseconds, 30 min.
@@ -31,63 +32,80 @@ pub const INTERVAL_MOST: u64 = 1_800_000;
 fn wrong_interval(t: u64) -> bool
     ensures { result ≡ wrong_interval t }
 {
-    (t == 0) | (INTERVAL_MOST < t)
+    t == 0 || INTERVAL_MOST < t
 }
 
 // The error by C.1, from the meter's volumes v1 and v2, the standard's s1 and s2, and their intervals.
-fn error_of_figures(v1: u64, v2: u64, s1: u64, s2: u64, elapsed: u64, meter: u64) -> Indication
-    ensures { result ≡ shown_indication (error_of_figures v1 v2 s1 s2 elapsed meter) }
+#[tactic(auto, unfolding(crate::specs::Errors::error_of_figures))]
+fn error_of_figures(
+    v1: u64,
+    v2: u64,
+    s1: u64,
+    s2: u64,
+    elapsed: u64,
+    meter: u64,
+) -> Result<i64, Refusal>
+    ensures { result ≡ shown (error_of_figures v1 v2 s1 s2 elapsed meter) }
 {
-    let over = (VOLUME_MOST < v1) | (VOLUME_MOST < v2) | (VOLUME_MOST < s1) | (VOLUME_MOST < s2);
-    if over {
-        return Indication::Refused(64);
+    if VOLUME_MOST < v1 || VOLUME_MOST < v2 || VOLUME_MOST < s1 || VOLUME_MOST < s2 {
+        return Err(Refusal::REPLAY_VOLUME_TOO_LARGE);
     }
-    let wrong = wrong_interval(elapsed) | wrong_interval(meter);
-    if wrong {
-        return Indication::Refused(65);
+    if wrong_interval(elapsed) || wrong_interval(meter) {
+        return Err(Refusal::REPLAY_WRONG_INTERVAL);
     }
-    let falls = v2 < v1;
-    if falls {
-        return Indication::Refused(61);
+    if v2 < v1 {
+        return Err(Refusal::METER_COUNT_FALLS);
     }
-    let stays = s2 <= s1;
-    if stays {
-        return Indication::Refused(62);
+    if s2 <= s1 {
+        return Err(Refusal::STANDARD_COUNT_NOT_RISING);
     }
     error_of_rises((v2 - v1) * elapsed, (s2 - s1) * meter)
 }
 
 // The error between two answers.
-fn error_between(first: Figures, last: Figures, s1: u64, s2: u64, elapsed: u64) -> Indication
-    ensures { result ≡ shown_indication (error_of_figures first.volume last.volume s1 s2 elapsed (interval first.time last.time)) }
+fn error_between(
+    first: Figures,
+    last: Figures,
+    s1: u64,
+    s2: u64,
+    elapsed: u64,
+) -> Result<i64, Refusal>
+    ensures { result ≡ shown (error_of_figures first.volume last.volume s1 s2 elapsed (interval first.time last.time)) }
 {
-    let from = first.time;
-    let to = last.time;
-    let meter = interval(from, to);
-    error_of_figures(first.volume, last.volume, s1, s2, elapsed, meter)
+    error_of_figures(
+        first.volume,
+        last.volume,
+        s1,
+        s2,
+        elapsed,
+        interval(first.time, last.time),
+    )
 }
 
 // Replays a bundle for one position: the first and last answers that count, and the error by C.1 with the standard's volumes s1 and s2
-// in millilitres and the elapsed milliseconds.
-pub fn replay(bundle: &[u8], position: u8, s1: u64, s2: u64, elapsed: u64) -> Replayed
-    ensures { result ≡ shown_replay (numbers_of position (records_of bundle.now)) (replay_of bundle.now position s1 s2 elapsed) }
+// in millilitres and the elapsed milliseconds; or refused by 30 to 37, 61 to 65.
+pub fn replay(
+    bundle: &[u8],
+    position: u8,
+    s1: u64,
+    s2: u64,
+    elapsed: u64,
+) -> Result<Replayed, Refusal>
+    ensures { result ≡ shown (within (replay_with (numbers_of position (records_of bundle.now))) (replay_of bundle.now position s1 s2 elapsed)) }
 {
-    let counted = counting(bundle, position);
-    let outcome = counted.outcome;
-    if let Outcome::Refused(n) = outcome {
-        return Replayed::Refused(n);
-    }
+    let counted = counting(bundle, position)?;
     let count = counted.count;
     if count < 2 {
-        return Replayed::Refused(63);
+        return Err(Refusal::REPLAY_TOO_FEW_ANSWERS);
     }
-    let rows = counted.rows;
-    let first = rows[0] as usize;
-    let last = rows[count - 1] as usize;
+    let first = counted.rows[0] as usize;
+    let last = counted.rows[count - 1] as usize;
     let from = figures_at(bundle, first);
     let to = figures_at(bundle, last);
-    match error_between(from, to, s1, s2, elapsed) {
-        Indication::Error(tenths) => Replayed::Error(first, last, tenths),
-        Indication::Refused(n) => Replayed::Refused(n),
-    }
+    let tenths = error_between(from, to, s1, s2, elapsed)?;
+    Ok(Replayed {
+        first,
+        last,
+        tenths,
+    })
 }

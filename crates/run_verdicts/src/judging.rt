@@ -9,7 +9,7 @@ use crate::Verdict;
 use bench_clock::{Clock, is_wake};
 use bundle_rows::Row;
 use exchange_replies::fits;
-use exchange_steps::{Exchange, Slot, State, Stepped};
+use exchange_steps::{Exchange, Slot, State};
 use mbus_reading::pairs::outline_of;
 use mbus_rules::{Outline, Request};
 
@@ -26,9 +26,7 @@ fn unfitting(outline: Outline) -> Verdict
 {
     match outline {
         Outline::Refused(n) => Verdict::Damaged(n),
-        Outline::Ack => Verdict::WrongKind,
-        Outline::Asks(_) => Verdict::WrongKind,
-        Outline::Data(_) => Verdict::WrongKind,
+        _ => Verdict::WrongKind,
     }
 }
 
@@ -39,8 +37,7 @@ fn decided_by(request: Request, silent: bool, outline: Outline) -> Verdict
     if silent {
         return Verdict::Late;
     }
-    let fitting = fits(request, outline);
-    if fitting {
+    if fits(request, outline) {
         return Verdict::Counts;
     }
     unfitting(outline)
@@ -53,21 +50,12 @@ fn heard_verdict(slot: Slot, outline: Outline, t: Clock) -> Verdict
     match slot {
         Slot::Idle => Verdict::Unasked,
         Slot::Busy(x) => {
-            let began = x.began;
-            let early = began.earlier(t);
-            if early {
+            if x.began.earlier(t) {
                 return Verdict::LeftOver;
             }
-            let state = x.state;
-            match state {
-                State::Waiting => {
-                    let request = x.request;
-                    let silent = began.late(t);
-                    decided_by(request, silent, outline)
-                },
-                State::Resend(_) => Verdict::Second,
-                State::Well => Verdict::Second,
-                State::Failed(_) => Verdict::Second,
+            match x.state {
+                State::Waiting => decided_by(x.request, x.began.late(t), outline),
+                _ => Verdict::Second,
             }
         },
     }
@@ -78,8 +66,8 @@ fn after_heard(slot: Slot, outline: Outline, t: Clock) -> Slot
     ensures { result ≡ after_heard slot outline t }
 {
     match slot.seen(outline, t) {
-        Stepped::To(x) => Slot::Busy(x),
-        Stepped::Refused(_) => slot,
+        Ok(x) => Slot::Busy(x),
+        Err(_) => slot,
     }
 }
 
@@ -88,8 +76,8 @@ fn waited(slot: Slot, t: Clock) -> Slot
     ensures { result ≡ waited slot t }
 {
     match slot.tick(t) {
-        Stepped::To(x) => Slot::Busy(x),
-        Stepped::Refused(_) => slot,
+        Ok(x) => Slot::Busy(x),
+        Err(_) => slot,
     }
 }
 
@@ -127,11 +115,11 @@ fn asked(slot: Slot, request: Request, end: Clock) -> Judged
     match slot {
         Slot::Idle => first(request, end),
         Slot::Busy(x) => match x.resent(Outline::Asks(request), end) {
-            Stepped::To(y) => Judged {
+            Ok(y) => Judged {
                 verdict: Verdict::Resend,
                 slot: Slot::Busy(y),
             },
-            Stepped::Refused(_) => first(request, end),
+            Err(_) => first(request, end),
         },
     }
 }
@@ -153,8 +141,7 @@ pub(crate) fn judge(slot: Slot, row: Row, body: &[u8]) -> Judged
     requires { length body.now ≤ 65535 }
     ensures { result ≡ judged_of slot (row_with row body.now) }
 {
-    let wake = is_wake(body);
-    if wake {
+    if is_wake(body) {
         return Judged {
             verdict: Verdict::Wake,
             slot,
@@ -162,8 +149,7 @@ pub(crate) fn judge(slot: Slot, row: Row, body: &[u8]) -> Judged
     }
     let t = Clock(row.time as u64);
     let outline = outline_of(body);
-    let direction_sent = row.direction == 0;
-    if direction_sent {
+    if row.direction == 0 {
         let end = Clock(row.time as u64 + Clock::CHARACTER * (body.len() / 2) as u64);
         return sent(waited(slot, t), outline, end);
     }

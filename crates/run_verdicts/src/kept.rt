@@ -1,15 +1,16 @@
 // The verdicts of contents kept in columns (2026-10 of document 02), whose bodies lie in a bundle.
 ghost use Rattle.std.specs.Prelude.{◌≡◌, length};
+ghost use Rattle.base_rules.specs.Answers.{within};
+ghost use Rattle.base_rules.specs.Shown.{shown};
 ghost use Rattle.bundle_columns.specs.Columns.{kept_rows};
 ghost use Rattle.bundle_columns.specs.Record.{columns_in};
 ghost use Rattle.run_verdicts.specs.Answering.{verdicts_kept};
-ghost use Rattle.run_verdicts.specs.Shown.{shown_verdicts};
+ghost use Rattle.run_verdicts.specs.Shown.{listed};
 ghost use Rattle.run_verdicts.specs.Walking.{Tried, faults_of};
 
+use crate::Verdicts;
 use crate::walking::{row_from, walk};
-use crate::{Verdicts, refused};
-use base_rules::Outcome;
-use bundle_check::Checked;
+use base_rules::Refusal;
 use bundle_columns::count_in;
 use bundle_rows::wrong_field;
 
@@ -40,26 +41,19 @@ fn faults_of(columns: &[u8], count: usize, end: usize) -> Faults
 }
 
 // The verdicts of the rows of columns.
-pub fn verdicts_kept(columns: &[u8], bundle: &[u8]) -> Verdicts
-    ensures { result ≡ shown_verdicts (verdicts_kept columns.now bundle.now) }
+pub fn verdicts_kept(columns: &[u8], bundle: &[u8]) -> Result<Verdicts, Refusal>
+    ensures { result ≡ shown (within listed (verdicts_kept columns.now bundle.now)) }
 {
-    match count_in(columns) {
-        Checked::Rows(count) => {
-            let faults = faults_of(columns, count, bundle.len());
-            let field = faults.field;
-            if field {
-                return refused(34);
-            }
-            let place = faults.place;
-            if place {
-                return refused(35);
-            }
-            Verdicts {
-                outcome: Outcome::Accepted,
-                count,
-                rulings: walk(true, columns, bundle, count),
-            }
-        },
-        Checked::Refused(number) => refused(number),
+    let count = count_in(columns)?;
+    let faults = faults_of(columns, count, bundle.len());
+    let field = faults.field;
+    if field {
+        return Err(Refusal::BUNDLE_WRONG_ROW);
     }
+    let place = faults.place;
+    if place {
+        return Err(Refusal::BUNDLE_WRONG_OFFSET);
+    }
+    let verdicts = walk(true, columns, bundle, count);
+    Ok(Verdicts { count, verdicts })
 }

@@ -2,12 +2,13 @@
 #![tactic(auto)]
 
 ghost use Rattle.std.specs.Prelude.{◌≡◌};
-ghost use Rattle.base_rules.specs.Answers.{refusal};
+ghost use Rattle.base_rules.specs.Answers.{within};
+ghost use Rattle.base_rules.specs.Shown.{shown};
 ghost use Rattle.run_verdicts.specs.Answering.{verdicts_in};
-ghost use Rattle.run_verdicts.specs.Shown.{shown_verdicts};
+ghost use Rattle.run_verdicts.specs.Shown.{listed};
 
-use base_rules::Outcome;
-use bundle_check::{Checked, check};
+use base_rules::Refusal;
+use bundle_check::check;
 use bundle_rows::MOST_ROWS;
 use walking::walk;
 
@@ -32,44 +33,18 @@ pub enum Verdict {
     Unasked,
 }
 
-// A verdict in its place: arrays of plain enums cannot be part of an answer yet.
-#[derive(Clone, Copy)]
-pub struct Ruling {
-    pub verdict: Verdict,
-}
-
-// The verdicts of all rows, in the first places, and how many there are; or refused. Every other place has `Unasked`.
+// The verdicts of all rows, in the first places, and how many there are. Every other place has `Unasked`.
 #[derive(Clone, Copy)]
 pub struct Verdicts {
-    pub outcome: Outcome,
     pub count: usize,
-    pub rulings: [Ruling; MOST_ROWS],
-}
-
-// A refusal, with no verdicts.
-pub(crate) fn refused(n: u16) -> Verdicts
-    ensures { result ≡ shown_verdicts (refusal n) }
-{
-    let blank = Ruling {
-        verdict: Verdict::Unasked,
-    };
-    Verdicts {
-        outcome: Outcome::Refused(n),
-        count: 0,
-        rulings: [blank; MOST_ROWS],
-    }
+    pub verdicts: [Verdict; MOST_ROWS],
 }
 
 // The verdicts of the rows of a bundle.
-pub fn verdicts_in(bundle: &[u8]) -> Verdicts
-    ensures { result ≡ shown_verdicts (verdicts_in bundle.now) }
+pub fn verdicts_in(bundle: &[u8]) -> Result<Verdicts, Refusal>
+    ensures { result ≡ shown (within listed (verdicts_in bundle.now)) }
 {
-    match check(bundle) {
-        Checked::Rows(count) => Verdicts {
-            outcome: Outcome::Accepted,
-            count,
-            rulings: walk(false, bundle, bundle, count),
-        },
-        Checked::Refused(number) => refused(number),
-    }
+    let count = check(bundle)?;
+    let verdicts = walk(false, bundle, bundle, count);
+    Ok(Verdicts { count, verdicts })
 }

@@ -7,9 +7,8 @@ ghost use Rattle.run_verdicts.specs.Shown.{in_places};
 ghost use Rattle.run_verdicts.specs.Verdicts.{verdicts_of};
 ghost use Rattle.run_verdicts.specs.Walking.{row_from, records_from, Walkable};
 
+use crate::Verdict;
 use crate::judging::{Judged, judge};
-use crate::{Ruling, Verdict};
-use bundle_check::rows::RowFound;
 use bundle_columns::row;
 use bundle_rows::{MOST_ROWS, Row, unchecked_row};
 use exchange_steps::Slot;
@@ -20,8 +19,8 @@ pub(crate) fn row_from(kept: bool, contents: &[u8], i: usize) -> Row
 {
     if kept {
         return match row(contents, i) {
-            RowFound::Fields(fields) => fields,
-            RowFound::Refused(_) => unchecked_row(contents, MOST_ROWS),
+            Ok(fields) => fields,
+            Err(_) => unchecked_row(contents, MOST_ROWS),
         };
     }
     unchecked_row(contents, i)
@@ -38,24 +37,19 @@ fn judge_in(slot: Slot, row: Row, bundle: &[u8]) -> Judged
 }
 
 // The verdicts of so many rows, each by the exchange of its position, and `Unasked` in the places behind them.
-pub(crate) fn walk(kept: bool, contents: &[u8], bundle: &[u8], count: usize) -> [Ruling; MOST_ROWS]
+pub(crate) fn walk(kept: bool, contents: &[u8], bundle: &[u8], count: usize) -> [Verdict; MOST_ROWS]
     requires { Walkable kept contents.now bundle.now count }
     ensures { result ≡ in_places (verdicts_of (records_from kept contents.now bundle.now count)) }
 {
     let mut slots = [Slot::Idle; 49];
-    let blank = Ruling {
-        verdict: Verdict::Unasked,
-    };
-    let mut rulings = [blank; MOST_ROWS];
+    let mut verdicts = [Verdict::Unasked; MOST_ROWS];
     for i in 0..count {
         let row = row_from(kept, contents, i);
         let position = row.position as usize;
         let slot = slots[position];
         let judged = judge_in(slot, row, bundle);
-        let verdict = judged.verdict;
-        rulings[i] = Ruling { verdict };
-        let next = judged.slot;
-        slots[position] = next;
+        verdicts[i] = judged.verdict;
+        slots[position] = judged.slot;
     }
-    rulings
+    verdicts
 }

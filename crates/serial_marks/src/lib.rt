@@ -2,16 +2,16 @@
 // came with wrong parity; what it hands over is taken apart again into characters with the parity bit as it was received.
 #![tactic(auto)]
 
-ghost use Rattle.std.specs.Prelude.{◌≡◌, drop};
+ghost use Rattle.std.specs.Prelude.{◌≡◌};
 ghost use Rattle.base_characters.specs.Characters.{carrier};
 ghost use Rattle.serial_marks.specs.Marks.{wronged};
 ghost use Rattle.serial_marks.specs.Unmarking.{first, after_mark, after_zero, Unmarks};
 
-// What stands first in marked bytes: a whole character and how many bytes it is, or no more than the beginning of a mark.
+// A whole character that stands first in marked bytes, and how many bytes it is.
 #[derive(Clone, Copy)]
-pub enum First {
-    Finished { size: usize, character: u16 },
-    Unfinished,
+pub struct Whole {
+    pub size: usize,
+    pub character: u16,
 }
 
 // How many bytes were used, and how many characters made.
@@ -40,56 +40,48 @@ fn wrong(byte: u8) -> u16
 }
 
 // Behind FF 00: the byte that came with wrong parity.
-fn after_zero(bytes: &[u8], at: usize) -> First
-    ensures { result ≡ after_zero (drop at bytes.now) }
+fn after_zero(bytes: &[u8]) -> Option<Whole>
+    ensures { result ≡ after_zero bytes.now }
 {
-    if bytes.len() <= at {
-        return First::Unfinished;
-    }
-    First::Finished {
+    let (byte, _) = bytes.split_first()?;
+    Some(Whole {
         size: 3,
-        character: wrong(bytes[at]),
-    }
+        character: wrong(*byte),
+    })
 }
 
 // Behind FF.
-fn after_mark(bytes: &[u8], at: usize) -> First
-    ensures { result ≡ after_mark (drop at bytes.now) }
+fn after_mark(bytes: &[u8]) -> Option<Whole>
+    ensures { result ≡ after_mark bytes.now }
 {
-    if bytes.len() <= at {
-        return First::Unfinished;
-    }
-    let byte = bytes[at];
-    if byte == MARK {
-        return First::Finished {
+    let (byte, rest) = bytes.split_first()?;
+    if *byte == MARK {
+        return Some(Whole {
             size: 2,
             character: right(MARK),
-        };
+        });
     }
-    if byte == 0 {
-        return after_zero(bytes, at + 1);
+    if *byte == 0 {
+        return after_zero(rest);
     }
-    First::Finished {
+    Some(Whole {
         size: 1,
         character: wrong(MARK),
-    }
+    })
 }
 
-// What stands first in the bytes from a place on.
-fn first_at(bytes: &[u8], at: usize) -> First
-    ensures { result ≡ first (drop at bytes.now) }
+// What stands first in the bytes, if it is whole.
+fn first_of(bytes: &[u8]) -> Option<Whole>
+    ensures { result ≡ first bytes.now }
 {
-    if bytes.len() <= at {
-        return First::Unfinished;
+    let (byte, rest) = bytes.split_first()?;
+    if *byte == MARK {
+        return after_mark(rest);
     }
-    let byte = bytes[at];
-    if byte == MARK {
-        return after_mark(bytes, at + 1);
-    }
-    First::Finished {
+    Some(Whole {
         size: 1,
-        character: right(byte),
-    }
+        character: right(*byte),
+    })
 }
 
 // Makes characters of marked bytes, as many as there are places or whole characters in the bytes.
@@ -97,15 +89,15 @@ pub fn unmark(bytes: &[u8], characters: &mut [u16]) -> Unmarked
     ensures { Unmarks bytes.now characters.old characters.new result }
 {
     let mut used = 0;
-    let mut made = 0;
-    while made < characters.len() {
-        let next = first_at(bytes, used);
-        let First::Finished { size, character } = next else {
+    for made in 0..characters.len() {
+        let Some(next) = first_of(&bytes[used..]) else {
             return Unmarked { used, made };
         };
-        characters[made] = character;
-        used += size;
-        made += 1;
+        characters[made] = next.character;
+        used += next.size;
     }
-    Unmarked { used, made }
+    Unmarked {
+        used,
+        made: characters.len(),
+    }
 }

@@ -1,7 +1,7 @@
 // The exchange.
 ghost use Rattle.host_exchange.specs.Calls.{Answers, send_ended_for, HearsReply, heard_for, tick_for};
 ghost use Rattle.mbus_rules.specs.Lines.{read_line};
-ghost use Rattle.mbus_rules.specs.Telegrams.{shown};
+ghost use Rattle.mbus_rules.specs.Telegrams.{telegram_read};
 
 // A send has ended at t: 2 a read, 3 an enter with its method, 4 a leave, to the address.
 #[unsafe(no_mangle)]
@@ -25,7 +25,7 @@ pub extern "C" fn skarrowith_exchange_heard(
     t: u64,
     reply: &mut [u8],
 ) -> u32
-    ensures { HearsReply (heard_for kept.old line.now t reply.old) (shown (read_line line.now)).telegram
+    ensures { HearsReply (heard_for kept.old line.now t reply.old) (telegram_read (read_line line.now))
         kept.old kept.new reply.old reply.new result }
 {
     host_exchange::skarrowith_exchange_heard(kept, line, t, reply)

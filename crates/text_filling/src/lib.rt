@@ -2,10 +2,10 @@
 // same, so that one set of functions measures a text (in no memory at all) and writes it.
 #![tactic(auto)]
 
-ghost use Rattle.std.specs.Prelude.{◌≡◌, [], ◌∷◌, ◌+◌, ◌≤◌, length, get_or, drop};
+ghost use Rattle.std.specs.Prelude.{◌≡◌, [], ◌∷◌, ◌≤◌, length, get_or, drop};
 ghost use Rattle.text_filling.specs.Decimals.{decimal};
 ghost use Rattle.text_filling.specs.Holes.{filled_with};
-ghost use Rattle.text_filling.specs.Putting.{tallied, PutAt};
+ghost use Rattle.text_filling.specs.Putting.{PutAt};
 
 // The decimal digits of a number, in the last places.
 #[derive(Clone, Copy)]
@@ -29,18 +29,7 @@ fn digits_of(n: u64) -> Digits
     Digits { bytes, start }
 }
 
-// The place behind one; past the largest number there is none.
-fn behind(at: usize) -> usize
-    ensures { result ≡ tallied (at + 1) }
-{
-    if at < 18_446_744_073_709_551_615 {
-        at + 1
-    } else {
-        at
-    }
-}
-
-// Puts one byte to a place, where there is room for it.
+// Puts one byte to a place, where there is room for it. (By put that is dearer at run time.)
 fn put_byte(out: &mut [u8], at: usize, byte: u8) -> usize
     ensures { PutAt (byte ∷ []) out.old at result out.new }
 {
@@ -48,18 +37,25 @@ fn put_byte(out: &mut [u8], at: usize, byte: u8) -> usize
         out[at] = byte;
         return at + 1;
     }
-    behind(at)
+    at.saturating_add(1)
 }
 
-// Puts bytes from a place on, and answers the place behind them.
+// Puts bytes from a place on, those that have room there, and answers the place behind all of them; past the largest number there is none.
+// (out and at stay two parameters, here and above: run_listing gives the memory alone to what it writes beside texts, and PutAt, which
+// demands/specs/Drawing names, tells them apart.)
 pub fn put(out: &mut [u8], at: usize, bytes: &[u8]) -> usize
     ensures { PutAt bytes.now out.old at result out.new }
 {
-    let mut next = at;
-    for i in 0..bytes.len() {
-        next = put_byte(out, next, bytes[i]);
+    if out.len() <= at {
+        return at.saturating_add(bytes.len());
     }
-    next
+    let room = out.len() - at;
+    if bytes.len() <= room {
+        out[at..at + bytes.len()].copy_from_slice(bytes);
+        return at + bytes.len();
+    }
+    out[at..].copy_from_slice(&bytes[..room]);
+    at.saturating_add(bytes.len())
 }
 
 // Puts a number in decimal from a place on, and answers the place behind it.
@@ -67,19 +63,14 @@ pub fn put_number(out: &mut [u8], at: usize, n: u64) -> usize
     ensures { PutAt (decimal n) out.old at result out.new }
 {
     let digits = digits_of(n);
-    let start = digits.start;
-    let bytes = digits.bytes;
-    put(out, at, &bytes[start..])
+    put(out, at, &digits.bytes[digits.start..])
 }
 
 // The number at a place, 0 past the last one.
 fn number_or_none(numbers: &[u64], k: usize) -> u64
     ensures { result ≡ get_or numbers.now k 0 }
 {
-    if k < numbers.len() {
-        return numbers[k];
-    }
-    0
+    numbers.get(k).copied().unwrap_or(0)
 }
 
 // Puts a text from a place on, each % of it being the next number in decimal, and answers the place behind it.
@@ -88,18 +79,15 @@ pub fn fill(out: &mut [u8], at: usize, template: &[u8], numbers: &[u64]) -> usiz
 {
     let mut next = at;
     let mut used: usize = 0;
-    let mut i: usize = 0;
-    while i < template.len() {
-        let byte = template[i];
-        i += 1;
+    for &byte in template {
         let hole = byte == b'%';
         if hole {
             let n = number_or_none(numbers, used);
             next = put_number(out, next, n);
             used += 1;
-            continue;
+        } else {
+            next = put_byte(out, next, byte);
         }
-        next = put_byte(out, next, byte);
     }
     next
 }

@@ -1,40 +1,12 @@
-// Text put into lent memory by stretches: nowhere where there is no room, at once where there is room for all of it.
+// Numbers between texts, put into lent memory.
 #![tactic(auto)]
 
-ghost use Rattle.std.specs.Prelude.{◌≡◌, ◌+◌, length};
+ghost use Rattle.std.specs.Prelude.{◌≡◌, length};
 ghost use Rattle.text_filling.specs.Decimals.{decimal};
-ghost use Rattle.text_filling.specs.Putting.{tallied, PutAt};
+ghost use Rattle.text_filling.specs.Putting.{PutAt};
 ghost use Rattle.text_stretches.specs.Between.{between, pair_between};
 
-use base_lent::lay;
 use text_filling::{put, put_number};
-
-// The place behind so many bytes; past the largest number there is none.
-fn behind(at: usize, size: usize) -> usize
-    ensures { result ≡ tallied (at + size) }
-{
-    if at < 18_446_744_073_709_551_615 - size {
-        at + size
-    } else {
-        18_446_744_073_709_551_615
-    }
-}
-
-// Puts bytes from a place on, and answers the place behind them.
-pub fn put_text(out: &mut [u8], at: usize, bytes: &[u8]) -> usize
-    ensures { PutAt bytes.now out.old at result out.new }
-{
-    let room = out.len();
-    let size = bytes.len();
-    if room <= at {
-        return behind(at, size);
-    }
-    if size <= room - at {
-        lay(out, at, bytes);
-        return at + size;
-    }
-    put(out, at, bytes)
-}
 
 // How many digits a number has.
 fn width_of(n: u64) -> usize
@@ -49,13 +21,14 @@ fn width_of(n: u64) -> usize
     size
 }
 
-// Puts a number in decimal from a place on; where there is no room its digits are only counted.
+// Puts a number in decimal from a place on, as `put_number` does; where there is no room its digits are only counted, since spelling them
+// is dearer at run time.
 fn put_decimal(out: &mut [u8], at: usize, n: u64) -> usize
     ensures { PutAt (decimal n) out.old at result out.new }
 {
     if out.len() <= at {
         let size = width_of(n);
-        return behind(at, size);
+        return at.saturating_add(size);
     }
     put_number(out, at, n)
 }
@@ -64,9 +37,9 @@ fn put_decimal(out: &mut [u8], at: usize, n: u64) -> usize
 pub fn put_between(out: &mut [u8], at: usize, before: &[u8], n: u64, after: &[u8]) -> usize
     ensures { PutAt (between before.now n after.now) out.old at result out.new }
 {
-    let opened = put_text(out, at, before);
+    let opened = put(out, at, before);
     let told = put_decimal(out, opened, n);
-    put_text(out, told, after)
+    put(out, told, after)
 }
 
 // Puts bytes around two numbers.

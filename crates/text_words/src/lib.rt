@@ -7,36 +7,34 @@ ghost use Rattle.text_words.specs.Refusals.{text_of};
 ghost use Rattle.text_words.specs.Saying.{Says};
 ghost use Rattle.text_words.specs.Rows.{rows_from, first_row, row_of_words};
 
+use base_rules::Refusal;
+
 // Where row n of the words begins. Each row ends with a line feed; the first is row 0.
 fn row_start(words: &[u8], n: u32) -> usize
     ensures { (result ≤ length words.now) × (drop result words.now ≡ rows_from n words.now) }
 {
     let mut left = n;
-    let mut i = 0;
-    while i < words.len() {
+    for (i, &b) in words.iter().enumerate() {
         if left == 0 {
             return i;
         }
-        if words[i] == b'\n' {
+        if b == b'\n' {
             left -= 1;
         }
-        i += 1;
     }
-    i
+    words.len()
 }
 
 // How many bytes the first row has.
 fn row_size(rest: &[u8]) -> usize
     ensures { (result ≤ length rest.now) × (take result rest.now ≡ first_row rest.now) }
 {
-    let mut i = 0;
-    while i < rest.len() {
-        if rest[i] == b'\n' {
+    for (i, &byte) in rest.iter().enumerate() {
+        if byte == b'\n' {
             return i;
         }
-        i += 1;
     }
-    i
+    rest.len()
 }
 
 // The words stand in the first places with a zero byte behind them; the answer is how many bytes they have without it, or 256 + 21
@@ -47,14 +45,15 @@ fn say(out: &mut [u8], words: &[u8]) -> u32
 {
     let short = out.len() < words.len() + 1;
     if short {
-        return 256 + 21;
+        return Refusal::TOO_FEW_PLACES.told();
     }
+    // (No copy_from_slice: the call that it becomes takes stack, which the loop does not.)
     let mut i = 0;
     while i < words.len() {
         out[i] = words[i];
         i += 1;
     }
-    out[i] = 0;
+    out[words.len()] = 0;
     words.len() as u32
 }
 
@@ -68,7 +67,7 @@ fn say_row(out: &mut [u8], words: &[u8], n: u32) -> u32
     let size = row_size(rest);
     let none = size == 0;
     if none {
-        return 256 + 100;
+        return Refusal::NO_SUCH_NUMBER.told();
     }
     say(out, &rest[..size])
 }
@@ -183,5 +182,5 @@ pub fn say_number(out: &mut [u8], number: u32) -> u32
     if number < 102 {
         return say_of_steps(out, number);
     }
-    256 + 100
+    Refusal::NO_SUCH_NUMBER.told()
 }

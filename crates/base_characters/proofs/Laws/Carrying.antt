@@ -1,18 +1,17 @@
 -- Characters written: a loop that copies with parity, and the ways out.
-use Rattle.std.proofs.Common.{◌≡◌, ℕ, ◌+◌, ◌-◌, ◌*◌, ◌%◌, ◌<◌, ◌≤◌, true, false, eqb, ltb, List, map, length, get_or, set, sym, refl, ap, ◌∙◌, zero-add, arith, le-ltb, lt-ltb, eqb-true}
+use Rattle.std.proofs.Common.{◌≡◌, ℕ, ◌+◌, ◌*◌, ◌%◌, ◌<◌, ◌≤◌, true, false, eqb, ltb, List, map, length, get_or, set, sym, refl, ap, ◌∙◌, zero-add, arith, le-ltb, lt-ltb, eqb-true}
 use lib.Count.{ones_in}
 use lib.ListN.{length-map}
-use Rattle.base_lent.specs.Copying.{copied, laid}
+use Rattle.base_lent.specs.Copying.{laid}
 use Rattle.base_lent.proofs.Laws.Copying.{Copied, copied_none, copied_next, copied_length, copied_all}
 use Rattle.base_rules.proofs.Laws.Tests.{below}
 use Rattle.base_characters.specs.Characters.{carrier}
 use Rattle.base_characters.proofs.Laws.Folding.{fold}
 use lib.ListN.{length-map, get_or-map}
-use Rattle.base_rules.specs.Lists.{at}
 use lib.ListN.{length-map}
-use Rattle.base_rules.specs.Answers.{Answer, reads, refusal}
-use Rattle.base_characters.specs.declared.carrying.Written.TheVariants.{Length, Refused}
-use Rattle.base_characters.specs.Carrying.{shown_written, Writes, carried_in}
+use Rattle.std.proofs.Common.{Ok, Err}
+use Rattle.base_rules.specs.Shown.{refused_by}
+use Rattle.base_characters.specs.Carrying.{Writes, carried_in}
 
 -- the characters that carry bytes, from the first place on
 pub record CarriedSoFar (s d : List ℕ) (i : ℕ) (now : List ℕ) : Type 0 where
@@ -44,22 +43,16 @@ pub carrier_folded : (b : ℕ) → b < 256 → 256 * (fold 2 (fold 4 (fold 16 b)
 unfolding ones_in carrier
 carrier_folded b h = eqb-true _ _ (below 256 (λ (n : ℕ). eqb (256 * (fold 2 (fold 4 (fold 16 n)) % 2) + n) (carrier n)) refl b h)
 
-pub shown_once : (a b : Answer ℕ) → shown_written a ≡ shown_written b → a ≡ b
-shown_once (refusal m) (refusal n) e = cc
-shown_once (refusal m) (reads n) e = cc
-shown_once (reads m) (refusal n) e = cc
-shown_once (reads m) (reads n) e = cc
-
 -- ---- the ways out
 
 module _ (bytes before : List ℕ) where
-  pub bytes_short : length before < length bytes → Writes (carried_in bytes (length before)) before before (Refused 21)
+  pub bytes_short : length before < length bytes → Writes (carried_in bytes (length before)) before before (Err (refused_by 21))
   bytes_short h =
       let short : ltb (length before) (length (map carrier bytes)) ≡ true = rw (length-map bytes carrier) (lt-ltb (length before) (length bytes) h) in
       record { answer = rw short; places = rw short }
 
   pub bytes_written : length bytes ≤ length before → {after : List ℕ} → after ≡ laid before 0 (map carrier bytes)
-      → Writes (carried_in bytes (length before)) before after (Length (length bytes))
+      → Writes (carried_in bytes (length before)) before after (Ok (length bytes))
   bytes_written h e =
       let room : ltb (length before) (length (map carrier bytes)) ≡ false = rw (length-map bytes carrier) (le-ltb (length before) (length bytes) h) in
-      record { answer = rw room (ap Length (sym (length-map bytes carrier))); places = rw room e }
+      record { answer = rw room (ap Ok (sym (length-map bytes carrier))); places = rw room e }

@@ -5,7 +5,7 @@ use lib.Bits.{bit_xor, bit_or, xor_shr, or_add_and, and_le_l, and_le_r, or_lt, o
 use lib.Count.{ones_in}
 use Rattle.base_rules.specs.Lists.{at, any}
 use Rattle.base_characters.specs.Characters.{over, odd}
-use Rattle.base_rules.specs.Answers.{outcome_shown}
+use Rattle.base_rules.specs.Shown.{shown}
 use Rattle.base_rules.proofs.Laws.ListLaws.{any_append}
 use Rattle.base_characters.proofs.Laws.Folding.{fold, folded_odd}
 use Rattle.base_rules.proofs.Laws.Tests.{by_test, below, neither}
@@ -126,9 +126,9 @@ pub flagged_next : (s : List ℕ) {i f g : ℕ} → Flagged (take i s) f → i <
 flagged_next s {i} p h e q = rw (add-one, take-suc s i 0 h, ← e) (flagged_append p q)
 
 -- What is flagged is told as the rules 2 and 3 say.
-pub flagged_told : {s : List ℕ} {flags : ℕ} → Flagged s flags → outcome_shown (sound_by flags) ≡ outcome_shown (sound s)
+pub flagged_told : {s : List ℕ} {flags : ℕ} → Flagged s flags → shown (sound_by flags) ≡ shown (sound s)
 flagged_told {s} {flags} p =
     by_test (any over s) (λ e. rw (p.range, e)) (λ e. rw (p.range, e, p.parity e))
 
-pub flagged_all : (s : List ℕ) (i : ℕ) {flags : ℕ} → Flagged (take i s) flags → length s ≤ i → outcome_shown (sound_by flags) ≡ outcome_shown (sound s)
+pub flagged_all : (s : List ℕ) (i : ℕ) {flags : ℕ} → Flagged (take i s) flags → length s ≤ i → shown (sound_by flags) ≡ shown (sound s)
 flagged_all s i p h = flagged_told (rw (take_all i s h) at p)

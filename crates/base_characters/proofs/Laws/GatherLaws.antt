@@ -3,7 +3,7 @@ use Rattle.std.proofs.Common.{◌≡◌, ℕ, ◌%◌, ◌≤◌, List, map, len
 use lib.ListN.{length-map}
 use Rattle.base_rules.specs.Lists.{total}
 use Rattle.base_characters.specs.Characters.{byte_of}
-use Rattle.base_rules.specs.Answers.{outcome_shown}
+use Rattle.base_rules.specs.Shown.{shown}
 use Rattle.base_lent.specs.Copying.{copied}
 use Rattle.base_characters.specs.declared.Gathering.{Gathering}
 use Rattle.base_characters.specs.Gathering.{sound, gathered}
@@ -14,8 +14,8 @@ module _ (s places low : List ℕ) {g : Gathering} (room : length s ≤ length p
   whole : take (length places) s ≡ s
   whole = take_all (length places) s room
 
-  pub sound_is : g.outcome ≡ outcome_shown (sound s)
-  sound_is = ap (λ (h : Gathering). h.outcome) e ∙ ap (λ (t : List ℕ). outcome_shown (sound t)) whole
+  pub sound_is : g.outcome ≡ shown (sound s)
+  sound_is = ap (λ (h : Gathering). h.outcome) e ∙ ap (λ (t : List ℕ). shown (sound t)) whole
 
   pub sum_is : g.sum ≡ total (map byte_of s) % 256
   sum_is = ap (λ (h : Gathering). h.sum) e ∙ ap (λ (t : List ℕ). total (map byte_of t) % 256) whole

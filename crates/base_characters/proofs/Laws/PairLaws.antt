@@ -1,5 +1,6 @@
 -- Characters that come as bytes, two per character: how many there are, which stands at each place, and the walks over them.
 use Rattle.std.proofs.Common.{◌≡◌, ℕ, zero, suc, ◌+◌, ◌*◌, ◌/◌, ◌<◌, ◌≤◌, Bool, true, false, ◌||◌, List, [], ◌∷◌, map, length, drop, sym, refl, ◌∙◌, subst, arith}
+use Rattle.std.specs.Int.{w16, from_le_bytes}
 use lib.ListN.{length-map, get_or-eq_default}
 use Rattle.base_rules.specs.Lists.{at, any}
 use Rattle.base_characters.specs.Characters.{byte_of, chars}
@@ -20,6 +21,10 @@ character_at (low ∷ (high ∷ s)) (suc i) h =
     let e : 2 * suc i ≡ suc (suc (2 * i)) = omega arith in
     let f : 2 * suc i + 1 ≡ suc (suc (2 * i + 1)) = omega arith in
     rw (f, e) (character_at s i (omega arith))
+
+-- as the library reads two bytes
+pub pair_read : (s : List ℕ) (i : ℕ) → i < length s / 2 → from_le_bytes w16 (at s (2 * i) ∷ at s (2 * i + 1) ∷ []) ≡ at (chars s) i
+pair_read s i h = omega (arith, character_at s i h)
 
 pub character_none : (s : List ℕ) (i : ℕ) → length s / 2 ≤ i → at (chars s) i ≡ 0
 character_none s i h = get_or-eq_default (chars s) 0 (omega (arith, length_characters s))

@@ -1,6 +1,8 @@
 -- Parts of a line that are walked over by loops of their own, and put together.
-use Rattle.std.proofs.Common.{◌≡◌, ℕ, zero, suc, ◌+◌, ◌-◌, ◌*◌, ◌/◌, ◌%◌, ◌<◌, ◌≤◌, true, false, cond, ltb, List, [], ◌∷◌, ◌++◌, map, length, take, drop, set, sym, refl, ap, ◌∙◌, subst, ap₂, append_assoc, add-zero, mul-zero, mul-one, add-one, arith, length-drop, take-append-drop, length-take-le, get_or-drop, take_all, get_or-take, take-suc, take-take, drop-drop, ltb-false, ltb-true}
+use Rattle.std.proofs.Common.{◌≡◌, ℕ, zero, suc, ◌+◌, ◌-◌, ◌*◌, ◌/◌, ◌%◌, ◌<◌, ◌≤◌, ltb, List, [], ◌∷◌, ◌++◌, map, length, take, drop, set, sym, refl, ap, ◌∙◌, subst, ap₂, append_assoc, add-zero, mul-zero, mul-one, add-one, arith, length-drop, take-append-drop, length-take-le, get_or-drop, take_all, get_or-take, take-suc, take-take, drop-drop, ltb-false, ltb-true}
+use Prim.Native.Nat.{min}
 use mathlib.Core.List.{map-append}
+use Rattle.std.proofs.lemmas.List.{take_min}
 use lib.Bits.{bit_or}
 use lib.ListN.{length-map}
 use lib.Seq.{drop-append-add, drop-append-le}
@@ -217,18 +219,7 @@ module _ (l : List ℕ) {whole count : ℕ} (le : whole ≤ count) (to : count �
         ∙ stored_over d (map byte_of (take count l)) from whole before (omega (arith, bytes_length)) (omega (arith, bytes_length))
 
 -- As many characters as there are places: the lower of the two counts.
-pub fewer_all : (l d : List ℕ) {here n : ℕ} → here ≡ length l → n ≡ cond (ltb here (length d)) here (length d)
-    → (n ≤ length l) × (n ≤ length d) × (take n l ≡ take (length d) l)
-fewer_all l d {here} {n} e f = by_test (ltb here (length d)) less not_less
-  where
-    less : ltb here (length d) ≡ true → (n ≤ length l) × (n ≤ length d) × (take n l ≡ take (length d) l)
-    less t =
-        let low : here < length d = ltb-true here (length d) t in
-        let same : n ≡ here = rw t at f in
-        (omega arith, omega arith, take_all n l (omega arith) ∙ sym (take_all (length d) l (omega arith)))
-
-    not_less : ltb here (length d) ≡ false → (n ≤ length l) × (n ≤ length d) × (take n l ≡ take (length d) l)
-    not_less t =
-        let high : length d ≤ here = ltb-false here (length d) t in
-        let same : n ≡ length d = rw t at f in
-        (omega arith, omega arith, ap (λ (k : ℕ). take k l) same)
+pub fewer_all : (l d : List ℕ) {n : ℕ} → n ≡ min (length l) (length d) → (n ≤ length l) × (n ≤ length d) × (take n l ≡ take (length d) l)
+fewer_all l d {n} e =
+    let turned : n ≡ min (length d) (length l) = omega arith in
+    (omega arith, omega arith, ap (λ (k : ℕ). take k l) turned ∙ take_min (length d) l)

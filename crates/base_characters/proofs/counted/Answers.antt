@@ -3,8 +3,8 @@ use Rattle.std.proofs.Common.{sym, ◌∙◌}
 use Rattle.base_characters.proofs.Laws.FlagLaws.{flagged_odd, flagged_even}
 use Rattle.base_characters.proofs.counted.Goals as goal
 
-pub returns-then-odd : goal.returns-then-odd
-returns-then-odd c = flagged_odd c.args.c (sym c.counts_odd-odd.ensures ∙ c.if-odd.true)
+pub returns-then-counts_odd : goal.returns-then-counts_odd
+returns-then-counts_odd c = flagged_odd c.args.c (sym c.counts_odd.ensures ∙ c.if-counts_odd.true)
 
-pub returns : goal.returns
-returns c = flagged_even c.args.c (sym c.counts_odd-odd.ensures ∙ c.if-odd.false)
+pub returns-else-counts_odd : goal.returns-else-counts_odd
+returns-else-counts_odd c = flagged_even c.args.c (sym c.counts_odd.ensures ∙ c.if-counts_odd.false)

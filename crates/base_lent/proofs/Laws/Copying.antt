@@ -1,14 +1,12 @@
 -- Laws of `specs/Copying`.
-use Prim.Native.Nat.{ℕ, ◌+◌, ◌-◌, ◌≤◌, ◌<◌, zero-le}
+use Prim.Native.Nat.{ℕ, ◌+◌, ◌≤◌, ◌<◌, zero-le}
 use mathlib.Core.List.{List, [], ◌++◌, append_assoc, append-nil}
 use mathlib.Core.Path.{◌≡◌, sym, ap, ap₂, ◌∙◌}
 use native.Mathlib.Nat.{zero-add}
 use native.Mathlib.Numerals.{add-one}
 use native.Mathlib.Omega.{arith}
-use borrow.Author.Tests.{lt-ltb, le-ltb, ltb-true, ltb-false}
-use lib.Dec.{ltb}
+use borrow.Author.Tests.{le-ltb}
 use lib.ListN.{length, get_or, take, drop, set, length-append, length-drop, take-append-drop}
-use Rattle.base_rules.proofs.Laws.Tests.{by_test}
 use lib.Seq.{drop-drop, drop-length, take_at, drop_at, length-take-le, take-length, paste, paste-zero, paste-suc, length-paste}
 use Rattle.base_lent.specs.Copying.{laid, copied}
 
@@ -18,11 +16,6 @@ laid_behind d at s = rw (drop-drop (length s) at d) (sym (append_assoc (take at 
 
 pub copied_fits : {A : Type 0} (d : List A) (at : ℕ) (s : List A) → at + length s ≤ length d → copied d at s ≡ laid d at s
 copied_fits d at s h = rw (le-ltb (length d) (at + length s) h)
-
--- So many places from one on reach past the end where there are too few in all, or too few before it.
-pub past_by_rest : (size at count : ℕ) → count ≤ size → ltb (size - count) at ≡ ltb size (at + count)
-past_by_rest size at count h = by_test (ltb size (at + count)) (λ e. lt-ltb (size - count) at (omega (arith, ltb-true size (at + count) e)) ∙ sym e)
-    (λ e. le-ltb (size - count) at (omega (arith, ltb-false size (at + count) e)) ∙ sym e)
 
 -- ---- a loop that copies
 

@@ -1,16 +1,20 @@
 -- Laws of numbers low byte first, over the width.
 use Prim.Native.Nat.{ℕ, zero, suc, ◌+◌, ◌*◌, ◌-◌, ◌/◌, ◌%◌, ◌^◌, ◌≤◌, ◌<◌, min}
-use mathlib.Core.List.{List, [], ◌∷◌}
-use mathlib.Core.Path.{◌≡◌, refl, sym, ap, ap₂, ◌∙◌}
+use mathlib.Core.List.{List, [], ◌∷◌, ◌++◌}
+use mathlib.Core.Path.{◌≡◌, refl, sym, ap, ◌∙◌}
 use native.Mathlib.Nat.{pow-suc, pow-zero, pow-succ', one-le-pow, pow-le-pow_right}
 use native.Mathlib.Nat.{mod-one, mod-lt, mod-add-div, mod-eq_of_lt, mul_assoc, add-mul-mod_self_left}
 use native.Mathlib.Omega.{arith}
-use lib.ListN.{length, get_or, take, drop, length-drop, drop_of_length-le}
-use lib.Seq.{take-nil, take_all}
+use lib.ListN.{length, take, drop, length-drop, drop_of_length-le}
+use lib.Seq.{take-nil}
+use mir.Syntax.{w64}
+use Rattle.std.specs.Int.{from_le_bytes, to_le_bytes, bytes_low_first}
+use Rattle.std.proofs.lemmas.List.{take_min, length-take}
+use Rattle.std.proofs.Math.Nat.{div-div-eq-div-mul, div-one}
 use Rattle.base_numbers.specs.Numbers.{number, bytes_of, Numbered}
-use Rattle.base_numbers.proofs.Laws.Numbers.{length_bytes, number_at}
 use Rattle.base_rules.proofs.Laws.ByteLaws.{bytes_each}
 use Rattle.base_numbers.proofs.Laws.ByteNumbers.{bytes_number}
+use Rattle.base_numbers.proofs.Laws.ByteNumbers.{number_below as bytes_below_width}
 use Rattle.base_rules.proofs.Laws.ByteLaws.{EachByte, byte_at}
 use Rattle.base_numbers.proofs.Laws.ByteNumbers.{bytes_bytes}
 
@@ -20,54 +24,34 @@ number_below zero s h = rw pow-zero (omega arith)
 number_below (suc k) [] h = omega (arith, one-le-pow (suc k) 256 (omega arith))
 number_below (suc k) (b ∷ s) h = rw pow-suc (omega (arith, number_below k s (λ i. h (suc i)), h 0))
 
--- ---- a loop that reads bytes, the last one first: what is read so far is the number of those behind a place
+-- ---- bytes that are read and written at once, eight of them
 
-pub record Gathered (s : List ℕ) (at width i n : ℕ) : Type 0 where
-  pub inside : i ≤ width
-  pub few : width ≤ 8
-  pub there : at + width ≤ length s
-  pub so : n ≡ number (take (width - i) (drop (at + i) s))
-  pub below : n < 256 ^ (width - i)
-
-pub gathered_none : {s : List ℕ} {at width : ℕ} → width ≤ 8 → at + width ≤ length s → Gathered s at width width 0
+pub number_padded : (s : List ℕ) → length s ≤ 8 → from_le_bytes w64 (s ++ drop (length s) (0 ∷ 0 ∷ 0 ∷ 0 ∷ 0 ∷ 0 ∷ 0 ∷ 0 ∷ [])) ≡ number s
 unfolding number
-gathered_none {s} {at} {width} few there =
-    let e : width - width ≡ 0 = omega arith in
-    record { inside = omega arith; few = few; there = there; so = rw e; below = rw (e, pow-zero) (omega arith) }
+number_padded [] h = refl
+number_padded (a ∷ []) h = omega arith
+number_padded (a ∷ b ∷ []) h = omega arith
+number_padded (a ∷ b ∷ c ∷ []) h = omega arith
+number_padded (a ∷ b ∷ c ∷ d ∷ []) h = omega arith
+number_padded (a ∷ b ∷ c ∷ d ∷ e ∷ []) h = omega arith
+number_padded (a ∷ b ∷ c ∷ d ∷ e ∷ f ∷ []) h = omega arith
+number_padded (a ∷ b ∷ c ∷ d ∷ e ∷ f ∷ g ∷ []) h = omega arith
+number_padded (a ∷ b ∷ c ∷ d ∷ e ∷ f ∷ g ∷ i ∷ []) h = omega arith
+number_padded (a ∷ b ∷ c ∷ d ∷ e ∷ f ∷ g ∷ i ∷ j ∷ s) h = absurd (omega arith)
 
-module _ {s : List ℕ} {at width i n : ℕ} (g : Gathered s at width i n) where
-  -- one byte more fits
-  pub gathered_room : 0 < i → n < 256 ^ 7
-  gathered_room h =
-      let inside : i ≤ width = g.inside in
-      let few : width ≤ 8 = g.few in
-      let less : width - i ≤ 7 = omega arith in
-      let most : 256 ^ (width - i) ≤ 256 ^ 7 = pow-le-pow_right (omega arith) less in
-      omega (arith, g.below)
+pub number_small : (s : List ℕ) {n : ℕ} → EachByte s → n ≡ number s → (n ≡ number s) × (n < 256 ^ length s)
+number_small s h e = (e, rw e (bytes_below_width s (bytes_each s h)))
 
-  pub gathered_next : 0 < i → get_or s (at + (i - 1)) 0 < 256 → Gathered s at width (i - 1) (256 * n + get_or s (at + (i - 1)) 0)
-  gathered_next h b =
-      let inside : i ≤ width = g.inside in
-      let below : n < 256 ^ (width - i) = g.below in
-      let more : width - (i - 1) ≡ suc (width - i) = omega arith in
-      let next : suc (at + (i - 1)) ≡ at + i = omega arith in
-      let tail : number (take (width - i) (drop (suc (at + (i - 1))) s)) ≡ n = ap (λ (j : ℕ). number (take (width - i) (drop j s))) next ∙ sym g.so in
-      record {
-        inside = omega arith;
-        few = g.few;
-        there = g.there;
-        so = rw more (omega (arith, number_at (width - i) (at + (i - 1)) s, tail));
-        below = rw (more, pow-suc) (omega arith);
-      }
+bytes_from : (i k n : ℕ) → bytes_low_first i k n ≡ bytes_of k (n / 256 ^ i)
+unfolding bytes_of
+bytes_from i zero n = refl
+bytes_from zero (suc k) n = rw (pow-zero, div-one) (ap (λ (s : List ℕ). n % 256 ∷ s) (bytes_from 1 k n))
+bytes_from (suc i) (suc k) n =
+    let rest : n / 256 ^ suc (suc i) ≡ n / 256 ^ suc i / 256 = ap (λ (m : ℕ). n / m) (pow-suc 256 (suc i)) ∙ sym (div-div-eq-div-mul n (256 ^ suc i) 256) in
+    ap (λ (s : List ℕ). n / 256 ^ suc i % 256 ∷ s) (bytes_from (suc (suc i)) k n ∙ ap (bytes_of k) rest)
 
-  pub gathered_all : i ≤ 0 → Numbered s at width n
-  gathered_all z =
-      let all : width - i ≡ width = omega arith in
-      let first : at + i ≡ at = omega arith in
-      record {
-        so = g.so ∙ ap₂ (λ (k j : ℕ). number (take k (drop j s))) all first;
-        fits = rw all at g.below;
-      }
+pub bytes_written : (n : ℕ) → to_le_bytes w64 n ≡ bytes_of 8 n
+bytes_written n = bytes_from 0 8 n ∙ ap (bytes_of 8) (rw pow-zero (div-one n))
 
 -- ---- bytes that are missing
 
@@ -80,12 +64,15 @@ numbered_none s at width h =
       fits = omega (arith, one-le-pow width 256 (omega arith));
     }
 
-pub numbered_cut : {s : List ℕ} {at there r : ℕ} (width : ℕ) → there ≡ length s - at → there < width → Numbered s at there r → Numbered s at width r
-numbered_cut {s} {at} {there} {r} width e h n =
-    let size : length (drop at s) ≡ there = length-drop at s ∙ sym e in
-    let all : take there (drop at s) ≡ take width (drop at s) = take_all there (drop at s) (omega arith) ∙ sym (take_all width (drop at s) (omega arith)) in
-    let most : 256 ^ there ≤ 256 ^ width = pow-le-pow_right (omega arith) (omega arith) in
-    record { so = n.so ∙ ap number all; fits = omega (arith, n.fits) }
+pub numbered_part : (s : List ℕ) (at width k : ℕ) {r : ℕ} → at ≤ length s → k ≡ min width (length s - at) → r ≡ number (take k (drop at s)) → r < 256 ^ length (take k (drop at s))
+    → Numbered s at width r
+numbered_part s at width k {r} h e n f =
+    let size : length (drop at s) ≡ length s - at = length-drop at s in
+    let all : take k (drop at s) ≡ take width (drop at s) =
+    ap (λ (j : ℕ). take j (drop at s)) (e ∙ ap (min width) (sym size)) ∙ take_min width (drop at s) in
+    let short : length (take k (drop at s)) ≤ width = omega (arith, length-take k (drop at s)) in
+    let most : 256 ^ length (take k (drop at s)) ≤ 256 ^ width = pow-le-pow_right (omega arith) short in
+    record { so = n ∙ ap number all; fits = omega arith }
 
 -- ---- written and read back
 
@@ -95,14 +82,6 @@ unfolding bytes_of
 bytes_first zero w n h = refl
 bytes_first (suc k) zero n h = absurd (omega arith)
 bytes_first (suc k) (suc w) n h = ap (λ (s : List ℕ). n % 256 ∷ s) (bytes_first k w (n / 256) (omega arith))
-
--- as the code takes them from all eight
-module _ (w n : ℕ) {m : ℕ} {b : List ℕ} (e : m ≡ min w 8) (d : b ≡ bytes_of 8 n) where
-  pub first_room : m ≤ length b
-  first_room = omega (arith, ap length d, length_bytes 8 n)
-
-  pub first_bytes : take m b ≡ bytes_of (min w 8) n
-  first_bytes = ap₂ take e d ∙ bytes_first (min w 8) 8 n (omega arith)
 
 -- the rest by 256 times as much, one byte of it first
 rest_by_byte : (n p : ℕ) → 0 < p → n % 256 + 256 * (n / 256 % p) ≡ n % (256 * p)

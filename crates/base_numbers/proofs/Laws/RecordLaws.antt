@@ -1,14 +1,13 @@
 -- Laws of a record of bytes, numbers and bytes: its size, its parts laid one behind the other, and its numbers read back.
-use Prim.Native.Nat.{ℕ, ◌+◌, ◌*◌, ◌-◌, ◌/◌, ◌≤◌, ◌<◌, zero-le}
+use Prim.Native.Nat.{ℕ, ◌+◌, ◌*◌, ◌≤◌, zero-le}
 use mathlib.Core.Bool.{true, false}
 use mathlib.Core.List.{List, ◌++◌, append_assoc}
 use mathlib.Core.Path.{◌≡◌, sym, ap, ap₂, ◌∙◌}
 use native.Mathlib.Nat.{zero-add}
 use native.Mathlib.Omega.{arith}
-use borrow.Author.Tests.{lt-ltb, le-ltb, ltb-true, ltb-false}
+use borrow.Author.Tests.{ltb-false}
 use lib.Dec.{ltb}
 use lib.ListN.{length, length-append}
-use Rattle.base_rules.proofs.Laws.Tests.{by_test}
 use Rattle.base_lent.specs.Copying.{laid, copied}
 use Rattle.base_lent.proofs.Laws.Copying.{laid_on, laid_length, copied_fits, copied_full}
 use Rattle.base_lent.proofs.Laws.PieceLaws.{pieces_length}
@@ -25,21 +24,6 @@ record_length head words tail =
     (length-append (words_of words) tail ∙ ap (λ (n : ℕ). n + length tail) (words_length words))
 
 -- ---- the parts, one behind the other
-
--- the places in all: first the bytes, then eight for each number, then the bytes behind
-pub short_head : (size head words tail : ℕ) → size < head → true ≡ ltb size (head + (8 * words + tail))
-short_head size head words tail h = sym (lt-ltb size (head + (8 * words + tail)) (omega arith))
-
-pub short_words : (size head words tail : ℕ) → head ≤ size → (size - head) / 8 < words → true ≡ ltb size (head + (8 * words + tail))
-short_words size head words tail h k = sym (lt-ltb size (head + (8 * words + tail)) (omega arith))
-
-pub short_tail : (size head words tail : ℕ) → head ≤ size → words ≤ (size - head) / 8
-    → ltb (size - head - 8 * words) tail ≡ ltb size (head + (8 * words + tail))
-short_tail size head words tail h k =
-    let room : 8 * words ≤ size - head = omega arith in
-    by_test (ltb size (head + (8 * words + tail)))
-    (λ e. lt-ltb (size - head - 8 * words) tail (omega (arith, ltb-true size (head + (8 * words + tail)) e)) ∙ sym e)
-    (λ e. le-ltb (size - head - 8 * words) tail (omega (arith, ltb-false size (head + (8 * words + tail)) e)) ∙ sym e)
 
 module _ (d head words tail : List ℕ) where
   abbrev places : ℕ

@@ -1,12 +1,7 @@
 -- `base_numbers::put_words` meets its contract: so many numbers are laid.
-use Prim.Native.Nat.{◌-◌}
-use lib.ListN.{length}
 use Rattle.base_lent.proofs.Laws.PieceLaws.{Pieced}
 use Rattle.base_numbers.specs.Numbers.{bytes_of}
 use Rattle.base_numbers.proofs.put_words.Given as goal
 
 abbrev pub invariant-loop-i : goal.invariant-loop-i
 invariant-loop-i l = Pieced (bytes_of 8) 8 l.initial.out l.at l.words l.i l.out
-
-abbrev pub decreases-loop-i : goal.decreases-loop-i
-decreases-loop-i l = length l.words - l.i

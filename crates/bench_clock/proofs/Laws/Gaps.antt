@@ -5,17 +5,11 @@ use mathlib.Core.Bool.{Bool, true, false, ◌||◌}
 use native.Mathlib.Omega.{arith}
 use lib.Dec.{ltb}
 use borrow.Author.Tests.{lt-ltb, le-ltb, ltb-true}
-use Rattle.base_rules.specs.Answers.{Answer, reads, refusal}
+use Rattle.base_rules.specs.Answers.{reads, refusal}
 use Rattle.bench_clock.specs.Times.{gap_least, gap_most}
-use Rattle.bench_clock.specs.Gaps.{gap_of, shown_gap}
+use Rattle.bench_clock.specs.Gaps.{gap_of}
 
--- Laws: no two answers have one case; what each gap is answered.
-pub shown_gap_same : (a b : Answer (Unit {0})) → shown_gap a ≡ shown_gap b → a ≡ b
-shown_gap_same (reads u) (reads v) e = refl
-shown_gap_same (reads u) (refusal n) e = cc
-shown_gap_same (refusal m) (reads v) e = cc
-shown_gap_same (refusal m) (refusal n) e = cc
-
+-- Laws: what each gap is answered.
 module _ (ended begins : ℕ) where
   -- a command before the wake-up's end begins 0 after it
   early : (ltb begins ended || ltb (begins - ended) gap_least) ≡ ltb (begins - ended) gap_least

@@ -1,5 +1,4 @@
 -- `bench_clock::is_wake` meets its contract: the count, then the loop gathers.
-use Prim.Native.Nat.{◌-◌}
 use Rattle.base_characters.specs.Characters.{chars}
 use Rattle.base_rules.proofs.Laws.ListLaws.{Gathered}
 use Rattle.bench_clock.specs.Wakes.{no_wake}
@@ -7,6 +6,3 @@ use Rattle.bench_clock.proofs.is_wake.Given as goal
 
 abbrev pub invariant-loop-i : goal.invariant-loop-i
 invariant-loop-i l = Gathered no_wake (chars l.body) l.i l.other
-
-abbrev pub decreases-loop-i : goal.decreases-loop-i
-decreases-loop-i l = l.size - l.i

@@ -1,17 +1,13 @@
 -- Laws of `specs/Errors`.
 use Prim.Native.Nat.{ℕ, ◌-◌, ◌*◌, ◌≤◌, ◌<◌}
 use mathlib.Core.Path.{◌≡◌, refl}
-use mathlib.Core.Bool.{false, ◌||◌}
-use mathlib.Mathlib.Data.Bool.Basic.{or-eq-false-eq-eq-false-and-eq-false as or_parts}
 use native.Mathlib.Omega.{arith}
-use lib.Dec.{ltb}
-use borrow.Author.Tests.{ltb-false}
-use lib.IntN.{ℤ, pos, neg_ℤ, ◌-ℤ◌, ◌*ℤ◌}
-use Rattle.base_rules.specs.Answers.{Answer, reads, refusal}
+use lib.IntN.{pos, neg_ℤ, ◌-ℤ◌, ◌*ℤ◌}
+use Rattle.base_rules.specs.Answers.{reads}
 use Rattle.base_numbers.proofs.Laws.Integers.{difference, difference_neg, times_neg}
 use Rattle.base_numbers.specs.Rounding.{nearest, Nearest}
 use Rattle.base_numbers.proofs.Laws.Rounding.{rounded_neg, rounded_nearest}
-use Rattle.bench_indication.specs.Errors.{count_most, error_of, count_over, indication_of, shown_indication, tenths}
+use Rattle.bench_indication.specs.Errors.{error_of, indication_of, tenths}
 
 -- 01, value 12: rises 10005, 9995, 10004 and 0 against 10000
 pub value-12 :
@@ -22,13 +18,7 @@ pub value-12 :
 unfolding error_of
 value-12 = (refl, refl, refl, refl)
 
--- Laws: no two answers have one case; no integer is nearer than the error, and of two as near it is the one farther from zero.
-pub shown_indication_same : (a b : Answer ℤ) → shown_indication a ≡ shown_indication b → a ≡ b
-shown_indication_same (reads x) (reads y) e = cc
-shown_indication_same (reads x) (refusal n) e = cc
-shown_indication_same (refusal m) (reads y) e = cc
-shown_indication_same (refusal m) (refusal n) e = cc
-
+-- Laws: no integer is nearer than the error, and of two as near it is the one farther from zero.
 pub error_nearest : (m1 m2 s1 s2 : ℕ) → s1 < s2 → Nearest (pos 1000 *ℤ ((pos m2 -ℤ pos m1) -ℤ (pos s2 -ℤ pos s1))) (s2 - s1) (error_of m1 m2 s1 s2)
 unfolding error_of
 error_nearest m1 m2 s1 s2 h = rounded_nearest (pos 1000 *ℤ ((pos m2 -ℤ pos m1) -ℤ (pos s2 -ℤ pos s1))) (s2 - s1) (omega arith)
@@ -50,11 +40,3 @@ pub tenths_less : (x y : ℕ) → x < y → tenths x y ≡ neg_ℤ (pos (nearest
 unfolding tenths
 tenths_less x y h =
     rw (difference_neg x y (omega arith), times_neg 1000 (pos (y - x)), rounded_neg (pos (1000 * (y - x))) y (omega arith))
-
--- What 60 leaves of the counts
-pub counts_fit : (m1 m2 s1 s2 : ℕ) → count_over m1 m2 s1 s2 ≡ false → (m2 ≤ count_most) × (s2 ≤ count_most)
-counts_fit m1 m2 s1 s2 e =
-    let last = (or_parts (ltb count_most m1 || ltb count_most m2 || ltb count_most s1) (ltb count_most s2)).0 e in
-    let three = (or_parts (ltb count_most m1 || ltb count_most m2) (ltb count_most s1)).0 last.0 in
-    let two = (or_parts (ltb count_most m1) (ltb count_most m2)).0 three.0 in
-    (ltb-false count_most m2 two.1, ltb-false count_most s2 last.1)

@@ -1,32 +1,19 @@
--- Laws of the answers: each way out of the two functions, and that no two answers are shown alike.
+-- Laws of the answers: each way out of the two functions.
 use Prim.Native.Nat.{ℕ, suc, ◌+◌, ◌*◌, ◌/◌, ◌%◌, ◌<◌, ◌≤◌, zero-le}
-use mathlib.Core.Bool.{false, ◌||◌}
+use mathlib.Core.Bool.{true, false}
 use mathlib.Core.List.{List}
 use mathlib.Core.Path.{◌≡◌, refl, sym, ap, ◌∙◌}
 use native.Mathlib.Nat.{le_refl}
 use native.Mathlib.Omega.{arith}
-use borrow.Author.Tests.{ltb-false, le-ltb}
+use borrow.Author.Tests.{ltb-false, le-ltb, lt-ltb}
 use lib.Dec.{ltb}
 use lib.ListN.{get_or}
 use Rattle.base_rules.proofs.Laws.Tests.{neither, passed}
-use Rattle.base_rules.specs.Answers.{Answer, reads, refusal}
+use Rattle.base_rules.specs.Answers.{reads}
 use Rattle.bench_resistance.specs.Resistances.{stored_for, card, line, resistance, highest, off_card, hundredths_most, temperature_of}
-use Rattle.bench_resistance.specs.Resistances.{shown_resistance, shown_temperature}
 use Rattle.bench_resistance.proofs.Laws.Card.{card_read}
 use Rattle.bench_resistance.proofs.Laws.Lines.{resistance_line, resistance_next, resistance_climbs}
 use Rattle.bench_resistance.proofs.Laws.Highest.{Highest, highest_is, highest_only, highest_next}
-
-pub shown_resistance_same : (a b : Answer ℕ) → shown_resistance a ≡ shown_resistance b → a ≡ b
-shown_resistance_same (reads x) (reads y) e = cc
-shown_resistance_same (reads x) (refusal n) e = cc
-shown_resistance_same (refusal m) (reads y) e = cc
-shown_resistance_same (refusal m) (refusal n) e = cc
-
-pub shown_temperature_same : (a b : Answer ℕ) → shown_temperature a ≡ shown_temperature b → a ≡ b
-shown_temperature_same (reads x) (reads y) e = cc
-shown_temperature_same (reads x) (refusal n) e = cc
-shown_temperature_same (refusal m) (reads y) e = cc
-shown_temperature_same (refusal m) (refusal n) e = cc
 
 -- the first answer and the last are stored
 pub first_stored : resistance 0 ≡ stored_for 0
@@ -39,19 +26,26 @@ last_stored = refl
 
 module _ {degrees : List ℕ} (e : degrees ≡ card) where
   -- the answer for a temperature
-  pub answer_last : (h : ℕ) → ltb hundredths_most h ≡ false → h / 100 ≡ 200 → get_or degrees (h / 100) 0 ≡ resistance h
+  pub answer_last : (h : ℕ) → h ≤ hundredths_most → h / 100 ≡ 200 → get_or degrees 200 0 ≡ resistance h
   answer_last h l d =
-      let most : h ≤ hundredths_most = ltb-false hundredths_most h l in
       let same : h ≡ hundredths_most = omega arith in
-      ap (λ (k : ℕ). get_or degrees k 0) d ∙ card_read e 200 (omega arith) ∙ sym last_stored ∙ ap resistance (sym same)
+      card_read e 200 (omega arith) ∙ sym last_stored ∙ ap resistance (sym same)
 
   pub answer_between : (h : ℕ) → h / 100 < 200 → line (get_or degrees (h / 100) 0) (get_or degrees (h / 100 + 1) 0) (h % 100) ≡ resistance h
   unfolding resistance
   answer_between h d = rw (card_read e (h / 100) (omega arith), card_read e (h / 100 + 1) (omega arith))
 
   -- the temperature for a resistance
-  pub outside_read : (milliohm : ℕ) → ltb milliohm (get_or degrees 0 0) || ltb (get_or degrees 200 0) milliohm ≡ off_card milliohm
-  outside_read milliohm = rw (card_read e 0 (omega arith), card_read e 200 (omega arith))
+  pub below_first : {milliohm : ℕ} → milliohm < get_or degrees 0 0 → off_card milliohm ≡ true
+  below_first {milliohm} h = rw (lt-ltb milliohm (stored_for 0) (rw (card_read e 0 (omega arith)) at h))
+
+  pub above_last : {milliohm : ℕ} → get_or degrees 0 0 ≤ milliohm → get_or degrees 200 0 < milliohm → off_card milliohm ≡ true
+  above_last {milliohm} l h =
+      rw (le-ltb milliohm (stored_for 0) (rw (card_read e 0 (omega arith)) at l), lt-ltb (stored_for 200) milliohm (rw (card_read e 200 (omega arith)) at h))
+
+  pub on_card : {milliohm : ℕ} → get_or degrees 0 0 ≤ milliohm → milliohm ≤ get_or degrees 200 0 → off_card milliohm ≡ false
+  on_card {milliohm} l h =
+      rw (le-ltb milliohm (stored_for 0) (rw (card_read e 0 (omega arith)) at l), le-ltb (stored_for 200) milliohm (rw (card_read e 200 (omega arith)) at h))
 
 module _ (milliohm : ℕ) (inside : off_card milliohm ≡ false) where
   both : (ltb milliohm (stored_for 0) ≡ false) × (ltb (stored_for 200) milliohm ≡ false)

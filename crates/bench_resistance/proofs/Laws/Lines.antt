@@ -3,7 +3,7 @@ use Prim.Native.Nat.{ℕ, zero, suc, ◌+◌, ◌-◌, ◌*◌, ◌/◌, ◌%◌
 use mathlib.Core.Bool.{Bool}
 use mathlib.Core.Logic.{⊎_elim}
 use mathlib.Core.Path.{◌≡◌, refl, sym, ap, ◌∙◌}
-use native.Mathlib.Nat.{mul-le-mul_left, mul-le-mul_right, mul-add, add-mul, mul_comm, div-mul-le_self, lt-div-mul-add}
+use native.Mathlib.Nat.{mul-le-mul_right, mul-add, add-mul, mul_comm, div-mul-le_self, lt-div-mul-add}
 use native.Mathlib.Nat.{lt_trans, le_refl, le_of_lt, eq-or-lt_of_le, le_of_suc-le-suc}
 use native.Mathlib.Decide.{dec_lt}
 use native.Mathlib.Omega.{arith}
@@ -12,20 +12,6 @@ use lib.Dec.{ltb}
 use Rattle.base_rules.proofs.Laws.Tests.{below}
 use Rattle.base_numbers.specs.Rounding.{apart}
 use Rattle.bench_resistance.specs.Resistances.{exact, parts_of_one, stored_for, line, resistance, hundredths_most}
-
--- what is rounded on a line is no more than a hundred times two million, twice
-pub line_fits : (low high rest : ℕ) → low < 2000000 → high < 2000000 → rest ≤ 100
-    → (low * (100 - rest) ≤ 200000000) × (high * rest ≤ 200000000)
-line_fits low high rest l h r = (
-  omega (arith, mul-le-mul_left low (left rest), mul-le-mul_right 100 (most low l)),
-  omega (arith, mul-le-mul_left high r, mul-le-mul_right 100 (most high h)),
-)
-  where
-    left : (rest : ℕ) → 100 - rest ≤ 100
-    left rest = omega arith
-
-    most : (x : ℕ) → x < 2000000 → x ≤ 2000000
-    most x h = omega arith
 
 -- so many hundredths on from a whole degree, the next whole degree included
 pub resistance_line : (degree rest : ℕ) → rest ≤ 100 → resistance (100 * degree + rest) ≡ line (stored_for degree) (stored_for (degree + 1)) rest

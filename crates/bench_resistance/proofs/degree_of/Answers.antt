@@ -1,37 +1,27 @@
--- `bench_resistance::degree_of` meets its contract: each turn halves what is left.
-use Prim.Native.Nat.{◌-◌}
-use native.Mathlib.Omega.{arith}
-use Rattle.bench_resistance.proofs.Laws.Card.{searched_none, searched_up, searched_down, searched_all}
+-- `bench_resistance::degree_of` meets its contract: the card rises, so the entries that are not above the resistance come first.
+use borrow.Author.Rules.{rules}
+use borrow.Author.Tests.{tests}
+use Rattle.std.proofs.Common.{◌<◌, ◌≤◌, ◌-◌, ◌+◌}
+use lib.Dec.{leb}
+use Rattle.std.proofs.lemmas.List.Sorted.{IsPartitionPoint-from_clause, IsPartitionedBy-leb}
+use Rattle.bench_resistance.specs.Resistances.{stored_for}
+use Rattle.bench_resistance.proofs.Laws.Card.{card_climbs, degree_last}
+use Rattle.bench_resistance.proofs.degree_of.Goals.{After-partition_point}
 use Rattle.bench_resistance.proofs.degree_of.Goals as goal
 
-pub loop-low-init : goal.loop-low-init
-loop-low-init c = searched_none c.requires.1
+found : (c : After-partition_point) → (1 ≤ c.partition_point.result) × ((c.partition_point.result - 1 < 201) × (stored_for (c.partition_point.result - 1) ≤ c.args.milliohm)
+    × (c.partition_point.result - 1 < 200 → c.args.milliohm < stored_for (c.partition_point.result - 1 + 1)))
+found c =
+    let m = c.args.milliohm in
+    let degrees = c.args.degrees.now in
+    let i = c.partition_point.result in
+    degree_last c.requires.0 m i c.requires.1 c.partition_point.ensures.bound
+    (IsPartitionPoint-from_clause (λ y. leb y m) degrees i c.partition_point.ensures.partitioned
+    (IsPartitionedBy-leb (λ x. x) degrees m (card_climbs c.requires.0))
+    (λ a r q k. search (rules, tests)))
 
-pub overflow_add-low : goal.overflow_add-low
-overflow_add-low c = omega (arith, c.loop-low.invariant.some, c.loop-low.invariant.inside)
-
-pub overflow_add-middle : goal.overflow_add-middle
-overflow_add-middle c = omega (arith, c.loop-low.invariant.some, c.loop-low.invariant.inside)
-
-pub offset_bounds-degrees-middle : goal.offset_bounds-degrees-middle
-offset_bounds-degrees-middle c = omega (arith, c.loop-low.invariant.some, c.loop-low.invariant.inside)
-
-pub bounds-degrees-middle : goal.bounds-degrees-middle
-bounds-degrees-middle c = omega (arith, c.loop-low.invariant.some, c.loop-low.invariant.inside)
-
-pub loop-low-smaller-then-degrees-middle : goal.loop-low-smaller-then-degrees-middle
-loop-low-smaller-then-degrees-middle c = omega arith
-
-pub loop-low-preserved-then-degrees-middle : goal.loop-low-preserved-then-degrees-middle
-loop-low-preserved-then-degrees-middle c =
-    searched_up c.requires.0 c.loop-low.invariant c.loop-low-test.true c.if-degrees-middle.true
-
-pub loop-low-smaller : goal.loop-low-smaller
-loop-low-smaller c = omega arith
-
-pub loop-low-preserved : goal.loop-low-preserved
-loop-low-preserved c =
-    searched_down c.requires.0 c.loop-low.invariant c.loop-low-test.true c.if-degrees-middle.false
+pub overflow_sub-result : goal.overflow_sub-result
+overflow_sub-result c = (found (goal.at.overflow_sub-result c).After-partition_point).0
 
 pub returns : goal.returns
-returns c = searched_all c.loop-low.invariant c.loop-low-test.false
+returns c = (found (goal.at.returns c).After-partition_point).1

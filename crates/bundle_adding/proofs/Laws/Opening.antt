@@ -1,11 +1,11 @@
 -- Laws of `specs/Opening`.
-use Prim.Native.Nat.{ℕ, zero, suc, ◌+◌, ◌*◌, ◌-◌, ◌≤◌, ◌<◌}
+use Prim.Native.Nat.{ℕ, zero, suc, ◌+◌, ◌*◌, ◌-◌, ◌≤◌}
 use mathlib.Core.List.{List, ◌∷◌, ◌++◌, append_assoc}
-use mathlib.Core.Path.{◌≡◌, refl, sym, ap, ap₂, ◌∙◌, subst}
+use mathlib.Core.Path.{◌≡◌, refl, sym, ap, ap₂, ◌∙◌}
 use native.Mathlib.Nat.{zero-add}
 use native.Mathlib.Omega.{arith}
-use lib.ListN.{length, get_or, take, drop, set, length-set, length-append, take-append-drop, get_or-append}
-use lib.Seq.{slice, slice_empty, slice-cons, take-suc, set_at, length-take-le, get_or-take, append_snoc}
+use lib.ListN.{length, take, drop, length-append}
+use lib.Seq.{slice, length-take-le}
 use lib.Seq.{take_at, drop_at, drop-drop, length-slice, take-append-le, take-take}
 use Rattle.base_lent.specs.Copying.{copied}
 use Rattle.base_lent.proofs.Laws.Copying.{copied_fits}
@@ -17,62 +17,8 @@ use Rattle.base_rules.proofs.Laws.ListLaws.{drop_take}
 use Rattle.bundle_rows.proofs.Laws.RowLaws.{Fitting, length_rows, row_back, length_row, rows_front, rows_same}
 use Rattle.bundle_check.specs.Records.{placed_from}
 use Rattle.bundle_adding.specs.Inserting.{put_at}
-use Rattle.bundle_adding.specs.Writing.{shifted, bodies_moved, rows_placed}
-use Rattle.bundle_adding.specs.Opening.{shifted_by, bodies_opened, row_opened, contents_opened}
-
--- ---- a loop that moves up, from the end down
-pub record Shifting (by : ℕ) (d : List ℕ) (from to i : ℕ) (e : List ℕ) : Type 0 where
-  pub down : from ≤ i
-  pub inside : i ≤ to
-  pub room : to + by ≤ length d
-  pub same : length e ≡ length d
-  pub so : e ≡ shifted_by by i to d
-
-module _ {by : ℕ} {d : List ℕ} {from to : ℕ} where
-  pub shifting_none : from ≤ to → to + by ≤ length d → Shifting by d from to to d
-  shifting_none l h = record { down = l; inside = omega arith; room = h; same = refl; so = rw (slice_empty to d) (sym (take-append-drop (to + by) d)) }
-
-  shifting_step : {i : ℕ} {e : List ℕ} → Shifting by d from to (suc i) e → from ≤ i → Shifting by d from to i (set e (i + by) (get_or e i 0))
-  shifting_step {i} {e} g l = record {
-    down = l;
-    inside = omega (arith, g.inside);
-    room = g.room;
-    same = length-set e (i + by) (get_or e i 0) ∙ g.same;
-    so =
-        ap (set e (i + by)) moves ∙ ap (λ (l : List ℕ). set l (i + by) (get_or d i 0)) parts
-        ∙ set_at (take (i + by) d) (get_or d (i + by) 0) rest (get_or d i 0) (i + by) (length-take-le (i + by) d (omega (arith, g.inside, g.room)))
-        ∙ ap (λ (l : List ℕ). take (i + by) d ++ (l ++ drop (to + by) d)) (sym (slice-cons i to d 0 (omega (arith, g.inside)) (omega (arith, g.room))));
-  }
-    where
-      rest : List ℕ
-      rest = slice (suc i) to d ++ drop (to + by) d
-
-      one : suc i + by ≡ suc (i + by)
-      one = omega arith
-
-      -- the byte that moves is still the old one
-      moves : get_or e i 0 ≡ get_or d i 0
-      moves =
-          rw g.so
-          (get_or-append (take (suc i + by) d) rest 0 i
-          (omega (arith, g.inside, g.room, length-take-le (suc i + by) d (omega (arith, g.inside, g.room))))
-          ∙ get_or-take (suc i + by) d i 0 (omega arith))
-
-      -- the byte that it is written over
-      parts : e ≡ take (i + by) d ++ (get_or d (i + by) 0 ∷ rest)
-      parts =
-          g.so ∙ ap (λ (n : ℕ). take n d ++ rest) one
-          ∙ ap (λ (l : List ℕ). l ++ rest) (take-suc d (i + by) 0 (omega (arith, g.inside, g.room))) ∙ append_snoc (take (i + by) d) (get_or d (i + by) 0) rest
-
-  pub shifting_next : {i : ℕ} {e : List ℕ} → Shifting by d from to i e → from < i → Shifting by d from to (i - 1) (set e (i - 1 + by) (get_or e (i - 1) 0))
-  shifting_next {i} {e} g h =
-      let one : i ≡ suc (i - 1) = omega arith in
-      shifting_step (subst (λ (n : ℕ). Shifting by d from to n e) one g) (omega arith)
-
-  pub shifting_all : {i : ℕ} {e : List ℕ} → Shifting by d from to i e → i ≤ from → e ≡ shifted_by by from to d
-  shifting_all {i} {e} g h =
-      let all : i ≡ from = omega (arith, g.down) in
-      g.so ∙ ap (λ (n : ℕ). shifted_by by n to d) all
+use Rattle.bundle_adding.specs.Writing.{shifted_by, bodies_moved, rows_placed}
+use Rattle.bundle_adding.specs.Opening.{bodies_opened, row_opened, contents_opened}
 
 -- ---- a body stands among the bodies, and those behind it move further
 slice_front : (f t m : ℕ) (l r : List ℕ) → t ≤ m → m ≤ length l → slice f t (take m l ++ r) ≡ slice f t l
@@ -111,7 +57,7 @@ rows_split (suc p) m s =
     (rows_split p m (drop 12 s) ∙ ap (λ (l : List ℕ). rows_of p (drop 12 s) ++ rows_of m l) (drop-drop (12 * p) 12 s ∙ ap (λ (k : ℕ). drop k s) next)))
 
 pub row_opened_lem : (n p : ℕ) (r : Row) (d : List ℕ) → p ≤ n → first_offset n + 12 ≤ length d
-    → copied (shifted (first_offset p) (first_offset n) d) (first_offset p) (bytes_of_row r) ≡ row_opened n p r d
+    → copied (shifted_by 12 (first_offset p) (first_offset n) d) (first_offset p) (bytes_of_row r) ≡ row_opened n p r d
 row_opened_lem n p r d l h =
     rw (
       copied_fits (front ++ behind) (first_offset p) (bytes_of_row r) (omega (arith, length_row r, length-append front behind, size)),

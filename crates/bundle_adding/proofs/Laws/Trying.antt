@@ -14,7 +14,8 @@ use Rattle.base_characters.specs.Characters.{over, chars}
 use Rattle.bundle_check.specs.Bundles.{contents_of, check_of}
 use Rattle.bundle_check.specs.Records.{Recorded, row_for}
 use Rattle.bundle_check.specs.RowRules.{wrong_row}
-use Rattle.bundle_adding.specs.declared.Added.TheVariants.{Filled, Refused}
+use Rattle.std.specs.Prelude.{Ok, Err}
+use Rattle.base_rules.specs.Shown.{refused_by}
 use Rattle.bundle_adding.specs.Adding.{last_time, grown, no_room, add_of}
 use Rattle.bundle_adding.specs.Inserting.{try_of, insert_of, buffer_inserted}
 use Rattle.bundle_adding.specs.Shown.{Inserts}
@@ -95,10 +96,10 @@ tried wrong buffer filled k n e = past (ltb (length buffer) filled) refl e
 -- ---- what inserting promises
 
 -- a refusal leaves the buffer as it was
-pub inserts_refused : {buffer : List ℕ} {filled : ℕ} {k : Recorded} {n : ℕ} → insert_of buffer filled k ≡ refusal n → Inserts buffer filled k (Refused n) buffer
+pub inserts_refused : {buffer : List ℕ} {filled : ℕ} {k : Recorded} {n : ℕ} → insert_of buffer filled k ≡ refusal n → Inserts buffer filled k (Err (refused_by n)) buffer
 inserts_refused e = record { answers = rw e; leaves = rw e }
 
 -- and what is inserted stands in it
 pub inserts_grown : {buffer after : List ℕ} {filled : ℕ} {k : Recorded} {n : ℕ} → insert_of buffer filled k ≡ reads n
-    → after ≡ buffer_inserted (reads n) buffer filled k → Inserts buffer filled k (Filled n) after
+    → after ≡ buffer_inserted (reads n) buffer filled k → Inserts buffer filled k (Ok n) after
 inserts_grown e f = record { answers = rw e; leaves = rw e f }

@@ -1,12 +1,14 @@
 -- Laws of `specs/Writing`.
-use Prim.Native.Nat.{ℕ, suc, ◌+◌, ◌*◌, ◌-◌, ◌≤◌, ◌<◌, zero-le}
-use mathlib.Core.List.{List, [], ◌∷◌, ◌++◌, append_assoc, append-nil}
-use mathlib.Core.Path.{◌≡◌, refl, sym, ap, ap₂, ◌∙◌, subst}
+use Prim.Native.Nat.{ℕ, ◌+◌, ◌*◌, ◌-◌, ◌≤◌, ◌<◌, zero-le}
+use mathlib.Core.List.{List, [], ◌++◌, append_assoc, append-nil}
+use mathlib.Core.Path.{◌≡◌, refl, sym, ap, ap₂, ◌∙◌}
 use native.Mathlib.Numerals.{add-one}
 use native.Mathlib.Omega.{arith}
-use lib.ListN.{length, get_or, take, drop, set, length-set, length-append, length-drop, take-append-drop, get_or-append, drop_of_length-le}
-use lib.Seq.{slice, slice_empty, slice-cons, take-suc, set_at, length-take-le, get_or-take, append_snoc}
+use lib.ListN.{length, get_or, take, drop, length-append, length-drop, take-append-drop, drop_of_length-le}
+use lib.Seq.{slice, length-take-le}
 use lib.Seq.{take_at, drop_at, drop-drop, drop-cons, length-slice}
+use Rattle.std.specs.List.{copy_within}
+use Rattle.std.proofs.lemmas.List.{drop-take}
 use Rattle.base_lent.specs.Copying.{copied}
 use Rattle.base_lent.proofs.Laws.Copying.{copied_fits}
 use Rattle.bundle_rows.specs.declared.Row.{Row}
@@ -17,64 +19,19 @@ use Rattle.bundle_rows.proofs.Laws.RowLaws.{length_rows, row_at_lem, row_in, len
 use Rattle.bundle_check.specs.Bundles.{most_bytes}
 use Rattle.bundle_check.specs.Records.{moved_to, placed_from}
 use Rattle.bundle_check.proofs.Laws.HoldingLaws.{length_placed}
-use Rattle.bundle_adding.specs.Writing.{shifted, bodies_moved, rows_placed, contents_grown}
+use Rattle.bundle_adding.specs.Writing.{shifted_by, bodies_moved, rows_placed, contents_grown}
 
--- ---- a loop that moves by 12, from the end down
-pub record Shifting (d : List ℕ) (from to i : ℕ) (e : List ℕ) : Type 0 where
-  pub down : from ≤ i
-  pub inside : i ≤ to
-  pub room : to + 12 ≤ length d
-  pub same : length e ≡ length d
-  pub so : e ≡ shifted i to d
-
-module _ {d : List ℕ} {from to : ℕ} where
-  pub shifting_none : from ≤ to → to + 12 ≤ length d → Shifting d from to to d
-  shifting_none l h = record { down = l; inside = omega arith; room = h; same = refl; so = rw (slice_empty to d) (sym (take-append-drop (to + 12) d)) }
-
-  shifting_step : {i : ℕ} {e : List ℕ} → Shifting d from to (suc i) e → from ≤ i → Shifting d from to i (set e (i + 12) (get_or e i 0))
-  shifting_step {i} {e} g l = record {
-    down = l;
-    inside = omega (arith, g.inside);
-    room = g.room;
-    same = length-set e (i + 12) (get_or e i 0) ∙ g.same;
-    so =
-        ap (set e (i + 12)) moves ∙ ap (λ (l : List ℕ). set l (i + 12) (get_or d i 0)) parts
-        ∙ set_at (take (i + 12) d) (get_or d (i + 12) 0) rest (get_or d i 0) (i + 12) (length-take-le (i + 12) d (omega (arith, g.inside, g.room)))
-        ∙ ap (λ (l : List ℕ). take (i + 12) d ++ (l ++ drop (to + 12) d)) (sym (slice-cons i to d 0 (omega (arith, g.inside)) (omega (arith, g.room))));
-  }
-    where
-      rest : List ℕ
-      rest = slice (suc i) to d ++ drop (to + 12) d
-
-      one : suc i + 12 ≡ suc (i + 12)
-      one = omega arith
-
-      -- the byte that moves is still the old one
-      moves : get_or e i 0 ≡ get_or d i 0
-      moves =
-          rw g.so
-          (get_or-append (take (suc i + 12) d) rest 0 i
-          (omega (arith, g.inside, g.room, length-take-le (suc i + 12) d (omega (arith, g.inside, g.room))))
-          ∙ get_or-take (suc i + 12) d i 0 (omega arith))
-
-      -- the byte that it is written over
-      parts : e ≡ take (i + 12) d ++ (get_or d (i + 12) 0 ∷ rest)
-      parts =
-          g.so ∙ ap (λ (n : ℕ). take n d ++ rest) one
-          ∙ ap (λ (l : List ℕ). l ++ rest) (take-suc d (i + 12) 0 (omega (arith, g.inside, g.room))) ∙ append_snoc (take (i + 12) d) (get_or d (i + 12) 0) rest
-
-  pub shifting_next : {i : ℕ} {e : List ℕ} → Shifting d from to i e → from < i → Shifting d from to (i - 1) (set e (i - 1 + 12) (get_or e (i - 1) 0))
-  shifting_next {i} {e} g h =
-      let one : i ≡ suc (i - 1) = omega arith in
-      shifting_step (subst (λ (n : ℕ). Shifting d from to n e) one g) (omega arith)
-
-  pub shifting_all : {i : ℕ} {e : List ℕ} → Shifting d from to i e → i ≤ from → e ≡ shifted from to d
-  shifting_all {i} {e} g h =
-      let all : i ≡ from = omega (arith, g.down) in
-      g.so ∙ ap (λ (n : ℕ). shifted n to d) all
+-- ---- what the library's copy within a list leaves
+pub shifted_copy : (by from to : ℕ) (d : List ℕ) → from ≤ to → copy_within d from to (from + by) ≡ shifted_by by from to d
+shifted_copy by from to d h =
+    let behind : from + by + (to - from) ≡ to + by = omega (arith, h) in
+    let all : from + (to - from) ≡ to = omega (arith, h) in
+    let part : take (to - from) (drop from d) ≡ slice from to d = sym (drop-take from (to - from) d) ∙ ap (λ (k : ℕ). drop from (take k d)) all in
+    append_assoc (take (from + by) d) (take (to - from) (drop from d)) (drop (from + by + (to - from)) d)
+    ∙ ap₂ (λ (s : List ℕ) (k : ℕ). take (from + by) d ++ (s ++ drop k d)) part behind
 
 -- ---- the bodies move, and a body stands behind them
-pub bodies_moved_lem : (from to : ℕ) (s d : List ℕ) → from ≤ to → to + 12 + length s ≤ length d → copied (shifted from to d) (to + 12) s ≡ bodies_moved from to s d
+pub bodies_moved_lem : (from to : ℕ) (s d : List ℕ) → from ≤ to → to + 12 + length s ≤ length d → copied (shifted_by 12 from to d) (to + 12) s ≡ bodies_moved from to s d
 bodies_moved_lem from to s d l h =
     rw (regroup, copied_fits (head ++ drop (to + 12) d) (to + 12) s (omega (arith, all)), front, back)
     (append_assoc (take (from + 12) d) (slice from to d) (s ++ drop (to + 12 + length s) d))
@@ -82,7 +39,7 @@ bodies_moved_lem from to s d l h =
     head : List ℕ
     head = take (from + 12) d ++ slice from to d
 
-    regroup : shifted from to d ≡ head ++ drop (to + 12) d
+    regroup : shifted_by 12 from to d ≡ head ++ drop (to + 12) d
     regroup = sym (append_assoc (take (from + 12) d) (slice from to d) (drop (to + 12) d))
 
     size : length head ≡ to + 12

@@ -18,14 +18,14 @@ use Rattle.bundle_adding.proofs.add_row.Goals as goal
 
 -- what is to be added
 abbrev row : Start → Recorded
-row c = new_record c.args.position c.args.direction c.args.time c.args.body.now
+row c = new_record c.args.row.position c.args.row.direction c.args.row.time c.args.body.now
 
 -- 34 as it was tried
 wrong-is : (c : After-wrong_field-field)
-    → (c.wrong_field-field.result || ltb c.args.time c.last_time-last.result)
+    → (c.wrong_field-field.result || ltb c.args.row.time c.last_time-last.result)
     ≡ wrong_row (last_time
     (contents_of (take c.args.filled c.args.buffer.now)))
-    (row_for (c.args.filled + 12) (new_record c.args.position c.args.direction c.args.time c.args.body.now))
+    (row_for (c.args.filled + 12) (new_record c.args.row.position c.args.row.direction c.args.row.time c.args.body.now))
 wrong-is c =
     rw (c.wrong_field-field.ensures, c.last_time-last.ensures)
 

@@ -31,4 +31,4 @@ returns c =
     let a = c.args in
     rw (c.grow_contents.ensures, c.move_bodies.ensures)
     (steps_held a.buffer.now a.filled a.count (omega (arith, c.requires.1)) c.requires.0
-    (new_record a.position a.direction a.time a.body.now) c.requires.1)
+    (new_record a.row.position a.row.direction a.row.time a.body.now) c.requires.1)

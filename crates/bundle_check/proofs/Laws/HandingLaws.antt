@@ -13,7 +13,8 @@ use Rattle.bundle_rows.specs.declared.Row.{Row}
 use Rattle.bundle_rows.specs.Rows.{blank_row, unchecked_row}
 use Rattle.bundle_check.specs.Bundles.{contents_of, check_of}
 use Rattle.bundle_check.proofs.Laws.Accepted.{accepted_sound, body_inside, row_there}
-use Rattle.bundle_check.specs.Handing.{row_at, body_at, place_of, BodyPlace}
+use Rattle.bundle_check.specs.Handing.{row_at, body_at, place_of}
+use Rattle.bundle_check.specs.declared.rows.BodyPlace.{BodyPlace}
 
 -- What is answered of a row: the check's refusal, 39, or the row.
 module _ (b : List ℕ) (i : ℕ) where

@@ -6,11 +6,11 @@ use mathlib.Core.Path.{◌≡◌, sym}
 use borrow.Author.Tests.{ltb-false}
 use lib.Dec.{ltb}
 use lib.ListN.{length}
-use Rattle.base_rules.specs.Answers.{Answer, reads, refusal}
-use Rattle.base_rules.proofs.Laws.AnswerLaws.{reads_same}
+use Rattle.base_rules.specs.Answers.{Answer, reads, refusal, refuse, follow}
+use Rattle.base_rules.proofs.Laws.AnswerLaws.{reads_same, follow_refuse}
 use Rattle.base_rules.proofs.Laws.TestLaws.{refusals, not_refused, all_passed, all_passing}
 use Rattle.bundle_rows.specs.Rows.{most_rows, first_offset}
-use Rattle.bundle_check.specs.Bundles.{most_bytes, count_of, opened}
+use Rattle.bundle_check.specs.Bundles.{most_bytes, count_of, opened, check_rows, check_of}
 
 -- none of 30 to 33 applies
 pub record Opened (b : List ℕ) (n : ℕ) : Type 0 where
@@ -53,3 +53,14 @@ refusals_same (r ∷ rs) a next k e = go r.1 (λ f. refusals_same rs a next k f)
 
 pub opened_refused : {A : Type 0} (b : List ℕ) (a : Answer A) (k : ℕ) → opened b (reads (count_of b)) ≡ refusal k → opened b a ≡ refusal k
 opened_refused b a k e = refusals_same (tests b) (count_of b) a k e
+
+-- The check opens the bundle, and then asks for its rows.
+pub check_follows : (b : List ℕ) → check_of b ≡ follow (opened b (reads (count_of b))) (λ n. check_rows n b)
+unfolding check_of
+check_follows b =
+    let next : ℕ → Answer ℕ = λ n. check_rows n b in
+    let last = reads (count_of b) in
+    let at33 : Answer ℕ = refuse 33 (ltb (length b) (first_offset (count_of b))) last in
+    let at32 = refuse 32 (ltb most_rows (count_of b)) at33 in
+    let at31 = refuse 31 (ltb (length b) 2) at32 in
+    rw (follow_refuse 30 (ltb most_bytes (length b)) at31 next, follow_refuse 31 (ltb (length b) 2) at32 next, follow_refuse 32 (ltb most_rows (count_of b)) at33 next, follow_refuse 33 (ltb (length b) (first_offset (count_of b))) last next)

@@ -7,15 +7,15 @@ use native.Mathlib.Nat.{not-suc-le-zero}
 use native.Mathlib.Omega.{arith}
 use borrow.Author.Tests.{leb-true, leb-false}
 use lib.Dec.{leb}
-use lib.ListN.{length, get_or, take, drop, replicate, length-map, length-drop}
+use lib.ListN.{length, get_or, drop, replicate, length-map, length-drop}
 use lib.Seq.{take_at, get_or-drop}
-use Rattle.base_rules.specs.Answers.{Answer, reads, refusal, refuse, within}
+use Rattle.base_rules.specs.Answers.{reads, refusal, refuse, within}
 use Rattle.base_rules.proofs.Laws.AnswerLaws.{reads_same}
 use Rattle.base_rules.proofs.Laws.ListLaws.{map_drop}
 use Rattle.base_rules.proofs.Laws.TestLaws.{not_refused}
 use Rattle.base_rules.proofs.Laws.Tests.{by_test, passed}
 use Rattle.base_rules.proofs.Laws.ByteLaws.{EachByte}
-use Rattle.bundle_rows.specs.Rows.{most_rows, blank_row}
+use Rattle.bundle_rows.specs.Rows.{most_rows}
 use Rattle.bundle_rows.specs.declared.Row.{Row}
 use Rattle.bundle_check.specs.Bundles.{contents_of, count_of, check_of}
 use Rattle.bundle_check.specs.Handing.{row_at, body_at, place_of}

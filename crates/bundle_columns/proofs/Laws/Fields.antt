@@ -1,20 +1,19 @@
 -- Laws of the lists as they are taken from the rows: which field stands at each place, and that they are the lists of the definition.
 use Prim.Native.Nat.{ℕ, zero, suc, ◌+◌, ◌*◌, ◌-◌, ◌^◌, ◌≤◌, ◌<◌, min}
-use mathlib.Core.List.{List, [], ◌∷◌, ◌++◌, map}
+use mathlib.Core.List.{List, ◌∷◌, ◌++◌, map}
 use mathlib.Core.Path.{◌≡◌, refl, sym, ap, ap₂, ◌∙◌}
 use native.Mathlib.Nat.{not-suc-le-zero, pow-le-pow_right}
 use native.Mathlib.Omega.{arith}
 use lib.ListN.{length, take, drop, replicate, length-append, length-replicate, get_or-replicate, get_or-append}
 use lib.Seq.{drop-drop, get_or-append-add}
 use Rattle.base_rules.specs.Lists.{at}
-use Rattle.base_lent.specs.Copying.{laid, copied}
+use Rattle.base_lent.specs.Copying.{copied}
 use Rattle.base_lent.proofs.Laws.PieceLaws.{Pieced, pieced_none, pieced_next}
 use Rattle.base_numbers.specs.Numbers.{number, bytes_of, Numbered}
 use Rattle.base_numbers.proofs.Laws.Numbers.{length_bytes}
 use Rattle.bundle_rows.specs.Rows.{most_rows, row_of, rows_of}
 use Rattle.bundle_rows.specs.declared.Row.{Row}
 use Rattle.bundle_rows.proofs.Laws.RowLaws.{length_rows}
-use Rattle.bundle_check.specs.Bundles.{contents_of, count_of}
 use Rattle.bundle_columns.specs.Columns.{list_of, columns_of}
 use Rattle.bundle_columns.specs.Record.{columns_bytes, list_bytes}
 use Rattle.bundle_columns.specs.Making.{fields_of, fields_in, FieldThere}

@@ -10,16 +10,15 @@ use lib.Dec.{ltb, eqb}
 use lib.ListN.{length, take, drop, length-drop}
 use lib.Seq.{take-take}
 use Rattle.base_rules.specs.Answers.{Answer, reads, refusal, refuse}
-use Rattle.base_rules.proofs.Laws.AnswerLaws.{reads_same}
+use Rattle.base_rules.proofs.Laws.AnswerLaws.{reads_same, shown_same}
 use Rattle.base_rules.proofs.Laws.Tests.{neither, not_different}
 use Rattle.base_rules.proofs.Laws.TestLaws.{not_refused}
 use Rattle.base_numbers.specs.Numbers.{number}
 use Rattle.base_lent.specs.Recorded.{no_record}
 use Rattle.bundle_rows.specs.Rows.{most_rows}
-use Rattle.bundle_check.specs.declared.Checked.{Checked}
-use Rattle.bundle_check.specs.declared.Checked.TheVariants as checked
-use Rattle.bundle_check.specs.Shown.{shown_checked}
-use Rattle.bundle_check.proofs.Laws.Shown.{shown_checked_same}
+use Rattle.std.specs.Prelude.{Result, Ok, Err}
+use Rattle.base_rules.specs.declared.refusals.Refusal.{Refusal}
+use Rattle.base_rules.specs.Shown.{shown, refused_by}
 use Rattle.bundle_columns.specs.Columns.{Columns, kept_row}
 use Rattle.bundle_columns.specs.Record.{columns_size, numbers_in, columns_in, columns_from}
 use Rattle.bundle_columns.specs.Lookups.{is_position, first_from, row_kept, next_kept}
@@ -49,9 +48,9 @@ from_right : (b : List ℕ) → wrong_record b ≡ false → columns_from b ≡ 
 unfolding columns_from
 from_right b e = rw e
 
-module _ (b : List ℕ) {s : Checked} (f : s ≡ shown_checked (count_kept (columns_from b))) where
-  pub taken : {n : ℕ} → s ≡ checked.Rows n → Taken b n
-  taken {n} e = go (wrong_record b) refl (sym (count_kept_lem b) ∙ shown_checked_same (count_kept (columns_from b)) (reads n) (sym f ∙ e))
+module _ (b : List ℕ) {s : Result ℕ Refusal} (f : s ≡ shown (count_kept (columns_from b))) where
+  pub taken : {n : ℕ} → s ≡ Ok n → Taken b n
+  taken {n} e = go (wrong_record b) refl (sym (count_kept_lem b) ∙ shown_same (count_kept (columns_from b)) (reads n) (sym f ∙ e))
     where
       go : (t : Bool) → wrong_record b ≡ t → refuse no_record t (reads (number (take 8 b))) ≡ reads n → Taken b n
       go true h g = absurd (not_refused g)
@@ -65,8 +64,8 @@ module _ (b : List ℕ) {s : Checked} (f : s ≡ shown_checked (count_kept (colu
             from = from_right b h;
           }
 
-  pub not_taken : {k : ℕ} → s ≡ checked.Refused k → columns_from b ≡ refusal k
-  not_taken {k} e = go (columns_from b) (shown_checked_same (count_kept (columns_from b)) (refusal k) (sym f ∙ e))
+  pub not_taken : {k : ℕ} → s ≡ Err (refused_by k) → columns_from b ≡ refusal k
+  not_taken {k} e = go (columns_from b) (shown_same (count_kept (columns_from b)) (refusal k) (sym f ∙ e))
     where
       go : (a : Answer Columns) → count_kept a ≡ refusal k → a ≡ refusal k
       go (refusal m) g = cc

@@ -10,7 +10,6 @@ use Rattle.base_rules.specs.Lists.{at}
 use Rattle.base_numbers.specs.Numbers.{number}
 use Rattle.base_numbers.proofs.Laws.Numbers.{number_at}
 use Rattle.bundle_rows.specs.Rows.{most_rows}
-use Rattle.bundle_rows.specs.declared.Row.{Row}
 use Rattle.bundle_columns.specs.Columns.{kept_row}
 use Rattle.bundle_columns.specs.Record.{numbers_in, columns_in}
 

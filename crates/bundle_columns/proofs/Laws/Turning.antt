@@ -1,14 +1,14 @@
 -- Laws of turning one form into the other: the loop that writes rows, and what the steps leave, one upon the other.
 use Prim.Native.Nat.{ℕ, zero, suc, ◌+◌, ◌*◌, ◌≤◌, ◌<◌, zero-le}
 use mathlib.Core.Bool.{true, false}
-use mathlib.Core.List.{List, [], ◌∷◌, ◌++◌, append_assoc}
-use mathlib.Core.Path.{◌≡◌, refl, sym, ap, ap₂, ◌∙◌}
+use mathlib.Core.List.{List, ◌++◌}
+use mathlib.Core.Path.{◌≡◌, refl, sym, ap, ◌∙◌}
 use native.Mathlib.Nat.{not-suc-le-zero, add-zero, zero-add}
 use native.Mathlib.Omega.{arith}
 use borrow.Author.Tests.{ltb-false}
 use lib.Dec.{ltb}
-use lib.ListN.{length, get_or, take, drop, length-append}
-use Rattle.base_rules.specs.Answers.{Answer, reads, refusal}
+use lib.ListN.{length, get_or, drop, length-append}
+use Rattle.base_rules.specs.Answers.{reads, refusal}
 use Rattle.base_lent.specs.Copying.{laid, copied}
 use Rattle.base_lent.proofs.Laws.Copying.{copied_fits}
 use Rattle.base_lent.proofs.Laws.PieceLaws.{Pieced, pieced_none, pieced_next, pieced_all, pieces_length}
@@ -18,7 +18,8 @@ use Rattle.bundle_rows.specs.Rows.{most_rows, first_offset, blank_row, rows_of, 
 use Rattle.bundle_rows.specs.declared.Row.{Row}
 use Rattle.bundle_rows.proofs.Laws.Lists.{laid_two}
 use Rattle.bundle_rows.proofs.Laws.RowLaws.{length_row, rows_pieces}
-use Rattle.bundle_check.specs.declared.Checked.TheVariants as checked
+use Rattle.base_rules.specs.Shown.{refused_by}
+use Rattle.std.specs.Prelude.{Ok, Err}
 use Rattle.bundle_check.specs.Bundles.{contents_of, check_of}
 use Rattle.bundle_check.proofs.Laws.Accepted.{accepted_sound}
 use Rattle.bundle_check.proofs.Laws.BodyLaws.{count_rows}
@@ -67,17 +68,17 @@ length_listed w p v n b h = pieces_length (bytes_of w) w (length_bytes w) (field
 
 -- the lists of a bundle
 module _ (b out : List ℕ) where
-  pub made_short : ltb (length out) columns_size ≡ true → Turns columns_bytes (columns_into b out) out (checked.Refused 21) out
+  pub made_short : ltb (length out) columns_size ≡ true → Turns columns_bytes (columns_into b out) out (Err (refused_by 21)) out
   made_short e = rw e (record { answer = refl; left = refl })
 
   module _ (room : ltb (length out) columns_size ≡ false) where
-    pub made_refused : (k : ℕ) → check_of b ≡ refusal k → Turns columns_bytes (columns_into b out) out (checked.Refused k) out
+    pub made_refused : (k : ℕ) → check_of b ≡ refusal k → Turns columns_bytes (columns_into b out) out (Err (refused_by k)) out
     made_refused k e = rw (room, e) (record { answer = refl; left = refl })
 
     pub made : (n : ℕ) → check_of b ≡ reads n → {a after : List ℕ}
         → a ≡ laid out 0 (bytes_of 8 n ++ (list_bytes 1 (fields_in 0 1 n b) ++ list_bytes 1 (fields_in 1 1 n b)))
         → after ≡ laid a 1032 (list_bytes 4 (fields_in 2 4 n b) ++ (list_bytes 4 (fields_in 6 4 n b) ++ list_bytes 2 (fields_in 10 2 n b)))
-        → Turns columns_bytes (columns_into b out) out (checked.Rows n) after
+        → Turns columns_bytes (columns_into b out) out (Ok n) after
     made n e {a} {after} ea eb =
         let s = accepted_sound b n e in
         let few : n ≤ most_rows = omega (arith, s.0.few, s.1) in
@@ -96,19 +97,19 @@ module _ (b out : List ℕ) where
         let same : after ≡ laid out 0 (columns_bytes (columns_of (contents_of b))) = whole ∙ ap (λ (m : ℕ). laid out 0 (columns_bytes (columns_of (rows_of m
         (drop 2 b)))))
         s.1 in
-        rw (room, e) (record { answer = ap checked.Rows (sym (count_rows b n e)); left = same })
+        rw (room, e) (record { answer = ap Ok (sym (count_rows b n e)); left = same })
 
 -- the contents of the lists
 module _ (b out : List ℕ) where
-  pub wrote_refused : (k : ℕ) → columns_from b ≡ refusal k → Turns contents_bytes (contents_into b out) out (checked.Refused k) out
+  pub wrote_refused : (k : ℕ) → columns_from b ≡ refusal k → Turns contents_bytes (contents_into b out) out (Err (refused_by k)) out
   wrote_refused k e = rw e (record { answer = refl; left = refl })
 
   module _ (n : ℕ) (t : Taken b n) where
-    pub wrote_short : ltb (length out) (first_offset n) ≡ true → Turns contents_bytes (contents_into b out) out (checked.Refused 21) out
+    pub wrote_short : ltb (length out) (first_offset n) ≡ true → Turns contents_bytes (contents_into b out) out (Err (refused_by 21)) out
     wrote_short e = rw (t.from, ← t.count, e) (record { answer = refl; left = refl })
 
     pub wrote : ltb (length out) (first_offset n) ≡ false → {a after : List ℕ} → a ≡ copied out 0 (bytes_of 2 n)
-        → after ≡ laid a 2 (bytes_of_rows (kept_from (columns_in b) 0 n)) → Turns contents_bytes (contents_into b out) out (checked.Rows n) after
+        → after ≡ laid a 2 (bytes_of_rows (kept_from (columns_in b) 0 n)) → Turns contents_bytes (contents_into b out) out (Ok n) after
     wrote e {a} {after} ea eb =
         let room : first_offset n ≤ length out = ltb-false (length out) (first_offset n) e in
         let size : length (bytes_of 2 n) ≡ 2 = length_bytes 2 n in
@@ -118,4 +119,4 @@ module _ (b out : List ℕ) where
         let fits : ltb (length out) (first_offset (columns_in b).count) ≡ false = ap (λ (m : ℕ). ltb (length out) (first_offset m)) (sym t.count) ∙ e in
         let all : after ≡ laid out 0 (contents_bytes (columns_in b)) = whole
         ∙ ap (λ (m : ℕ). laid out 0 (bytes_of 2 m ++ bytes_of_rows (kept_from (columns_in b) 0 m))) t.count in
-        rw (t.from, fits) (record { answer = ap checked.Rows t.count; left = all })
+        rw (t.from, fits) (record { answer = ap Ok t.count; left = all })

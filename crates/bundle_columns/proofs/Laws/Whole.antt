@@ -1,6 +1,5 @@
 -- Turning either form into the other loses nothing: rows and lists, lists and their record, lists and the contents of the file.
 use Prim.Native.Nat.{ℕ, zero, suc, ◌+◌, ◌*◌, ◌-◌, ◌^◌, ◌≤◌, ◌<◌}
-use mathlib.Core.Bool.{false}
 use mathlib.Core.List.{List, [], ◌∷◌, ◌++◌, map, append_assoc, append-nil}
 use mathlib.Core.Path.{◌≡◌, refl, sym, ap, ap₂, ◌∙◌}
 use native.Mathlib.Nat.{zero-add, one-le-pow}
@@ -22,7 +21,6 @@ use Rattle.bundle_rows.proofs.Laws.Lists.{all_append}
 use Rattle.bundle_rows.proofs.Laws.RowLaws.{Fitting, length_rows, rows_back, rows_whole, bytes_taken}
 use Rattle.bundle_check.specs.Bundles.{contents_of, count_of, check_of}
 use Rattle.bundle_check.proofs.Laws.Accepted.{accepted_sound}
-use Rattle.bundle_check.proofs.Laws.BodyLaws.{count_rows, few_rows}
 use Rattle.bundle_columns.specs.Columns.{Columns, Listed, InOrder, list_of, columns_of, kept_row, kept_from, kept_rows, contents_bytes}
 use Rattle.bundle_columns.specs.Record.{columns_size, list_bytes, columns_bytes, numbers_in, columns_in, columns_from}
 use Rattle.bundle_columns.proofs.Laws.Numbers.{number_one}

@@ -3,32 +3,31 @@ use Prim.Native.Nat.{◌+◌, ◌≤◌}
 use mathlib.Core.Path.{sym, ap, ◌∙◌}
 use native.Mathlib.Omega.{arith}
 use lib.ListN.{length}
-use Rattle.bundle_columns.specs.Shown.{shown_next}
-use Rattle.bundle_columns.proofs.Laws.Looking.{Taken, taken, not_taken, next_refused, next_looked}
-use Rattle.bundle_columns.proofs.next.Goals.{In-Rows}
+use Rattle.std.proofs.Common.{rules}
+use Rattle.base_rules.specs.Shown.{shown}
+use Rattle.bundle_columns.specs.Lookups.{next_kept}
+use Rattle.bundle_columns.proofs.Laws.Looking.{Taken, taken, next_looked}
+use Rattle.bundle_columns.proofs.next.Goals.{In_ok-count}
 use Rattle.bundle_columns.proofs.next.Goals as goal
 
 -- the count as it was read
-counted : (c : In-Rows) → Taken c.args.columns.now c.in-Rows.count
-counted c =
-    taken c.args.columns.now c.count_in.ensures c.in-Rows.is
+counted : (c : In_ok-count) → Taken c.args.columns.now c.in_ok-count.count
+counted c = taken c.args.columns.now c.count_in.ensures c.in_ok-count.was
 
-inside : (c : In-Rows) → 8 + c.in-Rows.count ≤ length c.args.columns.now
+inside : (c : In_ok-count) → 8 + c.in_ok-count.count ≤ length c.args.columns.now
 inside c = let t = counted c in omega (arith, t.size, t.few)
 
+pub returns-in_err-count : goal.returns-in_err-count
+unfolding next_kept
+returns-in_err-count c = search rules
+
 pub overflow_add-count : goal.overflow_add-count
-overflow_add-count c = omega (arith, (counted (goal.at.overflow_add-count c).In-Rows).few)
+overflow_add-count c = omega (arith, (counted (goal.at.overflow_add-count c).In_ok-count).few)
 
 pub slice_bounds-next_place-end : goal.slice_bounds-next_place-end
-slice_bounds-next_place-end c = inside (goal.at.slice_bounds-next_place-end c).In-Rows
+slice_bounds-next_place-end c = inside (goal.at.slice_bounds-next_place-end c).In_ok-count
 
-pub returns-in-Rows : goal.returns-in-Rows
-returns-in-Rows c =
+pub returns : goal.returns
+returns c =
     let a = c.args in
-    c.next_place.ensures ∙ ap shown_next (sym (next_looked a.columns.now a.position a.from c.in-Rows.count (counted (goal.at.returns-in-Rows c).In-Rows)))
-
-pub returns-in-Refused : goal.returns-in-Refused
-returns-in-Refused c =
-    let a = c.args in
-    ap shown_next (sym (next_refused a.columns.now a.position a.from c.in-Refused.number
-    (not_taken a.columns.now c.count_in.ensures c.in-Refused.is)))
+    c.next_place.ensures ∙ ap shown (sym (next_looked a.columns.now a.position a.from c.in_ok-count.count (counted (goal.at.returns c).In_ok-count)))

@@ -9,43 +9,37 @@ use Rattle.base_rules.specs.Answers.{Answer, reads, refusal}
 use Rattle.base_lent.specs.Copying.{laid}
 use Rattle.bundle_rows.specs.Fields.{wrong_position}
 use Rattle.bundle_check.specs.Bundles.{check_of}
-use Rattle.bundle_joining.specs.declared.position.Chosen.TheVariants.{Filled, Refused}
+use Rattle.std.specs.Prelude.{Ok, Err}
+use Rattle.base_rules.specs.Shown.{shown, refused_by}
 use Rattle.bundle_joining.specs.Choosing.{position_bundle, choosing_of}
-use Rattle.bundle_joining.specs.ChoosingShown.{shown_chosen, buffer_chosen, Chooses}
-
--- Law: no two answers have one case.
-pub shown_chosen_same : (a b : Answer ℕ) → shown_chosen a ≡ shown_chosen b → a ≡ b
-shown_chosen_same (reads m) (reads n) e = cc
-shown_chosen_same (reads m) (refusal n) e = cc
-shown_chosen_same (refusal m) (reads n) e = cc
-shown_chosen_same (refusal m) (refusal n) e = cc
+use Rattle.bundle_joining.specs.ChoosingShown.{buffer_chosen, Chooses}
 
 module _ (b : List ℕ) (position : ℕ) (out : List ℕ) where
-  refused_by : (n : ℕ) → choosing_of b position out ≡ refusal n → Chooses b position out (Refused n) out
-  refused_by n e = record { answer = rw e; left = rw e }
+  by_number : (n : ℕ) → choosing_of b position out ≡ refusal n → Chooses b position out (Err (refused_by n)) out
+  by_number n e = record { answer = rw e; left = rw e }
 
   -- the check's refusal
-  pub choosing_refused : (n : ℕ) → check_of b ≡ refusal n → Chooses b position out (Refused n) out
+  pub choosing_refused : (n : ℕ) → check_of b ≡ refusal n → Chooses b position out (Err (refused_by n)) out
   unfolding choosing_of
-  choosing_refused n e = refused_by n (rw e)
+  choosing_refused n e = by_number n (rw e)
 
   module _ (n : ℕ) (e : check_of b ≡ reads n) where
-    pub choosing_outside : wrong_position position ≡ true → Chooses b position out (Refused 34) out
+    pub choosing_outside : wrong_position position ≡ true → Chooses b position out (Err (refused_by 34)) out
     unfolding choosing_of
-    choosing_outside w = refused_by 34 (rw (e, w))
+    choosing_outside w = by_number 34 (rw (e, w))
 
     module _ (w : wrong_position position ≡ false) {filled : ℕ} (f : length (position_bundle position b) ≡ filled) where
-      pub choosing-short : ltb (length out) filled ≡ true → Chooses b position out (Refused 38) out
+      pub choosing-short : ltb (length out) filled ≡ true → Chooses b position out (Err (refused_by 38)) out
       unfolding choosing_of
-      choosing-short h = refused_by 38 (rw (e, w, f, h))
+      choosing-short h = by_number 38 (rw (e, w, f, h))
 
       pub choosing-reads : ltb (length out) filled ≡ false → choosing_of b position out ≡ reads filled
       unfolding choosing_of
       choosing-reads h = rw (e, w, f, h)
 
       pub choosing-done : ltb (length out) filled ≡ false → {after : List ℕ} → after ≡ laid out 0 (position_bundle position b)
-          → Chooses b position out (Filled filled) after
+          → Chooses b position out (Ok filled) after
       choosing-done h l = record {
-        answer = ap shown_chosen (sym (choosing-reads h));
+        answer = ap shown (sym (choosing-reads h));
         left = l ∙ ap (λ (a : Answer ℕ). buffer_chosen a b position out) (sym (choosing-reads h));
       }

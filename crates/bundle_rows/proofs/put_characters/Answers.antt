@@ -5,7 +5,7 @@ use Rattle.bundle_rows.proofs.Laws.CharacterLaws.{putting_none, putting_next, pu
 use Rattle.bundle_rows.proofs.put_characters.Goals as goal
 
 pub loop-i-init : goal.loop-i-init
-loop-i-init c = putting_none c.least-count.ensures
+loop-i-init c = putting_none c.min-count.ensures
 
 pub offset_bounds-line-i : goal.offset_bounds-line-i
 offset_bounds-line-i c = omega (arith, c.loop-i.invariant.few)

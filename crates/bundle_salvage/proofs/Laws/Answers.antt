@@ -6,7 +6,10 @@ use mathlib.Core.Path.{◌≡◌, refl, sym, ap, ap₂, ◌∙◌}
 use native.Mathlib.Omega.{arith}
 use lib.Dec.{ltb}
 use lib.ListN.{length, take, drop}
+use Rattle.std.specs.Prelude.{Result, Ok, Err}
 use Rattle.base_rules.specs.Answers.{Answer, reads, refusal}
+use Rattle.base_rules.specs.declared.refusals.Refusal.{Refusal}
+use Rattle.base_rules.specs.Shown.{shown, refused_by}
 use Rattle.base_lent.specs.Copying.{laid}
 use Rattle.base_lent.specs.Lent.{stored}
 use Rattle.bundle_rows.specs.Rows.{most_rows, rows_of, first_offset}
@@ -16,23 +19,21 @@ use Rattle.bundle_check.specs.Records.{records_of, bundle_of}
 use Rattle.bundle_check.specs.RowRules.{bodies_end, wrong_places}
 use Rattle.bundle_check.proofs.Laws.Opened.{opened_whole, opened_next, opened_refused}
 use Rattle.bundle_salvage.specs.declared.Salvaged.{Salvaged}
-use Rattle.bundle_salvage.specs.declared.SalvageTold.{SalvageTold}
-use Rattle.bundle_salvage.specs.declared.SalvageTold.TheVariants.{Told, Refused}
 use Rattle.bundle_salvage.specs.declared.leading.Leading.{Leading}
 use Rattle.bundle_salvage.specs.Salvaging.{rule_told, new_length, tell_of, leading_rows, salvage_of, salvage_into, new_bundle}
-use Rattle.bundle_salvage.specs.Shown.{shown_salvage, Salvages}
+use Rattle.bundle_salvage.specs.Shown.{Salvages}
 use Rattle.bundle_salvage.specs.Writing.{ContentsWhole, InPlace}
 use Rattle.bundle_salvage.proofs.Laws.Leading.{leading_few, leading_keep, leading_end, keep_places}
 use Rattle.bundle_salvage.proofs.Laws.NewBundle.{end_there}
 use Rattle.bundle_salvage.proofs.Laws.Parts.{rows_taken}
 
 -- by what is answered
-answered : {b out after : List ℕ} {r : SalvageTold} (a : Answer Salvaged) → salvage_into b out ≡ a → r ≡ shown_salvage a → after ≡ stored (new_bundle b) out a
+answered : {b out after : List ℕ} {r : Result Salvaged Refusal} (a : Answer Salvaged) → salvage_into b out ≡ a → r ≡ shown a → after ≡ stored (new_bundle b) out a
     → Salvages b out r after
-answered {b} {out} a e f g = record { answer = f ∙ ap shown_salvage (sym e); left = g ∙ ap (stored (new_bundle b) out) (sym e) }
+answered {b} {out} a e f g = record { answer = f ∙ ap shown (sym e); left = g ∙ ap (stored (new_bundle b) out) (sym e) }
 
 -- a refusal of the contents
-pub salvage_refused : (b out : List ℕ) (k : ℕ) → opened b (reads (count_of b)) ≡ refusal k → Salvages b out (Refused k) out
+pub salvage_refused : (b out : List ℕ) (k : ℕ) → opened b (reads (count_of b)) ≡ refusal k → Salvages b out (Err (refused_by k)) out
 unfolding salvage_of
 salvage_refused b out k e =
     answered (refusal k) (rw (opened_refused b (reads (tell_of (count_of b) b (leading_rows (count_of b) b))) k e)) refl refl
@@ -78,12 +79,12 @@ module _ (b : List ℕ) (n : ℕ) (e : opened b (reads (count_of b)) ≡ reads n
         ∙ ap (λ (m : ℕ). reads (tell_of m b (leading_rows m b))) (sym count_is) ∙ ap (λ (x : Leading). reads (tell_of n b x)) (sym f)
 
     module _ (out : List ℕ) where
-      pub salvage_short : ltb (length out) (new_length l.kept n l.end) ≡ true → Salvages b out (Refused 38) out
+      pub salvage_short : ltb (length out) (new_length l.kept n l.end) ≡ true → Salvages b out (Err (refused_by 38)) out
       salvage_short s = answered (refusal 38) (rw (salvage_is, s)) refl refl
 
       pub salvage_done : ltb (length out) (new_length l.kept n l.end) ≡ false → {rule : ℕ} {after : List ℕ}
           → rule ≡ rule_told l.rule l.kept n l.end (length b) → after ≡ laid out 0 (bundle_of (take l.kept (records_of b)))
-          → Salvages b out (Told (record { kept = l.kept; dropped = n - l.kept; rule = rule; filled = new_length l.kept n l.end })) after
+          → Salvages b out (Ok (record { kept = l.kept; dropped = n - l.kept; rule = rule; filled = new_length l.kept n l.end })) after
       salvage_done s {rule} t w =
           answered (reads (tell_of n b l)) (rw (salvage_is, s))
-          (ap (λ (x : ℕ). Told (record { kept = l.kept; dropped = n - l.kept; rule = x; filled = new_length l.kept n l.end })) t) w
+          (ap (λ (x : ℕ). Ok (record { kept = l.kept; dropped = n - l.kept; rule = x; filled = new_length l.kept n l.end })) t) w

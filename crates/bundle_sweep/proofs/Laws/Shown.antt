@@ -11,38 +11,32 @@ use lib.Seq.{length-take-le}
 use Rattle.base_rules.specs.Answers.{Answer, reads, refusal}
 use Rattle.base_lent.specs.Copying.{laid}
 use Rattle.bundle_check.specs.Bundles.{check_of}
-use Rattle.bundle_sweep.specs.declared.Swept.TheVariants.{Filled, Refused}
+use Rattle.std.specs.Prelude.{Ok, Err}
+use Rattle.base_rules.specs.Shown.{shown, refused_by}
 use Rattle.bundle_sweep.specs.Sweeping.{swept_bundle, sweep_of, buffer_swept}
-use Rattle.bundle_sweep.specs.Shown.{shown_swept, Sweeps}
+use Rattle.bundle_sweep.specs.Shown.{Sweeps}
 use Rattle.bundle_sweep.proofs.Laws.Laid.{laid_append}
 use Rattle.bundle_sweep.proofs.Laws.NewBundle.{new_fits}
 
--- Law: no two answers have one case.
-pub shown_swept_same : (a b : Answer ℕ) → shown_swept a ≡ shown_swept b → a ≡ b
-shown_swept_same (reads m) (reads n) e = cc
-shown_swept_same (reads m) (refusal n) e = cc
-shown_swept_same (refusal m) (reads n) e = cc
-shown_swept_same (refusal m) (refusal n) e = cc
-
 module _ (buffer : List ℕ) (filled position : ℕ) where
-  refused_by : (n : ℕ) → sweep_of buffer filled position ≡ refusal n → Sweeps buffer filled position (Refused n) buffer
-  refused_by n e = record { answers = rw e; leaves = rw e }
+  by_number : (n : ℕ) → sweep_of buffer filled position ≡ refusal n → Sweeps buffer filled position (Err (refused_by n)) buffer
+  by_number n e = record { answers = rw e; leaves = rw e }
 
   -- past the buffer
-  pub sweep_past : ltb (length buffer) filled ≡ true → Sweeps buffer filled position (Refused 30) buffer
+  pub sweep_past : ltb (length buffer) filled ≡ true → Sweeps buffer filled position (Err (refused_by 30)) buffer
   unfolding sweep_of
-  sweep_past p = refused_by 30 (rw p)
+  sweep_past p = by_number 30 (rw p)
 
   module _ (h : filled ≤ length buffer) where
     -- the check's refusal
-    pub sweep_refused : (n : ℕ) → check_of (take filled buffer) ≡ refusal n → Sweeps buffer filled position (Refused n) buffer
+    pub sweep_refused : (n : ℕ) → check_of (take filled buffer) ≡ refusal n → Sweeps buffer filled position (Err (refused_by n)) buffer
     unfolding sweep_of
-    sweep_refused n e = refused_by n (rw (le-ltb (length buffer) filled h, e))
+    sweep_refused n e = by_number n (rw (le-ltb (length buffer) filled h, e))
 
     module _ (n : ℕ) (e : check_of (take filled buffer) ≡ reads n) where
-      pub sweep-outside : ltb 48 position ≡ true → Sweeps buffer filled position (Refused 34) buffer
+      pub sweep-outside : ltb 48 position ≡ true → Sweeps buffer filled position (Err (refused_by 34)) buffer
       unfolding sweep_of
-      sweep-outside p = refused_by 34 (rw (le-ltb (length buffer) filled h, e, p))
+      sweep-outside p = by_number 34 (rw (le-ltb (length buffer) filled h, e, p))
 
       pub sweep-reads : ltb 48 position ≡ false → sweep_of buffer filled position ≡ reads (length (swept_bundle position (take filled buffer)))
       unfolding sweep_of
@@ -51,13 +45,13 @@ module _ (buffer : List ℕ) (filled position : ℕ) where
       -- what the part of the buffer holds, and behind it what stood there
       pub sweep-done : ltb 48 position ≡ false → {end : ℕ} {part : List ℕ} → end ≡ length (swept_bundle position (take filled buffer))
           → part ≡ laid (take filled buffer) 0 (swept_bundle position (take filled buffer))
-          → Sweeps buffer filled position (Filled end) (part ++ drop filled buffer)
+          → Sweeps buffer filled position (Ok end) (part ++ drop filled buffer)
       sweep-done p {end} {part} f g =
           let old : List ℕ = take filled buffer in
           let new : List ℕ = swept_bundle position old in
           let size : length old ≡ filled = length-take-le filled buffer h in
           record {
-            answers = ap Filled f ∙ ap shown_swept (sym (sweep-reads p));
+            answers = ap Ok f ∙ ap shown (sym (sweep-reads p));
             leaves =
                 ap (λ (l : List ℕ). l ++ drop filled buffer) g
                 ∙ sym (laid_append old (drop filled buffer) 0 new (omega (arith, new_fits position old n e)))

@@ -1,57 +1,54 @@
 -- `bundle_sweep::sweep` meets its contract: past the buffer, by the check's refusal, by the position, or swept.
 use Prim.Native.Nat.{◌≤◌}
 use mathlib.Core.Path.{sym, ◌∙◌}
-use borrow.Author.Tests.{ltb-false}
+use Rattle.std.proofs.Common.{rules}
+use Rattle.bundle_sweep.specs.Sweeping.{sweep_of}
 use lib.ListN.{length, take}
 use lib.Seq.{length-take-le}
-use Rattle.base_rules.specs.Answers.{reads, refusal}
 use Rattle.bundle_check.specs.Bundles.{check_of}
-use Rattle.bundle_check.proofs.Laws.Shown.{shown_checked_same}
-use Rattle.bundle_sweep.proofs.Laws.Shown.{sweep_past, sweep_refused, sweep-outside, sweep-done}
+use Rattle.base_rules.proofs.Laws.AnswerLaws.{shown_ok}
+use Rattle.bundle_sweep.proofs.Laws.Shown.{sweep_past, sweep-outside, sweep-done}
 use borrow.Author.Tests.{le-ltb, lt-ltb}
-use Rattle.bundle_sweep.proofs.sweep.Goals.{Else-past}
+use Rattle.bundle_sweep.proofs.sweep.Goals.{Else-buffer-filled}
 use Rattle.bundle_sweep.proofs.sweep.Goals as goal
 
-inside : (c : Else-past) → c.args.filled ≤ length c.args.buffer.now
-inside c = ltb-false (length c.args.buffer.now) c.args.filled (le-ltb _ _ c.if-past.false)
+inside : (c : Else-buffer-filled) → c.args.filled ≤ length c.args.buffer.now
+inside c = c.if-buffer-filled.false
 
-pub returns-then-past : goal.returns-then-past
-returns-then-past c = let a = c.args in sweep_past a.buffer.now a.filled a.position (lt-ltb _ _ c.if-past.true)
+pub returns-then-buffer-filled : goal.returns-then-buffer-filled
+returns-then-buffer-filled c = let a = c.args in sweep_past a.buffer.now a.filled a.position (lt-ltb _ _ c.if-buffer-filled.true)
 
 pub slice_bounds-check-end-2 : goal.slice_bounds-check-end-2
-slice_bounds-check-end-2 c = let a = c.args in sym (length-take-le a.filled a.buffer.now (inside (goal.at.slice_bounds-check-end-2 c).Else-past))
+slice_bounds-check-end-2 c = let a = c.args in sym (length-take-le a.filled a.buffer.now (inside (goal.at.slice_bounds-check-end-2 c).Else-buffer-filled))
 
-pub returns-then-outside : goal.returns-then-outside
-returns-then-outside c =
+pub returns-then-position-gt-LAST_POSITION : goal.returns-then-position-gt-LAST_POSITION
+returns-then-position-gt-LAST_POSITION c =
     let a = c.args in
-    let n = c.in-Rows.count in
-    sweep-outside a.buffer.now a.filled a.position (inside (goal.at.returns-then-outside c).Else-past) n
-    (shown_checked_same (check_of (take a.filled a.buffer.now)) (reads n) (sym c.check.ensures ∙ c.in-Rows.is))
-    (lt-ltb _ _ c.if-outside.true)
+    let n = c.in_ok-count.count in
+    sweep-outside a.buffer.now a.filled a.position (inside (goal.at.returns-then-position-gt-LAST_POSITION c).Else-buffer-filled) n
+    (shown_ok (check_of (take a.filled a.buffer.now)) n (sym c.check.ensures ∙ c.in_ok-count.was))
+    (lt-ltb _ _ c.if-position-gt-LAST_POSITION.true)
 
-pub slice_bounds-sweep_rows-end-in-Rows : goal.slice_bounds-sweep_rows-end-in-Rows
-slice_bounds-sweep_rows-end-in-Rows c =
+pub slice_bounds-sweep_rows-end-2 : goal.slice_bounds-sweep_rows-end-2
+slice_bounds-sweep_rows-end-2 c =
     let a = c.args in
-    sym (length-take-le a.filled a.buffer.now (inside (goal.at.slice_bounds-sweep_rows-end-in-Rows c).Else-past))
+    sym (length-take-le a.filled a.buffer.now (inside (goal.at.slice_bounds-sweep_rows-end-2 c).Else-buffer-filled))
 
 pub sweep_rows-end-requires : goal.sweep_rows-end-requires
 sweep_rows-end-requires c =
     let a = c.args in
-    let n = c.in-Rows.count in
-    shown_checked_same (check_of (take a.filled a.buffer.now)) (reads n) (sym c.check.ensures ∙ c.in-Rows.is)
+    let n = c.in_ok-count.count in
+    shown_ok (check_of (take a.filled a.buffer.now)) n (sym c.check.ensures ∙ c.in_ok-count.was)
 
-pub returns-else-outside : goal.returns-else-outside
-returns-else-outside c =
+pub returns : goal.returns
+returns c =
     let a = c.args in
-    let n = c.in-Rows.count in
+    let n = c.in_ok-count.count in
     let s = c.sweep_rows-end.ensures in
-    sweep-done a.buffer.now a.filled a.position (inside (goal.at.returns-else-outside c).Else-past) n
-    (shown_checked_same (check_of (take a.filled a.buffer.now)) (reads n) (sym c.check.ensures ∙ c.in-Rows.is))
-    (le-ltb _ _ c.if-outside.false) s.0 s.1
+    sweep-done a.buffer.now a.filled a.position (inside (goal.at.returns c).Else-buffer-filled) n
+    (shown_ok (check_of (take a.filled a.buffer.now)) n (sym c.check.ensures ∙ c.in_ok-count.was))
+    (le-ltb _ _ c.if-position-gt-LAST_POSITION.false) s.0 s.1
 
-pub returns-in-Refused : goal.returns-in-Refused
-returns-in-Refused c =
-    let a = c.args in
-    let n = c.in-Refused.number in
-    sweep_refused a.buffer.now a.filled a.position (inside (goal.at.returns-in-Refused c).Else-past) n
-    (shown_checked_same (check_of (take a.filled a.buffer.now)) (refusal n) (sym c.check.ensures ∙ c.in-Refused.is))
+pub returns-in_err-count : goal.returns-in_err-count
+unfolding sweep_of
+returns-in_err-count c = search (rules, le-ltb _ _ c.if-buffer-filled.false)

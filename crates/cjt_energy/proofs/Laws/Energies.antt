@@ -1,15 +1,13 @@
 -- Laws of an energy value turned into an entry.
-use Prim.Native.Nat.{ℕ, ◌+◌, ◌*◌, ◌/◌, ◌%◌, ◌^◌, ◌≤◌}
-use mathlib.Core.Bool.{Bool, true, false, cond, not, ◌&&◌, ◌||◌, false≢true}
+use Prim.Native.Nat.{ℕ, ◌*◌, ◌/◌, ◌%◌, ◌^◌, ◌≤◌}
+use mathlib.Core.Bool.{Bool, true, false, cond, not, ◌&&◌, ◌||◌}
 use mathlib.Core.Path.{◌≡◌, refl, sym, subst}
 use native.Mathlib.Omega.{arith}
 use borrow.Author.Tests.{eqb-true, eqb-false, eq-eqb, ne_eqb}
-use lib.Dec.{ltb, eqb}
-use Rattle.mbus_rules.specs.declared.Entry.{Entry}
-use Rattle.base_rules.specs.Answers.{Answer, reads, refusal}
+use lib.Dec.{eqb}
 use Rattle.base_rules.proofs.Laws.Tests.{by_test}
 use Rattle.cjt_rules.specs.CjtUnits.{watt_hours, joules, energy_code}
-use Rattle.cjt_energy.specs.Energies.{code_power, unit_for, code_digit, entry_digit, shown_entry}
+use Rattle.cjt_energy.specs.Energies.{code_power, unit_for, code_digit, entry_digit}
 
 either_way : {X : Type 0} (a b : Bool) → (a ≡ true → X) → (b ≡ true → X) → (a || b) ≡ true → X
 either_way true b f g e = f refl
@@ -89,10 +87,3 @@ unit_highest code known n1 n2 n5 n8 nA nB nE =
     by_code (λ (k : ℕ). code ≡ k → 0x0F ≡ unit_for k)
     (λ e. absurd (n1 e)) (λ e. absurd (n2 e)) (λ e. absurd (n5 e)) (λ e. absurd (n8 e)) (λ e. absurd (nA e)) (λ e. absurd (nB e)) (λ e. absurd (nE e))
     (λ e. refl) (λ e. refl) code known refl
-
--- no two answers are shown alike
-pub shown_entry_same : (a b : Answer Entry) → shown_entry a ≡ shown_entry b → a ≡ b
-shown_entry_same (refusal m) (refusal n) e = cc
-shown_entry_same (refusal m) (reads f) e = cc
-shown_entry_same (reads d) (refusal n) e = cc
-shown_entry_same (reads d) (reads f) e = cc

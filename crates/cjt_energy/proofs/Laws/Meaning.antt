@@ -1,6 +1,6 @@
 -- What an energy value means as a number is what its entry means; when there is none; and that the entry can stand in a data telegram.
-use Prim.Native.Nat.{ℕ, ◌+◌, ◌*◌, ◌/◌, ◌%◌, ◌^◌, ◌≤◌, ◌<◌}
-use mathlib.Core.Bool.{Bool, true, false, cond, not, and-eq-true_iff}
+use Prim.Native.Nat.{ℕ, ◌*◌, ◌/◌, ◌%◌, ◌^◌, ◌≤◌, ◌<◌}
+use mathlib.Core.Bool.{Bool, true, false, not, and-eq-true_iff}
 use mathlib.Core.List.{List, [], ◌∷◌}
 use mathlib.Core.Path.{◌≡◌, refl, sym, ◌∙◌}
 use native.Mathlib.Nat.{div-add-mod'}
@@ -10,7 +10,7 @@ use lib.Dec.{ltb, leb, eqb}
 use lib.IntN.{pos}
 use Rattle.mbus_rules.specs.declared.Entry.{Entry}
 use Rattle.mbus_rules.specs.declared.Value.TheVariants.{Number}
-use Rattle.base_rules.specs.Answers.{Answer, reads, refusal, refuse}
+use Rattle.base_rules.specs.Answers.{reads, refusal, refuse}
 use Rattle.mbus_rules.specs.Quantities.{quantity_of, width_of, paired, energy}
 use Rattle.mbus_rules.specs.Writing.{wrong_entry}
 use Rattle.base_rules.proofs.Laws.AnswerLaws.{reads_same}
@@ -23,7 +23,7 @@ use Rattle.cjt_rules.specs.declared.CjtTelegram.TheVariants as telegrams
 use Rattle.cjt_rules.specs.CjtAddresses.{heat_type}
 use Rattle.cjt_rules.specs.CjtClocks.{wrong_clock}
 use Rattle.cjt_rules.specs.CjtLines.{read_cjt_line}
-use Rattle.cjt_rules.specs.CjtUnits.{watt_hours, joules, energy_code, power_code, flow_code, volume_code, wrong_units}
+use Rattle.cjt_rules.specs.CjtUnits.{watt_hours, energy_code, power_code, flow_code, volume_code, wrong_units}
 use Rattle.cjt_rules.specs.CjtWriting.{over_fourteen, over_eight, over_six, unwritten_counts, unwritten}
 use Rattle.cjt_rules.proofs.Laws.RoundTrip.{read_then_write}
 use Rattle.cjt_energy.specs.Energies.{code_power, unit_for, unit_of_kind, last_power, entry_power, code_digit, entry_digit, entry_for}

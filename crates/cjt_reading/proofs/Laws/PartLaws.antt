@@ -1,5 +1,5 @@
 -- Digits of an answer, gathered in a word.
-use Rattle.std.proofs.Common.{◌≡◌, ℕ, ◌+◌, ◌-◌, ◌*◌, ◌^◌, ◌<◌, ◌≤◌, min, eqb, List, length, take, drop, replicate, sym, ap, ◌∙◌, true≢false, le_trans, mul-le-mul_left, arith, lit<, length-drop, length-take, length-take-le, get_or-drop, get_or-take, eq-eqb, ne_eqb}
+use Rattle.std.proofs.Common.{◌≡◌, ℕ, ◌+◌, ◌*◌, ◌^◌, ◌<◌, ◌≤◌, min, eqb, List, length, take, drop, replicate, sym, ap, ◌∙◌, true≢false, le_trans, mul-le-mul_left, arith, lit<, length-drop, length-take, length-take-le, get_or-drop, get_or-take, eq-eqb, ne_eqb}
 use native.Mathlib.Nat.{pow-le-pow_right}
 use Rattle.base_rules.specs.Lists.{at, any}
 use Rattle.base_digits.specs.Digits.{digits_of, packed_of}

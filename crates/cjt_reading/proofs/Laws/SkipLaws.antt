@@ -1,5 +1,5 @@
 -- A loop that skips FE bytes.
-use Rattle.std.proofs.Common.{◌≡◌, ℕ, zero, suc, ◌+◌, ◌-◌, ◌*◌, ◌%◌, ◌<◌, ◌≤◌, ltb, ◌≢◌, List, [], ◌∷◌, length, drop, sym, refl, ap, ◌∙◌, zero-le, add-one, arith, get_or-drop, drop-cons, ltb-false, ltb-true, ne_eqb}
+use Rattle.std.proofs.Common.{◌≡◌, ℕ, zero, suc, ◌+◌, ◌-◌, ◌*◌, ◌%◌, ◌<◌, ◌≤◌, ltb, ◌≢◌, List, [], ◌∷◌, length, drop, sym, refl, ap, subst, ◌∙◌, zero-le, add-one, arith, get_or-drop, drop-cons, ltb-false, ltb-true, ne_eqb}
 use lib.ListN.{get_or-eq_default}
 use Rattle.base_rules.specs.Lists.{at, total}
 use Rattle.base_rules.proofs.Laws.Tests.{by_test}
@@ -57,11 +57,13 @@ module _ {b : List ℕ} {n : ℕ} (k : Skipping b n) where
         sum = k.sum;
       }
 
-  pub skipping_all : 5 ≤ n → Skips b n
+  pub skipping_all : 5 ≤ n → Skips b 5
   unfolding past_fe
   skipping_all h =
-      let none : 5 - n ≡ 0 = omega arith in
-      record { few = k.few; inside = k.inside; same = sym (ap (λ (j : ℕ). past_fe j (drop n b)) none) ∙ k.left; sum = k.sum }
+      let none : 5 - n ≡ 0 = omega (arith, k.few) in
+      let all : n ≡ 5 = omega (arith, k.few) in
+      subst (Skips b) all
+      (record { few = k.few; inside = k.inside; same = sym (ap (λ (j : ℕ). past_fe j (drop n b)) none) ∙ k.left; sum = k.sum })
 
 -- the sum without the FE bytes, as the code adds it up
 pub own_sum : {b : List ℕ} {n sum own : ℕ} → Skips b n → sum ≡ total b % 256 → own ≡ (sum + 2 * n) % 256 → own ≡ total (drop n b) % 256

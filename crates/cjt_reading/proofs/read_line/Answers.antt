@@ -1,24 +1,31 @@
 -- `cjt_reading::read_line` meets its contract: the line is taken in, then come the rules on bytes.
 use Rattle.std.proofs.Common.{sym, refl, ap, ◌∙◌, arith}
-use Rattle.cjt_rules.specs.CjtOutlines.{cjt_shown}
-use Rattle.cjt_reading.proofs.Laws.TakingLaws.{none_is, taken_far, near_refused, near_count, near_sum, near_passed}
+use Rattle.base_rules.specs.Shown.{shown}
+use Rattle.std.proofs.lemmas.Result.{err_from_is_err_and}
+use Rattle.cjt_reading.proofs.Laws.TakingLaws.{none_is, taken_refused, taken_far, near_refused, near_count, near_sum, near_passed}
 use Rattle.cjt_reading.proofs.read_line.Goals as goal
 
 pub returns-then-count-eq0 : goal.returns-then-count-eq0
-returns-then-count-eq0 c = ap cjt_shown (sym (none_is c.args.line.now c.if-count-eq0.true))
+returns-then-count-eq0 c = ap shown (sym (none_is c.args.line.now c.if-count-eq0.true))
+
+pub returns-in_err-soundness_of : goal.returns-in_err-soundness_of
+returns-in_err-soundness_of c =
+    let p = err_from_is_err_and c.from_residual.result c.from_residual.ensures.1 in
+    rw (p.1, p.2, taken_refused c.args.line.now (omega (arith, c.if-count-gt-MOST.true)) c.soundness_of.ensures c.in_err-soundness_of.was)
 
 pub returns-then-count-gt-MOST : goal.returns-then-count-gt-MOST
 returns-then-count-gt-MOST c =
-    rw c.far_of-number.ensures (ap cjt_shown (sym (taken_far c.args.line.now (omega
-    (arith, c.if-count-gt-MOST.true)) c.soundness_of-sound.ensures c.if-count-gt-MOST.true)))
+    rw (taken_far c.args.line.now (omega (arith, c.if-count-gt-MOST.true)) c.soundness_of.ensures c.if-count-gt-MOST.true c.in_ok-soundness_of.was)
 
-pub returns-in-Refused : goal.returns-in-Refused
-returns-in-Refused c =
-    ap cjt_shown (sym (near_refused c.args.line.now
-    c.gather-gathering.new.out refl c.if-count-eq0.false
-    c.if-count-gt-MOST.false c.gather-gathering.ensures.0
-    c.gather-gathering.ensures.1
-    c.in-Refused.is))
+pub returns-in_err-gathering : goal.returns-in_err-gathering
+returns-in_err-gathering c =
+    let p = err_from_is_err_and c.from_residual-in_err-gathering.result c.from_residual-in_err-gathering.ensures.1 in
+    rw (
+      p.1,
+      p.2,
+      near_refused c.args.line.now c.gather-gathering.new.out refl c.if-count-eq0.false c.if-count-gt-MOST.false c.gather-gathering.ensures.0
+          c.gather-gathering.ensures.1 c.in_err-gathering.was,
+    )
 
 pub slice_bounds-read_in-end : goal.slice_bounds-read_in-end
 slice_bounds-read_in-end c =
@@ -36,8 +43,8 @@ read_in-requires c =
 
 pub returns : goal.returns
 returns c =
-    c.read_in.ensures ∙ ap cjt_shown (near_passed c.args.line.now
+    c.read_in.ensures ∙ ap shown (near_passed c.args.line.now
     c.gather-gathering.new.out refl c.if-count-eq0.false
     c.if-count-gt-MOST.false c.gather-gathering.ensures.0
     c.gather-gathering.ensures.1
-    c.in_default.is)
+    c.in_ok-gathering.was)

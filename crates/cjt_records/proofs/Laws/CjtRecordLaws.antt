@@ -1,8 +1,8 @@
 -- Laws about the record of a CJ/T 188 telegram: what is written for a telegram is read as that telegram.
-use Prim.Native.Nat.{ℕ, ◌+◌, ◌^◌, ◌<◌}
-use mathlib.Core.Bool.{true, false, not}
+use Prim.Native.Nat.{ℕ, ◌^◌, ◌<◌}
+use mathlib.Core.Bool.{false, not}
 use mathlib.Core.List.{List, [], ◌∷◌}
-use mathlib.Core.Path.{◌≡◌, refl, sym, ap, ◌∙◌}
+use mathlib.Core.Path.{◌≡◌, refl, ap, ◌∙◌}
 use native.Mathlib.Omega.{arith}
 use borrow.Author.Tests.{ltb-true, not-false}
 use lib.Dec.{ltb}
@@ -15,7 +15,6 @@ use Rattle.base_numbers.proofs.Laws.Numbers.{number_bytes}
 use Rattle.cjt_rules.specs.declared.CjtAddress.{CjtAddress}
 use Rattle.cjt_rules.specs.declared.CjtAddress.TheVariants.{Meter, Broadcast}
 use Rattle.cjt_rules.specs.declared.CjtRequest.{CjtRequest}
-use Rattle.cjt_rules.specs.declared.CjtAnswer.{CjtAnswer}
 use Rattle.cjt_rules.specs.declared.CjtTelegram.{CjtTelegram}
 use Rattle.cjt_rules.specs.declared.CjtTelegram.TheVariants as telegrams
 use Rattle.cjt_rules.specs.CjtAddresses.{heat_type}
@@ -26,7 +25,7 @@ use Rattle.cjt_rules.proofs.Laws.ListedLaws.{clock_shows}
 use Rattle.base_lent.specs.Recorded.{no_record}
 use Rattle.base_lent.proofs.Laws.Recorded.{record_read, record_written, wrong_size}
 use Rattle.cjt_records.specs.CjtRecords.{broadcast_byte, address_number, head_bytes, cjt_bytes, cjt_in, cjt_from}
-use Rattle.cjt_records.specs.Sizes.{PartyFits, AnswerFits, CjtFits}
+use Rattle.cjt_records.specs.Sizes.{PartyFits, CjtFits}
 
 -- ---- sizes
 

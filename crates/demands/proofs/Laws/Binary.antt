@@ -103,8 +103,8 @@ negative_refused st unit b t n = rw (t, n)
 pub joules_are_energy : JoulesAreEnergy
 unfolding quantity_of unit_of power_of
 joules_are_energy n h =
-    let low : (row_of (8 + n)).4 ≡ 8 = eqb-true (row_of (8 + n)).4 8 (below 8 (λ k. eqb (row_of (8 + k)).4 8) refl n h) in
-    let less : (row_of (8 + n)).5 ≡ 0 = eqb-true (row_of (8 + n)).5 0 (below 8 (λ k. eqb (row_of (8 + k)).5 0) refl n h) in
+    let low : (row_of (8 + n)).divisor ≡ 8 = eqb-true (row_of (8 + n)).divisor 8 (below 8 (λ k. eqb (row_of (8 + k)).divisor 8) refl n h) in
+    let less : (row_of (8 + n)).less ≡ 0 = eqb-true (row_of (8 + n)).less 0 (below 8 (λ k. eqb (row_of (8 + k)).less 0) refl n h) in
     let rest : (8 + n) % 8 ≡ n = omega arith in (
       below 8 (λ k. in_joules (8 + k)) refl n h,
       not-true (in_joules n) (below 8 (λ k. not (in_joules k)) refl n h),

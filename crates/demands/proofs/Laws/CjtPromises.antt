@@ -8,6 +8,7 @@ use lib.ListN.{length}
 use Rattle.base_lent.specs.Lent.{stored}
 use Rattle.base_rules.specs.Lists.{any}
 use Rattle.base_characters.specs.Characters.{over, odd, byte_of}
+use Rattle.base_rules.proofs.Laws.AnswerLaws.{shown_same}
 use Rattle.base_rules.specs.Answers.{Answer, reads, refusal, refuse}
 use Rattle.cjt_rules.specs.declared.CjtTelegram.{CjtTelegram}
 use Rattle.cjt_rules.specs.declared.CjtTelegram.TheVariants as telegrams
@@ -63,7 +64,4 @@ pub writes_settled : WritesSettled
 writes_settled a before x y p q = two_equations _ _ x y (p.answer, p.places) (q.answer, q.places)
 
 pub cjt_reading_apart : CjtReadingApart
-cjt_reading_apart (refusal m) (refusal n) e = cc
-cjt_reading_apart (refusal m) (reads u) e = cc
-cjt_reading_apart (reads t) (refusal n) e = cc
-cjt_reading_apart (reads t) (reads u) e = cc
+cjt_reading_apart = shown_same

@@ -16,7 +16,7 @@ use Rattle.cjt_rules.specs.CjtUnits.{energy_code}
 use Rattle.cjt_rules.specs.CjtWriting.{over_eight, write_cjt_line}
 use Rattle.cjt_rules.proofs.Laws.RoundTrip.{read_then_write, written_again}
 use Rattle.cjt_energy.specs.Energies.{unit_for, code_digit, entry_digit, entry_for}
-use Rattle.cjt_energy.proofs.Laws.Energies.{shown_entry_same}
+use Rattle.base_rules.proofs.Laws.AnswerLaws.{shown_same}
 use Rattle.cjt_energy.proofs.Laws.Meaning.{entry_of}
 use Rattle.cjt_records.specs.CjtRecords.{cjt_size, cjt_bytes, cjt_in}
 use Rattle.cjt_records.proofs.Laws.CjtRecordLaws.{cjt_length, cjt_read, cjt_written, writable_fits}
@@ -86,4 +86,4 @@ entry_for_by count code out = go (ltb (length out) entry_size)
     go false = wider 21 (84 ∷ 85 ∷ 86 ∷ []) (entry_for count code) (entry_by count code)
 
 pub entries_shown_apart : EntriesShownApart
-entries_shown_apart = shown_entry_same
+entries_shown_apart = shown_same

@@ -42,8 +42,8 @@ use Rattle.run_picture.proofs.Laws.TimingLaws.{pace_next}
 use Rattle.run_picture.proofs.Laws.Meaning.{inside_left, inside_right, inside_itself, has_row, position_right, picture_stands}
 use Rattle.run_listing.specs.LineColumn.{column_of}
 use Rattle.run_listing.specs.Listings.{word_of}
-use Rattle.run_picture.specs.declared.Drawn.TheVariants.{Written}
 use Rattle.run_picture.specs.Shown.{Draws}
+use Rattle.std.specs.Prelude.{Ok}
 use Rattle.run_picture.proofs.Laws.Longest.{longest}
 use Rattle.demands.proofs.Laws.Bundle.{byte_at}
 use Rattle.demands.specs.Drawing.{row_no, box_at, busy_until, pause_before, drawn_pause, FirstRowDrawn, NextRowDrawn, LaterNotFurtherLeft, DistancesTrue}
@@ -370,7 +370,7 @@ picture_never_longer b n bytes = longest b n (byte_at b bytes)
 pub picture_given : PictureGiven
 picture_given b out n written r out' written' e room d =
     let fits : ltb (length out) (length (picture_of b)) ≡ false = le-ltb (length out) (length (picture_of b)) room in
-    let drawn : Draws b out (Written (length (picture_of b))) out' = record { answer = rw (e, fits); holds = d.holds } in
+    let drawn : Draws b out (Ok (length (picture_of b))) out' = record { answer = rw (e, fits); holds = d.holds } in
     let size : written' ≡ length (picture_of b) = d.gives.place ∙ rw (e, fits) in
     (d.gives.number ∙ rw (e, fits), size, rw size (picture_stands b out drawn).2)
 

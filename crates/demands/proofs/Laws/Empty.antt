@@ -26,9 +26,10 @@ use Rattle.base_characters.specs.Flips.{repeated}
 use Rattle.mbus_rules.proofs.Laws.LineLaws.{bare_sized}
 use Rattle.base_lent.specs.Lent.{told}
 use Rattle.base_lent.specs.Pieces.{pieces}
-use Rattle.mbus_search.specs.Searching.{accepts, Begins, Spot}
-use Rattle.mbus_after.specs.After.{TimedSpot}
-use Rattle.mbus_either.specs.Interfaces.{LiveLine}
+use Rattle.mbus_search.specs.declared.Spot.{Spot}
+use Rattle.mbus_search.specs.Searching.{accepts, Begins}
+use Rattle.mbus_after.specs.declared.TimedSpot.{TimedSpot}
+use Rattle.mbus_either.specs.declared.LiveLine.{LiveLine}
 use Rattle.host_either.specs.Finding.{line_interface}
 use Rattle.serial_marks.specs.Marks.{port_marked}
 use Rattle.serial_marks.specs.Unmarking.{Unmarking}

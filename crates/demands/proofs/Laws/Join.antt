@@ -28,7 +28,7 @@ use Rattle.bundle_joining.proofs.Laws.ByTime.{none_first_lem, none_second_lem, s
 use Rattle.bundle_joining.proofs.Laws.Joining.{both_size, both_filled}
 use Rattle.bundle_joining.proofs.Laws.Parts as parts
 use Rattle.bundle_joining.proofs.Laws.JoinProper as proper
-use Rattle.bundle_joining.proofs.Laws.JoinShown.{shown_joined_same}
+use Rattle.base_rules.proofs.Laws.AnswerLaws.{shown_same}
 use Rattle.run_counting.specs.Counting.{looked_at}
 use Rattle.run_listing.specs.Listings.{first_line}
 use Rattle.run_verdicts.specs.Verdicts.{verdicts_of}
@@ -188,7 +188,7 @@ joining_by a b out =
     (λ n. refuse_by ns 38 (too_much (m + n) (length (joined_bundle a b)) out) _ refl (reads_by ns _)))
 
 pub joined_apart : JoinedApart
-joined_apart = shown_joined_same
+joined_apart = shown_same
 
 pub example_joined : ExampleJoined
 unfolding join_of check_of number rows_of some_wrong end_of chars any records_in by_time in_turn rows_for bytes_of_rows bodies_for bytes_of

@@ -26,7 +26,7 @@ use Rattle.bundle_joining.specs.Choosing.{elsewhere, of_position, position_bundl
 use Rattle.bundle_joining.specs.ChoosingShown.{buffer_chosen}
 use Rattle.bundle_joining.proofs.Laws.Choosing.{own_fits}
 use Rattle.bundle_joining.proofs.Laws.ChoosingProper as proper
-use Rattle.bundle_joining.proofs.Laws.ChoosingShown.{shown_chosen_same}
+use Rattle.base_rules.proofs.Laws.AnswerLaws.{shown_same}
 use Rattle.run_counting.specs.Counting.{kept_if, looked, looked_at}
 use Rattle.run_listing.specs.Listings.{first_line}
 use Rattle.exchange_steps.specs.declared.Slot.{Slot}
@@ -194,7 +194,7 @@ choosing_by b position out =
     (reads_by ns _)))
 
 pub chosen_apart : ChosenApart
-chosen_apart = shown_chosen_same
+chosen_apart = shown_same
 
 pub example_chosen : ExampleChosen
 unfolding choosing_of check_of number rows_of some_wrong end_of chars any records_in without rows_for bytes_of_rows bodies_for bytes_of

@@ -27,7 +27,8 @@ use Rattle.mbus_rules.specs.Telegrams.{bare}
 use Rattle.mbus_rules.proofs.Laws.LineLaws.{bare_sized}
 use Rattle.mbus_rules.proofs.Laws.RowLaws.{quantity_few}
 use Rattle.mbus_telegrams.specs.Kinds.{kind_in}
-use Rattle.mbus_search.specs.Searching.{Spot, Begins, length_here, further, or_else, find_in}
+use Rattle.mbus_search.specs.declared.Spot.{Spot}
+use Rattle.mbus_search.specs.Searching.{Begins, length_here, further, or_else, find_in}
 use Rattle.mbus_search.proofs.Laws.Meaning.{found_begins, none_begins}
 use Rattle.bundle_columns.specs.Columns.{kept_row}
 use Rattle.bundle_columns.specs.Lookups.{row_kept}

@@ -32,8 +32,10 @@ use Rattle.mbus_rules.specs.Outlines.{outlined}
 use Rattle.mbus_rules.specs.Writing.{line_of, unwritable}
 use Rattle.bench_indication.specs.Errors.{indication_of}
 use Rattle.bench_indication.specs.Errors as errors
-use Rattle.mbus_search.specs.Searching.{Spot, length_here, further, or_else, find_in}
-use Rattle.mbus_after.specs.After.{TimedSpot, moved_timed, or_later, find_after}
+use Rattle.mbus_search.specs.declared.Spot.{Spot}
+use Rattle.mbus_search.specs.Searching.{length_here, further, or_else, find_in}
+use Rattle.mbus_after.specs.declared.TimedSpot.{TimedSpot}
+use Rattle.mbus_after.specs.After.{moved_timed, or_later, find_after}
 use Rattle.mbus_length.specs.declared.HowLong.TheVariants.{Known, NotYet, NoLine}
 use Rattle.mbus_either.specs.Interfaces.{live_on, or_optical, find_either}
 use Rattle.mbus_either.specs.declared.Interface.TheVariants.{Optical}

@@ -9,8 +9,8 @@ use Rattle.base_characters.specs.Characters.{carrier}
 use Rattle.base_characters.specs.Flips.{flip_bit}
 use Rattle.mbus_rules.proofs.Laws.LineCode.{line_code}
 use Rattle.serial_marks.specs.Marks.{wronged}
-use Rattle.serial_marks.specs.declared.First.TheVariants.{Finished}
-use Rattle.serial_marks.specs.Unmarking.{first, unmarked_in}
+use Rattle.std.specs.Prelude.{Some}
+use Rattle.serial_marks.specs.Unmarking.{whole, first, unmarked_in}
 use Rattle.serial_marks.proofs.Laws.UnmarkingLaws as unmarking
 use Rattle.serial_marks.proofs.Laws.PieceLaws as by-piece
 use Rattle.serial_marks.proofs.Laws.SoundLaws as sound
@@ -44,7 +44,7 @@ accepted_was_right room bytes h a =
     (even, sym (sound.passed_as_marked room bytes h even))
 
 -- FF before another byte than 00 and FF, which no port passes on that is set as asked, is FF with wrong parity, and the other byte stands by itself.
-stray_first : (b : ℕ) (s : List ℕ) → eqb b 0xFF ≡ false → eqb b 0x00 ≡ false → first (0xFF ∷ b ∷ s) ≡ Finished 1 0x1FF
+stray_first : (b : ℕ) (s : List ℕ) → eqb b 0xFF ≡ false → eqb b 0x00 ≡ false → first (0xFF ∷ b ∷ s) ≡ Some (whole 1 0x1FF)
 unfolding wronged flip_bit carrier ones_in
 stray_first b s p q = rw (p, q)
 

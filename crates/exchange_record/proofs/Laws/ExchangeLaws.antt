@@ -18,9 +18,6 @@ use Rattle.exchange_steps.specs.declared.State.TheVariants.{Waiting, Resend, Wel
 use Rattle.exchange_steps.specs.declared.Exchange.{Exchange}
 use Rattle.exchange_steps.specs.declared.Slot.{Slot}
 use Rattle.exchange_steps.specs.declared.Slot.TheVariants.{Idle, Busy}
-use Rattle.exchange_steps.specs.declared.Stepped.{Stepped}
-use Rattle.exchange_steps.specs.declared.Stepped.TheVariants as steps
-use Rattle.exchange_steps.specs.Steps.{shown_step}
 use Rattle.base_numbers.specs.Numbers.{bytes_of}
 use Rattle.base_numbers.proofs.Laws.Numbers.{number_bytes}
 use Rattle.base_numbers.specs.Records.{record_of}
@@ -28,9 +25,8 @@ use Rattle.base_lent.specs.Recorded.{no_record, recorded}
 use Rattle.base_lent.proofs.Laws.Recorded.{record_read, record_written, record_same, record_differs, wrong_size}
 use Rattle.base_lent.specs.Same.{same}
 use Rattle.base_lent.proofs.Laws.Same.{same_equal, same_itself, same_not}
-use Rattle.exchange_record.specs.declared.Taken.TheVariants.{Is, Refused}
 use Rattle.exchange_record.specs.Exchanges.{request_bytes, cause_number, state_number, cause_in, exchange_head, exchange_bytes, cause_of_number, state_of}
-use Rattle.exchange_record.specs.Exchanges.{exchange_in, reached, exchange_from, none_bytes, slot_bytes, slot_from, shown_slot}
+use Rattle.exchange_record.specs.Exchanges.{exchange_in, reached, exchange_from, none_bytes, slot_bytes, slot_from}
 
 -- ---- sizes
 
@@ -185,26 +181,3 @@ slot_length (Busy x) = exchange_length x
 
 pub slot_size : (b : List ℕ) (w : Slot) → slot_from b ≡ reads w → length b ≡ 24
 slot_size b w e = ap length (sym (slot_written b w e)) ∙ slot_length w
-
--- as the code finds them
-module _ (b : List ℕ) {idle : Bool} (e : idle ≡ same b none_bytes) where
-  pub zeros_taken : idle ≡ true → Is Idle ≡ shown_slot (slot_from b)
-  zeros_taken y = rw (sym e ∙ y)
-
-  module _ {s : Stepped} (f : s ≡ shown_step (exchange_from b)) (n : idle ≡ false) where
-    others : (a : Answer Exchange) → exchange_from b ≡ a → slot_from b ≡ within Busy a
-    others a q = rw (sym e ∙ n, q)
-
-    pub exchange_taken : {x : Exchange} → s ≡ steps.To x → Is (Busy x) ≡ shown_slot (slot_from b)
-    exchange_taken {x} r = go (exchange_from b) refl (sym f ∙ r)
-      where
-        go : (a : Answer Exchange) → exchange_from b ≡ a → shown_step a ≡ steps.To x → Is (Busy x) ≡ shown_slot (slot_from b)
-        go (refusal m) q r = cc
-        go (reads y) q r = let same : y ≡ x = cc in sym (ap shown_slot (others (reads y) q) ∙ ap (λ (z : Exchange). Is (Busy z)) same)
-
-    pub exchange_refused : {m : ℕ} → s ≡ steps.Refused m → Refused m ≡ shown_slot (slot_from b)
-    exchange_refused {m} r = go (exchange_from b) refl (sym f ∙ r)
-      where
-        go : (a : Answer Exchange) → exchange_from b ≡ a → shown_step a ≡ steps.Refused m → Refused m ≡ shown_slot (slot_from b)
-        go (refusal k) q r = let same : k ≡ m = cc in sym (ap shown_slot (others (refusal k) q) ∙ ap Refused same)
-        go (reads y) q r = cc

@@ -6,8 +6,8 @@ pub returns : goal.returns
 unfolding exchange_in
 returns c =
     rw (
-      c.number_at-last.ensures.so,
-      c.number_at-began.ensures.so,
-      c.state_of-state.ensures,
-      c.request_of-request.ensures,
+      c.number_at.ensures.so,
+      c.number_at-2.ensures.so,
+      c.state_of.ensures,
+      c.request_of.ensures,
     )

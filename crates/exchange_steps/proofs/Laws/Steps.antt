@@ -1,5 +1,6 @@
 -- Laws of `specs/Steps`.
 use Prim.Native.Nat.{ℕ, ◌+◌, ◌≤◌, ◌<◌}
+use Rattle.std.specs.Prelude.{Result}
 use mathlib.Core.Bool.{Bool, true, false, cond, not, true≢false, and-eq-true_iff}
 use mathlib.Core.Path.{◌≡◌, refl, sym, ap, ap₂, ◌∙◌}
 use native.Mathlib.Omega.{arith}
@@ -14,7 +15,9 @@ use Rattle.mbus_rules.specs.declared.Telegram.{Telegram}
 use Rattle.mbus_rules.specs.declared.Outline.{Outline}
 use Rattle.mbus_rules.specs.declared.Outline.TheVariants as outlines
 use Rattle.base_rules.specs.Answers.{Answer, reads, refusal, refuse, follow}
-use Rattle.mbus_rules.specs.Telegrams.{blank, shown}
+use Rattle.base_rules.specs.declared.refusals.Refusal.{Refusal}
+use Rattle.base_rules.specs.Shown as answers
+use Rattle.mbus_rules.specs.Telegrams.{blank, telegram_read}
 use Rattle.base_rules.proofs.Laws.Tests.{by_test}
 use Rattle.mbus_rules.specs.Outlines.{outlined}
 use Rattle.exchange_steps.specs.declared.Cause.TheVariants.{Silent}
@@ -23,44 +26,35 @@ use Rattle.exchange_steps.specs.declared.State.TheVariants.{Waiting, Resend, Wel
 use Rattle.exchange_steps.specs.declared.Exchange.{Exchange}
 use Rattle.exchange_steps.specs.declared.Slot.{Slot}
 use Rattle.exchange_steps.specs.declared.Slot.TheVariants.{Idle, Busy}
-use Rattle.exchange_steps.specs.declared.Stepped.{Stepped}
-use Rattle.exchange_steps.specs.declared.Stepped.TheVariants.{To, Refused}
 use Rattle.exchange_steps.specs.declared.Heard.{Heard}
 use Rattle.exchange_replies.specs.Fits.{fits}
 use Rattle.exchange_steps.specs.Steps.{most_sends, failed, cause_of, after_line, after_tick, waits, asks_resend, moved, past, step, heard_in, tick_in}
-use Rattle.exchange_steps.specs.Steps.{shown_step, ends_well, heard_of, ended, in_progress, same_request, asks_for, sending, begun, sent_in, resent_in}
+use Rattle.exchange_steps.specs.Steps.{ends_well, heard_of, ended, in_progress, same_request, asks_for, sending, begun, sent_in, resent_in}
 use Rattle.exchange_steps.specs.Steps.{start_with, send_ended_in, send_ended_on, heard_on}
 
 -- ---- laws
 
--- no two answers have one case
-pub shown_step_same : (a b : Answer Exchange) → shown_step a ≡ shown_step b → a ≡ b
-shown_step_same (refusal m) (refusal n) e = cc
-shown_step_same (refusal m) (reads y) e = cc
-shown_step_same (reads x) (refusal n) e = cc
-shown_step_same (reads x) (reads y) e = cc
-
 -- the answer of a tick and of a line heard, from its parts
-module _ (x : Exchange) (t : Clock) {called silent : Bool} {state : State} {next : Exchange} {s : Stepped} (c : called ≡ waits x.state)
+module _ (x : Exchange) (t : Clock) {called silent : Bool} {state : State} {next : Exchange} {s : Result Exchange Refusal} (c : called ≡ waits x.state)
     (p : silent ≡ past x t)
-    (n : next ≡ moved x state t) (e : s ≡ shown_step (step x t called next)) where
-  moved_parts : {after : State} → state ≡ after → s ≡ shown_step (step x t (waits x.state) (moved x after t))
-  moved_parts q = e ∙ ap₂ (λ (b : Bool) (y : Exchange). shown_step (step x t b y)) c (n ∙ ap (λ (z : State). moved x z t) q)
+    (n : next ≡ moved x state t) (e : s ≡ answers.shown (step x t called next)) where
+  moved_parts : {after : State} → state ≡ after → s ≡ answers.shown (step x t (waits x.state) (moved x after t))
+  moved_parts q = e ∙ ap₂ (λ (b : Bool) (y : Exchange). answers.shown (step x t b y)) c (n ∙ ap (λ (z : State). moved x z t) q)
 
-  pub tick_parts : state ≡ after_tick x.sends silent → s ≡ shown_step (tick_in x t)
+  pub tick_parts : state ≡ after_tick x.sends silent → s ≡ answers.shown (tick_in x t)
   tick_parts q = moved_parts (q ∙ ap (after_tick x.sends) p)
 
-  pub line_parts : (outline : Outline) → state ≡ after_line x.request x.sends silent outline → s ≡ shown_step (heard_in x outline t)
+  pub line_parts : (outline : Outline) → state ≡ after_line x.request x.sends silent outline → s ≡ answers.shown (heard_in x outline t)
   line_parts outline q = moved_parts (q ∙ ap (λ (b : Bool). after_line x.request x.sends b outline) p)
 
 -- the whole answer for a line heard: the step, and the reply
-pub heard_parts : (b : Slot) (reading : Answer Telegram) (t : Clock) {s : Stepped} {well : Bool} {r : Telegram}
-    → s ≡ shown_step (heard_on b (outlined reading) t) → ends_well s ≡ well → r ≡ cond well (shown reading).telegram blank
+pub heard_parts : (b : Slot) (reading : Answer Telegram) (t : Clock) {s : Result Exchange Refusal} {well : Bool} {r : Telegram}
+    → s ≡ answers.shown (heard_on b (outlined reading) t) → ends_well s ≡ well → r ≡ cond well (telegram_read reading) blank
     → ◌≡◌ {A = Heard} (record { stepped = s; reply = r }) (heard_of b reading t)
 heard_parts b reading t e w q =
     λ i. record {
       stepped = e i;
-      reply = (q ∙ ap (λ (c : Bool). cond c (shown reading).telegram blank) (sym w ∙ ap ends_well e)) i;
+      reply = (q ∙ ap (λ (c : Bool). cond c (telegram_read reading) blank) (sym w ∙ ap ends_well e)) i;
     }
 
 -- a resend is asked for only before the third send
@@ -174,25 +168,6 @@ module _ (x : Exchange) (outline : Outline) (t : Clock) where
   pub resent_differs : asks_for x.request outline ≡ false → x.last.0 ≤ t.0 → asks_resend x.state x.sends ≡ true → resent_in x outline t ≡ refusal 43
   resent_differs a l c =
       ap (λ (b : Bool). judged b (sent_in x t)) a ∙ ap (judged false) (step_taken x t (asks_resend x.state x.sends) _ l c)
-
-  -- as the code finds it: what was sent is the request; or the step is refused before that is asked; or it is not
-  module _ {s : Stepped} {same : Bool} (e : s ≡ shown_step (sent_in x t)) (a : same ≡ asks_for x.request outline) where
-    pub resent_taken : same ≡ true → s ≡ shown_step (resent_in x outline t)
-    resent_taken i = e ∙ ap shown_step (sym (resent_same (sym a ∙ i)))
-
-    pub resent_refused : {n : ℕ} → s ≡ Refused n → Refused n ≡ shown_step (resent_in x outline t)
-    resent_refused {n} r = go (sent_in x t) (sym e ∙ r)
-      where
-        go : (b : Answer Exchange) → shown_step b ≡ Refused n → Refused n ≡ shown_step (judged (asks_for x.request outline) b)
-        go (refusal m) q = sym q
-        go (reads y) q = cc
-
-    pub resent_another : {y : Exchange} → same ≡ false → s ≡ To y → Refused 43 ≡ shown_step (resent_in x outline t)
-    resent_another {y} i r = go (sent_in x t) (sym e ∙ r) ∙ ap (λ (b : Bool). shown_step (judged b (sent_in x t))) (sym i ∙ a)
-      where
-        go : (b : Answer Exchange) → shown_step b ≡ To y → Refused 43 ≡ shown_step (judged false b)
-        go (refusal m) q = cc
-        go (reads z) q = refl
 
 -- ---- none or an exchange
 

@@ -15,9 +15,9 @@ use Rattle.base_lent.specs.Copying.{copied}
 use Rattle.base_lent.specs.Lent.{done, needs}
 use Rattle.base_lent.proofs.Laws.LentLaws.{leaves_all, leaves_copied}
 use Rattle.bundle_rows.specs.declared.Row.{Row}
-use Rattle.bundle_check.specs.declared.rows.RowFound.{RowFound}
-use Rattle.bundle_check.specs.declared.rows.RowFound.TheVariants.{Fields, Refused}
-use Rattle.bundle_check.specs.RowsShown.{shown_row}
+use Rattle.std.specs.Prelude.{Result, Ok, Err}
+use Rattle.base_rules.specs.declared.refusals.Refusal.{Refusal}
+use Rattle.base_rules.specs.Shown.{shown, refused_by}
 use Rattle.host_bundle.specs.Rows.{row_record, row_found, GivesRow}
 
 -- Laws: the record's size; too little room, and the two cases of the row.
@@ -44,19 +44,19 @@ fields_read r t o l = record {
 }
 
 -- what was found is what the rule gives
-pub found_row : (a : Answer Row) → row_found (shown_row a) ≡ a
+pub found_row : (a : Answer Row) → row_found (shown a) ≡ a
 found_row (reads r) = refl
 found_row (refusal n) = refl
 
-module _ (found : RowFound) (out : List ℕ) where
+module _ (found : Result Row Refusal) (out : List ℕ) where
   pub row_short : ltb (length out) 12 ≡ true → GivesRow (needs 12 out (row_found found)) out (256 + 21) out
   row_short e = rw e (leaves_all row_record out done refl)
 
   module _ (e : ltb (length out) 12 ≡ false) where
-    pub row_number : {n : ℕ} → found ≡ Refused n → GivesRow (needs 12 out (row_found found)) out (256 + n) out
+    pub row_number : {n : ℕ} → found ≡ Err (refused_by n) → GivesRow (needs 12 out (row_found found)) out (256 + n) out
     row_number g = rw e (leaves_all row_record out done (ap row_found g))
 
-    pub row_value : {r : Row} {x after : List ℕ} → found ≡ Fields r → x ≡ row_record r → after ≡ copied out 0 x
+    pub row_value : {r : Row} {x after : List ℕ} → found ≡ Ok r → x ≡ row_record r → after ≡ copied out 0 x
         → GivesRow (needs 12 out (row_found found)) out 0 after
     row_value {r} {x} g h k =
         let room : length x ≤ length out = omega (arith, ap length h, length_record r, ltb-false (length out) 12 e) in

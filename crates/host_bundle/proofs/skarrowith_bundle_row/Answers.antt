@@ -4,4 +4,4 @@ use Rattle.host_bundle.proofs.skarrowith_bundle_row.Goals as goal
 
 pub returns : goal.returns
 returns c =
-    rw (c.row-found.ensures, found_row) at c.put_row.ensures
+    rw (c.row.ensures, found_row) at c.put_row.ensures

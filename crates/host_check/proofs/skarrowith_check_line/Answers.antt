@@ -4,9 +4,9 @@ use Rattle.host_check.proofs.Laws.NumberLaws.{odd_number, even_number}
 use Rattle.host_check.proofs.skarrowith_check_line.Goals as goal
 
 pub returns-then-bytes-eq1 : goal.returns-then-bytes-eq1
-returns-then-bytes-eq1 c = odd_number c.args.bytes.now c.if-bytes-eq1.true
+returns-then-bytes-eq1 c = c.told.ensures ∙ odd_number c.args.bytes.now c.if-bytes-eq1.true
 
 pub returns : goal.returns
 returns c =
     c.number_of.ensures ∙ even_number c.args.bytes.now c.if-bytes-eq1.false
-    c.outline_of-outline.ensures
+    c.outline_of.ensures

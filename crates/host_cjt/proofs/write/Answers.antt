@@ -3,20 +3,11 @@ use native.Mathlib.Omega.{arith}
 use Rattle.host_cjt.proofs.Laws.CjtCallLaws.{not_written, line_written, written_few}
 use Rattle.host_cjt.proofs.write.Goals as goal
 
-pub overflow_cast-result-in-Length : goal.overflow_cast-result-in-Length
-overflow_cast-result-in-Length c =
-    omega (
-      arith,
-      written_few c.args.telegram
-          c.write_line-written.ensures c.in-Length.is,
-    )
+pub overflow_cast-result : goal.overflow_cast-result
+overflow_cast-result c = omega (arith, written_few c.args.telegram c.write_line.ensures c.in-Ok.is)
 
-pub returns-in-Refused : goal.returns-in-Refused
-returns-in-Refused c =
-    not_written c.args.telegram
-    c.write_line-written.ensures c.in-Refused.is
+pub returns-in-Err : goal.returns-in-Err
+returns-in-Err c = rw c.told.ensures (not_written c.args.telegram c.write_line.ensures c.in-Err.is)
 
-pub returns-in-Length : goal.returns-in-Length
-returns-in-Length c =
-    line_written c.args.telegram
-    c.write_line-written.ensures c.in-Length.is
+pub returns-in-Ok : goal.returns-in-Ok
+returns-in-Ok c = line_written c.args.telegram c.write_line.ensures c.in-Ok.is

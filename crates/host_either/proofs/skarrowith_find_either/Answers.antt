@@ -5,22 +5,23 @@ use Rattle.host_either.proofs.skarrowith_find_either.Goals as goal
 pub returns-then-short : goal.returns-then-short
 returns-then-short c =
     let args = c.args in
-    either_short args.mbus.now args.optical.now args.found.now c.either_at-search.ensures c.in-At.is
-    c.put_spot-short.ensures.0 c.put_spot-short.ensures.1 c.if-short.true
+    rw c.told-then-short.ensures
+    (either_short args.mbus.now args.optical.now args.found.now c.either_at.ensures c.in-Ok.is
+    c.put_spot-short.ensures.0 c.put_spot-short.ensures.1 c.if-short.true)
 
-pub returns-in-Refused : goal.returns-in-Refused
-returns-in-Refused c =
+pub returns-in-Err : goal.returns-in-Err
+returns-in-Err c =
     let args = c.args in
-    neither_found args.mbus.now args.optical.now args.found.now c.either_at-search.ensures c.in-Refused.is
+    rw c.told.ensures (neither_found args.mbus.now args.optical.now args.found.now c.either_at.ensures c.in-Err.is)
 
 pub returns-in-Mbus : goal.returns-in-Mbus
 returns-in-Mbus c =
     let args = c.args in
-    either_whole args.mbus.now args.optical.now args.found.now c.either_at-search.ensures c.in-At.is
+    either_whole args.mbus.now args.optical.now args.found.now c.either_at.ensures c.in-Ok.is
     c.put_spot-short.ensures.0 c.put_spot-short.ensures.1 c.if-short.false c.in-Mbus.is
 
 pub returns-in-Optical : goal.returns-in-Optical
 returns-in-Optical c =
     let args = c.args in
-    either_whole args.mbus.now args.optical.now args.found.now c.either_at-search.ensures c.in-At.is
+    either_whole args.mbus.now args.optical.now args.found.now c.either_at.ensures c.in-Ok.is
     c.put_spot-short.ensures.0 c.put_spot-short.ensures.1 c.if-short.false c.in-Optical.is

@@ -1,5 +1,6 @@
 -- Laws: the ways out of each call.
 use Prim.Native.Nat.{ℕ, ◌+◌, ◌≤◌}
+use Rattle.std.specs.Prelude.{Result, Ok, Err}
 use mathlib.Core.Bool.{Bool, true, false, cond}
 use mathlib.Core.List.{List}
 use mathlib.Core.Path.{◌≡◌, refl, sym, ap, ap₂, subst, ◌∙◌}
@@ -11,17 +12,18 @@ use Rattle.bench_clock.specs.declared.Clock.{Clock}
 use Rattle.mbus_rules.specs.declared.Kind.{Kind}
 use Rattle.mbus_rules.specs.declared.Telegram.{Telegram}
 use Rattle.base_rules.specs.Answers.{Answer, reads, refusal}
+use Rattle.base_rules.specs.declared.refusals.Refusal.{Refusal}
+use Rattle.base_rules.specs.Shown as answers
+use Rattle.base_rules.proofs.Laws.AnswerLaws.{shown_ok, shown_err}
 use Rattle.mbus_rules.specs.Lines.{read_line}
 use Rattle.base_rules.specs.Lists.{at}
-use Rattle.mbus_rules.specs.Telegrams.{bare, blank, shown}
+use Rattle.mbus_rules.specs.Telegrams.{bare, blank, telegram_read}
 use Rattle.exchange_steps.specs.declared.State.{State}
 use Rattle.exchange_steps.specs.declared.State.TheVariants.{Waiting, Resend, Well, Failed}
 use Rattle.exchange_steps.specs.declared.Exchange.{Exchange}
 use Rattle.exchange_steps.specs.declared.Slot.{Slot}
 use Rattle.exchange_steps.specs.declared.Heard.{Heard}
-use Rattle.exchange_steps.specs.declared.Stepped.{Stepped}
-use Rattle.exchange_steps.specs.declared.Stepped.TheVariants.{To, Refused}
-use Rattle.exchange_steps.specs.Steps.{shown_step, is_well, ends_well, heard_of}
+use Rattle.exchange_steps.specs.Steps.{is_well, ends_well, heard_of}
 use Rattle.exchange_steps.specs.Histories.{Step, send_ended, heard, answer}
 use Rattle.base_lent.proofs.Laws.Copying.{laid_length}
 use Rattle.base_lent.specs.Copying.{copied}
@@ -29,17 +31,15 @@ use Rattle.base_lent.specs.Lent.{told, stored}
 use Rattle.base_lent.proofs.Laws.LentLaws.{all_copied, leaves_all, leaves_copied}
 use Rattle.mbus_telegrams.specs.Kinds.{kind_in}
 use Rattle.mbus_records.specs.Telegrams.{telegram_size, telegram_bytes}
-use Rattle.exchange_record.specs.declared.Taken.{Taken}
-use Rattle.exchange_record.specs.declared.Taken.TheVariants as taken
-use Rattle.exchange_record.specs.Exchanges.{state_number, exchange_size, exchange_bytes, slot_from, shown_slot}
+use Rattle.exchange_record.specs.Exchanges.{state_number, exchange_size, exchange_bytes, slot_from}
 use Rattle.exchange_record.proofs.Laws.ExchangeLaws.{exchange_length, slot_size, state_told}
 use Rattle.host_exchange.specs.Calls.{step_for, send_ended_for, heard_for, Answers, replied, HearsReply, answer_of}
 
-pub answer_shown : (a : Answer Exchange) → answer_of (shown_step a) ≡ a
+pub answer_shown : (a : Answer Exchange) → answer_of (answers.shown a) ≡ a
 answer_shown (refusal n) = refl
 answer_shown (reads x) = refl
 
-pub shown_as : (a : Answer Exchange) (s : Stepped) → s ≡ shown_step a → answer_of s ≡ a
+pub shown_as : (a : Answer Exchange) (s : Result Exchange Refusal) → s ≡ answers.shown a → answer_of s ≡ a
 shown_as a s e = ap answer_of e ∙ answer_shown a
 
 -- 3 is told of an exchange that ended well, and of nothing else
@@ -56,10 +56,10 @@ told_well (reads x) telegram out = go x.state
     go (Failed cause) = refl
 
 -- the ways out of keeping a step
-pub kept_refused : (b : List ℕ) {s : Stepped} {n : ℕ} → s ≡ Refused n → Answers (answer_of s) b b (256 + n)
+pub kept_refused : (b : List ℕ) {s : Result Exchange Refusal} {n : Refusal} → s ≡ Err n → Answers (answer_of s) b b (256 + n.0)
 kept_refused b e = leaves_all exchange_bytes b (λ x. state_number x.state) (ap answer_of e)
 
-pub kept_to : (b : List ℕ) {s : Stepped} {x : Exchange} {w after : List ℕ} {r : ℕ} → s ≡ To x → w ≡ exchange_bytes x → exchange_size ≤ length b
+pub kept_to : (b : List ℕ) {s : Result Exchange Refusal} {x : Exchange} {w after : List ℕ} {r : ℕ} → s ≡ Ok x → w ≡ exchange_bytes x → exchange_size ≤ length b
     → after ≡ copied b 0 w → r ≡ at w 3 → Answers (answer_of s) b after r
 kept_to b {s} {x} e w h l n =
     leaves_copied exchange_bytes b (λ y. state_number y.state) (ap answer_of e) w (omega (arith, ap length w, exchange_length x)) l
@@ -73,42 +73,27 @@ kept_length {a} {before} {after} h k = ap length k.left ∙ go a
     go (refusal n) = refl
     go (reads x) = laid_length before (exchange_bytes x) 0 (omega (arith, exchange_length x))
 
--- what the record was read as
-refused_from : (b : List ℕ) {s : Taken} {n : ℕ} → s ≡ shown_slot (slot_from b) → s ≡ taken.Refused n → slot_from b ≡ refusal n
-refused_from b {s} {n} e f = go (slot_from b) (sym e ∙ f)
-  where
-    go : (a : Answer Slot) → shown_slot a ≡ taken.Refused n → a ≡ refusal n
-    go (refusal m) q = cc
-    go (reads x) q = cc
-
-read_from : (b : List ℕ) {s : Taken} {x : Slot} → s ≡ shown_slot (slot_from b) → s ≡ taken.Is x → slot_from b ≡ reads x
-read_from b {s} {x} e f = go (slot_from b) (sym e ∙ f)
-  where
-    go : (a : Answer Slot) → shown_slot a ≡ taken.Is x → a ≡ reads x
-    go (refusal m) q = cc
-    go (reads y) q = cc
-
 -- a record that is read has its size
-pub room_read : (b : List ℕ) {s : Taken} {x : Slot} → s ≡ shown_slot (slot_from b) → s ≡ taken.Is x → exchange_size ≤ length b
-room_read b {s} {x} e f = omega (arith, slot_size b x (read_from b e f))
+pub room_read : (b : List ℕ) {s : Result Slot Refusal} {x : Slot} → s ≡ answers.shown (slot_from b) → s ≡ Ok x → exchange_size ≤ length b
+room_read b {s} {x} e f = omega (arith, slot_size b x (shown_ok (slot_from b) x (sym e ∙ f)))
 
 -- a step on a record that is refused, and on one that is read
-module _ (b : List ℕ) (step : Step) {s : Taken} (e : s ≡ shown_slot (slot_from b)) where
-  pub not_read : {n : ℕ} → s ≡ taken.Refused n → Answers (step_for b step) b b (256 + n)
-  not_read {n} f = rw (refused_from b e f) (record { answer = refl; left = refl })
+module _ (b : List ℕ) (step : Step) {s : Result Slot Refusal} (e : s ≡ answers.shown (slot_from b)) where
+  pub not_read : {n : Refusal} → s ≡ Err n → Answers (step_for b step) b b (256 + n.0)
+  not_read {n} f = rw (shown_err (slot_from b) n.0 (sym e ∙ f)) (record { answer = refl; left = refl })
 
-  pub was_read : {x : Slot} {u : Stepped} {after : List ℕ} {r : ℕ} → s ≡ taken.Is x → u ≡ shown_step (answer x step) → Answers (answer_of u) b after r
+  pub was_read : {x : Slot} {u : Result Exchange Refusal} {after : List ℕ} {r : ℕ} → s ≡ Ok x → u ≡ answers.shown (answer x step) → Answers (answer_of u) b after r
       → Answers (step_for b step) b after r
-  was_read {x} {u} f g k = rw (read_from b e f, ← shown_as (answer x step) u g) k
+  was_read {x} {u} f g k = rw (shown_ok (slot_from b) x (sym e ∙ f), ← shown_as (answer x step) u g) k
 
 -- the end of a send, by the telegram that was made for it
-pub send_was_read : (b : List ℕ) (kind address method t : ℕ) {s : Taken} → s ≡ shown_slot (slot_from b)
-    → {x : Slot} {k : Kind} {m : Telegram} {u : Stepped} {after : List ℕ} {r : ℕ} → s ≡ taken.Is x → k ≡ kind_in kind → m ≡ bare k address method
-    → u ≡ shown_step (answer x (send_ended m (record { 0 = t }))) → Answers (answer_of u) b after r → Answers (send_ended_for b kind address method t) b after r
+pub send_was_read : (b : List ℕ) (kind address method t : ℕ) {s : Result Slot Refusal} → s ≡ answers.shown (slot_from b)
+    → {x : Slot} {k : Kind} {m : Telegram} {u : Result Exchange Refusal} {after : List ℕ} {r : ℕ} → s ≡ Ok x → k ≡ kind_in kind → m ≡ bare k address method
+    → u ≡ answers.shown (answer x (send_ended m (record { 0 = t }))) → Answers (answer_of u) b after r → Answers (send_ended_for b kind address method t) b after r
 send_was_read b kind address method t e {x} {k} {m} {u} i made sent g kept =
     let whole : m ≡ bare (kind_in kind) address method = sent ∙ ap (λ (q : Kind). bare q address method) made in
     was_read b (send_ended (bare (kind_in kind) address method) (record { 0 = t })) e i
-    (g ∙ ap (λ (q : Telegram). shown_step (answer x (send_ended q (record { 0 = t })))) whole) kept
+    (g ∙ ap (λ (q : Telegram). answers.shown (answer x (send_ended q (record { 0 = t })))) whole) kept
 
 -- the two ways out of keeping what a line gave
 module _ {a : Answer Exchange} {telegram : Telegram} {before after out : List ℕ} {r : ℕ} (k : Answers a before after r) where
@@ -130,7 +115,7 @@ module _ {a : Answer Exchange} {telegram : Telegram} {before after out : List �
   }
 
 -- where a line did not end the exchange well, it does not matter which telegram stands beside it
-replied_well : (a : Answer Exchange) (u v : Telegram) (out : List ℕ) → replied a (cond (ends_well (shown_step a)) u v) out ≡ replied a u out
+replied_well : (a : Answer Exchange) (u v : Telegram) (out : List ℕ) → replied a (cond (ends_well (answers.shown a)) u v) out ≡ replied a u out
 replied_well (refusal n) u v out = refl
 replied_well (reads x) u v out = go (is_well x.state)
   where
@@ -141,28 +126,28 @@ replied_well (reads x) u v out = go (is_well x.state)
 -- a line, by what keeping the answer left
 pub heard_line : (x : Slot) (line : List ℕ) (t : Clock) {h : Heard} {b after out then : List ℕ} {r : ℕ} → h ≡ heard_of x (read_line line) t
     → HearsReply (answer_of h.stepped) h.reply b after out then r
-    → HearsReply (answer x (heard line t)) (shown (read_line line)).telegram b after out then r
+    → HearsReply (answer x (heard line t)) (telegram_read (read_line line)) b after out then r
 heard_line x line t {h} {b} {after} {out} {then} {r} g k =
     let next : Answer Exchange = answer x (heard line t) in
     let said : answer_of h.stepped ≡ next = shown_as next h.stepped (ap (λ (q : Heard). q.stepped) g) in
-    let reply : h.reply ≡ cond (ends_well (shown_step next)) (shown (read_line line)).telegram blank = ap (λ (q : Heard). q.reply) g in
+    let reply : h.reply ≡ cond (ends_well (answers.shown next)) (telegram_read (read_line line)) blank = ap (λ (q : Heard). q.reply) g in
     record {
       step = subst (λ (q : Answer Exchange). Answers q b after r) said k.step;
       reply = k.reply ∙ ap₂ (λ (q : Answer Exchange) (w : Telegram). replied q w out) said reply
-          ∙ replied_well next (shown (read_line line)).telegram blank out;
+          ∙ replied_well next (telegram_read (read_line line)) blank out;
     }
 
 -- a line on a record that is refused, with a reply's record that is too short, and with one that is not
-module _ (b line : List ℕ) (t : ℕ) (out : List ℕ) {s : Taken} (e : s ≡ shown_slot (slot_from b)) where
+module _ (b line : List ℕ) (t : ℕ) (out : List ℕ) {s : Result Slot Refusal} (e : s ≡ answers.shown (slot_from b)) where
   abbrev Told : List ℕ → List ℕ → ℕ → Type 0
-  Told after then r = HearsReply (heard_for b line t out) (shown (read_line line)).telegram b after out then r
+  Told after then r = HearsReply (heard_for b line t out) (telegram_read (read_line line)) b after out then r
 
-  pub hears_none : {n : ℕ} → s ≡ taken.Refused n → Told b out (256 + n)
-  hears_none {n} f = rw (refused_from b e f) (record { step = record { answer = refl; left = refl }; reply = refl })
+  pub hears_none : {n : Refusal} → s ≡ Err n → Told b out (256 + n.0)
+  hears_none {n} f = rw (shown_err (slot_from b) n.0 (sym e ∙ f)) (record { step = record { answer = refl; left = refl }; reply = refl })
 
-  pub hears_short : {x : Slot} → s ≡ taken.Is x → ltb (length out) telegram_size ≡ true → Told b out (256 + 21)
-  hears_short {x} f h = rw (read_from b e f, h) (record { step = record { answer = refl; left = refl }; reply = refl })
+  pub hears_short : {x : Slot} → s ≡ Ok x → ltb (length out) telegram_size ≡ true → Told b out (256 + 21)
+  hears_short {x} f h = rw (shown_ok (slot_from b) x (sym e ∙ f), h) (record { step = record { answer = refl; left = refl }; reply = refl })
 
-  pub hears_line : {x : Slot} {after then : List ℕ} {r : ℕ} → s ≡ taken.Is x → ltb (length out) telegram_size ≡ false
-      → HearsReply (answer x (heard line (record { 0 = t }))) (shown (read_line line)).telegram b after out then r → Told after then r
-  hears_line {x} f l k = rw (read_from b e f, l) k
+  pub hears_line : {x : Slot} {after then : List ℕ} {r : ℕ} → s ≡ Ok x → ltb (length out) telegram_size ≡ false
+      → HearsReply (answer x (heard line (record { 0 = t }))) (telegram_read (read_line line)) b after out then r → Told after then r
+  hears_line {x} f l k = rw (shown_ok (slot_from b) x (sym e ∙ f), l) k

@@ -13,8 +13,8 @@ returns-then-well c =
     (eq-eqb _ _ c.if-well.true) c.telegram_bytes-bytes.ensures (search rules)
     c.store.ensures.1)
 
-pub returns : goal.returns
-returns c =
+pub returns-else-well : goal.returns-else-well
+returns-else-well c =
     let a = c.args in
     heard_line a.slot a.line.now a.t c.heard-heard.ensures
     (heard_other c.keep-answer.ensures (ne_eqb _ _ c.if-well.false))

@@ -5,30 +5,32 @@ use Rattle.host_exchange.proofs.Laws.CallLaws.{room_read, hears_none, hears_shor
 use borrow.Author.Tests.{le-ltb, lt-ltb}
 use Rattle.host_exchange.proofs.skarrowith_exchange_heard.Goals as goal
 
-pub returns-then-short : goal.returns-then-short
-returns-then-short c =
+pub returns-then-reply-lt136 : goal.returns-then-reply-lt136
+returns-then-reply-lt136 c =
     let a = c.args in
-    hears_short a.kept.now a.line.now a.t a.reply.now c.slot_from-stood.ensures
-    c.in-Is.is (lt-ltb _ _ c.if-short.true)
+    rw c.told-then-reply-lt136.ensures
+    (hears_short a.kept.now a.line.now a.t a.reply.now c.slot_from.ensures
+    c.in-Ok.is (lt-ltb _ _ c.if-reply-lt136.true))
 
 pub hear-requires : goal.hear-requires
 hear-requires c =
     let a = c.args in (
-      room_read a.kept.now c.slot_from-stood.ensures
-          c.in-Is.is,
-      ltb-false (length a.reply.now) 136 (le-ltb _ _ c.if-short.false),
+      room_read a.kept.now c.slot_from.ensures
+          c.in-Ok.is,
+      ltb-false (length a.reply.now) 136 (le-ltb _ _ c.if-reply-lt136.false),
     )
 
-pub returns-in-Refused : goal.returns-in-Refused
-returns-in-Refused c =
+pub returns-in-Err : goal.returns-in-Err
+returns-in-Err c =
     let a = c.args in
-    hears_none a.kept.now a.line.now a.t a.reply.now c.slot_from-stood.ensures
-    c.in-Refused.is
+    rw c.told.ensures
+    (hears_none a.kept.now a.line.now a.t a.reply.now c.slot_from.ensures
+    c.in-Err.is)
 
-pub returns-else-short : goal.returns-else-short
-returns-else-short c =
+pub returns-else-reply-lt136 : goal.returns-else-reply-lt136
+returns-else-reply-lt136 c =
     let a = c.args in
     hears_line a.kept.now a.line.now a.t a.reply.now
-    c.slot_from-stood.ensures
-    c.in-Is.is
-    (le-ltb _ _ c.if-short.false) c.hear.ensures
+    c.slot_from.ensures
+    c.in-Ok.is
+    (le-ltb _ _ c.if-reply-lt136.false) c.hear.ensures

@@ -6,15 +6,15 @@ use Rattle.host_exchange.proofs.skarrowith_exchange_tick.Goals as goal
 pub keep-requires : goal.keep-requires
 keep-requires c =
     room_read c.args.kept.now
-    c.slot_from-stood.ensures c.in-Is.is
+    c.slot_from.ensures c.in-Ok.is
 
-pub returns-in-Refused : goal.returns-in-Refused
-returns-in-Refused c =
+pub returns-in-Err : goal.returns-in-Err
+returns-in-Err c =
     let a = c.args in
-    not_read a.kept.now (tick (record { 0 = a.t })) c.slot_from-stood.ensures c.in-Refused.is
+    rw c.told.ensures (not_read a.kept.now (tick (record { 0 = a.t })) c.slot_from.ensures c.in-Err.is)
 
-pub returns-in-Is : goal.returns-in-Is
-returns-in-Is c =
+pub returns-in-Ok : goal.returns-in-Ok
+returns-in-Ok c =
     let a = c.args in
-    was_read a.kept.now (tick (record { 0 = a.t })) c.slot_from-stood.ensures
-    c.in-Is.is c.tick-stepped.ensures c.keep.ensures
+    was_read a.kept.now (tick (record { 0 = a.t })) c.slot_from.ensures
+    c.in-Ok.is c.tick.ensures c.keep.ensures

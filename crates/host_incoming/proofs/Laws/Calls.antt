@@ -5,12 +5,13 @@ use mathlib.Core.List.{List, [], ◌∷◌, append-nil}
 use mathlib.Core.Path.{◌≡◌, refl, sym, ap, ◌∙◌}
 use lib.Dec.{ltb}
 use lib.ListN.{length}
-use Rattle.base_rules.specs.Answers.{reads, refusal}
 use Rattle.mbus_length.specs.declared.HowLong.{HowLong}
-use Rattle.mbus_after.specs.declared.FoundAfter.{FoundAfter}
-use Rattle.mbus_after.specs.declared.FoundAfter.TheVariants as founds
-use Rattle.mbus_after.specs.After.{TimedSpot, timed_at, find_after, after_shown}
-use Rattle.mbus_after.proofs.Laws.Meaning.{after_same}
+use Rattle.std.specs.Prelude.{Result, Ok, Err}
+use Rattle.base_rules.specs.Shown.{shown}
+use Rattle.base_rules.specs.declared.refusals.Refusal.{Refusal}
+use Rattle.base_rules.proofs.Laws.AnswerLaws.{shown_ok, shown_err}
+use Rattle.mbus_after.specs.declared.TimedSpot.{TimedSpot}
+use Rattle.mbus_after.specs.After.{timed_at, find_after}
 use Rattle.base_numbers.specs.Records.{words_of, record_of}
 use Rattle.base_numbers.proofs.Laws.RecordLaws.{record_length}
 use Rattle.base_lent.specs.Copying.{copied}
@@ -39,17 +40,14 @@ timed_length p =
     ap length (sym (timed_record p.spot.place p.spot.length p.time))
     ∙ record_length [] (p.spot.place ∷ p.spot.length ∷ p.time ∷ []) []
 
-module _ (t : ℕ) (capture times out : List ℕ) {f : FoundAfter} (e : f ≡ after_shown (find_after t capture times)) where
-  pub none_after : {n : ℕ} → f ≡ founds.Refused n → FindsAfter t capture times out out (256 + n)
-  none_after {n} r = rw (after_same (find_after t capture times) (refusal n) (sym e ∙ r)) (leaves_all timed_bytes out done refl)
+module _ (t : ℕ) (capture times out : List ℕ) {f : Result TimedSpot Refusal} (e : f ≡ shown (find_after t capture times)) where
+  pub none_after : {r : Refusal} → f ≡ Err r → FindsAfter t capture times out out (256 + r.0)
+  none_after {r} q = rw (shown_err (find_after t capture times) r.0 (sym e ∙ q)) (leaves_all timed_bytes out done refl)
 
-  module _ {p n time : ℕ} (r : f ≡ founds.At p n time) {short : Bool} {after : List ℕ} (s : short ≡ ltb (length out) 24)
-      (l : after ≡ copied out 0 (timed_bytes (timed_at p n time))) where
-    at_spot : find_after t capture times ≡ reads (timed_at p n time)
-    at_spot = after_same (find_after t capture times) (reads (timed_at p n time)) (sym e ∙ r)
-
+  module _ {p : TimedSpot} (q : f ≡ Ok p) {short : Bool} {after : List ℕ} (s : short ≡ ltb (length out) 24)
+      (l : after ≡ copied out 0 (timed_bytes p)) where
     pub after_short : short ≡ true → FindsAfter t capture times out after (256 + 21)
-    after_short h = rw at_spot (record_short done timed_bytes 24 out (timed_at p n time) (timed_length (timed_at p n time)) s l h)
+    after_short h = rw (shown_ok (find_after t capture times) p (sym e ∙ q)) (record_short done timed_bytes 24 out p (timed_length p) s l h)
 
     pub after_whole : short ≡ false → FindsAfter t capture times out after 0
-    after_whole h = rw at_spot (record_kept done timed_bytes 24 out (timed_at p n time) (timed_length (timed_at p n time)) s l h refl)
+    after_whole h = rw (shown_ok (find_after t capture times) p (sym e ∙ q)) (record_kept done timed_bytes 24 out p (timed_length p) s l h refl)

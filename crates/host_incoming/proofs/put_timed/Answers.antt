@@ -6,4 +6,4 @@ use Rattle.host_incoming.proofs.put_timed.Goals as goal
 pub returns : goal.returns
 returns c =
     let args = c.args in
-    (refl, timed_copied args.found.now args.place args.length args.time c.put_record.ensures)
+    (refl, timed_copied args.found.now args.line.spot.place args.line.spot.length args.line.time c.put_record.ensures)

@@ -12,4 +12,4 @@ returns-in-NotYet c =
 
 pub returns-in-NoLine : goal.returns-in-NoLine
 returns-in-NoLine c =
-    tells c.args.length.now c.line_length.ensures c.in-NoLine.is
+    rw c.told.ensures (tells c.args.length.now c.line_length.ensures c.in-NoLine.is)

@@ -7,11 +7,13 @@ use native.Mathlib.Omega.{arith}
 use borrow.Author.Tests.{ltb-false}
 use lib.Dec.{ltb}
 use lib.ListN.{length}
-use Rattle.base_rules.specs.Answers.{Answer, reads, refusal}
-use Rattle.mbus_search.specs.declared.Found.{Found}
-use Rattle.mbus_search.specs.declared.Found.TheVariants as founds
-use Rattle.mbus_search.specs.Searching.{Spot, spot_at, find_in, found_shown}
-use Rattle.mbus_search.proofs.Laws.Meaning.{found_same}
+use Rattle.std.specs.Prelude.{Result, Ok, Err}
+use Rattle.base_rules.specs.Answers.{reads}
+use Rattle.base_rules.specs.Shown.{shown}
+use Rattle.base_rules.specs.declared.refusals.Refusal.{Refusal}
+use Rattle.base_rules.proofs.Laws.AnswerLaws.{shown_ok, shown_err}
+use Rattle.mbus_search.specs.declared.Spot.{Spot}
+use Rattle.mbus_search.specs.Searching.{spot_at, find_in}
 use Rattle.base_numbers.specs.Records.{words_of, record_of}
 use Rattle.base_numbers.proofs.Laws.RecordLaws.{record_length}
 use Rattle.base_lent.specs.Copying.{copied}
@@ -55,17 +57,13 @@ module _ {A : Type 0} (number : A → ℕ) (spot : A → Spot) (out : List ℕ) 
 
 -- ---- one capture
 
-module _ (capture out : List ℕ) {f : Found} (e : f ≡ found_shown (find_in capture)) where
-  pub none_found : {n : ℕ} → f ≡ founds.Refused n → Finds capture out out (256 + n)
-  none_found {n} t = rw (found_same (find_in capture) (refusal n) (sym e ∙ t)) (leaves_all spot_bytes out done refl)
+module _ (capture out : List ℕ) {f : Result Spot Refusal} (e : f ≡ shown (find_in capture)) where
+  pub none_found : {r : Refusal} → f ≡ Err r → Finds capture out out (256 + r.0)
+  none_found {r} t = rw (shown_err (find_in capture) r.0 (sym e ∙ t)) (leaves_all spot_bytes out done refl)
 
-  module _ {p n : ℕ} (t : f ≡ founds.At p n) {short : Bool} {after : List ℕ} (s : short ≡ ltb (length out) 16)
-      (l : after ≡ copied out 0 (spot_bytes (spot_at p n))) where
-    at_spot : find_in capture ≡ reads (spot_at p n)
-    at_spot = found_same (find_in capture) (reads (spot_at p n)) (sym e ∙ t)
-
+  module _ {p : Spot} (t : f ≡ Ok p) {short : Bool} {after : List ℕ} (s : short ≡ ltb (length out) 16) (l : after ≡ copied out 0 (spot_bytes p)) where
     pub found_short : short ≡ true → Finds capture out after (256 + 21)
-    found_short h = rw at_spot (spot_short done (λ x. x) out (spot_at p n) s l h)
+    found_short h = rw (shown_ok (find_in capture) p (sym e ∙ t)) (spot_short done (λ x. x) out p s l h)
 
     pub found_whole : short ≡ false → Finds capture out after 0
-    found_whole h = rw at_spot (spot_kept done (λ x. x) out (spot_at p n) s l h refl)
+    found_whole h = rw (shown_ok (find_in capture) p (sym e ∙ t)) (spot_kept done (λ x. x) out p s l h refl)

@@ -6,4 +6,4 @@ use Rattle.host_search.proofs.put_spot.Goals as goal
 pub returns : goal.returns
 returns c =
     let args = c.args in
-    (refl, spot_copied args.found.now args.place args.length c.put_record.ensures)
+    (refl, spot_copied args.found.now args.spot.place args.spot.length c.put_record.ensures)

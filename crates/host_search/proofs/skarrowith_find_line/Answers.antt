@@ -2,21 +2,20 @@
 use Rattle.host_search.proofs.Laws.Finding.{none_found, found_short, found_whole}
 use Rattle.host_search.proofs.skarrowith_find_line.Goals as goal
 
-pub returns-in-Refused : goal.returns-in-Refused
-returns-in-Refused c =
+pub returns-in-Err : goal.returns-in-Err
+returns-in-Err c =
     let args = c.args in
-    none_found args.capture.now args.found.now c.find_line-search.ensures c.in-Refused.is
+    rw c.told.ensures (none_found args.capture.now args.found.now c.find_line.ensures c.in-Err.is)
 
 pub returns-then-short : goal.returns-then-short
 returns-then-short c =
     let args = c.args in
     let put = c.put_spot-short.ensures in
-    found_short args.capture.now args.found.now c.find_line-search.ensures
-    c.in-At.is put.0 put.1 c.if-short.true
+    rw c.told-then-short.ensures (found_short args.capture.now args.found.now c.find_line.ensures c.in-Ok.is put.0 put.1 c.if-short.true)
 
 pub returns-else-short : goal.returns-else-short
 returns-else-short c =
     let args = c.args in
     let put = c.put_spot-short.ensures in
-    found_whole args.capture.now args.found.now c.find_line-search.ensures
-    c.in-At.is put.0 put.1 c.if-short.false
+    found_whole args.capture.now args.found.now c.find_line.ensures
+    c.in-Ok.is put.0 put.1 c.if-short.false

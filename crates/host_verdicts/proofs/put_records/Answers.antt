@@ -9,14 +9,14 @@ use Rattle.host_verdicts.proofs.put_records.Goals as goal
 
 pub loop-i-init : goal.loop-i-init
 loop-i-init c =
-    let whole : length c.args.rulings ≡ 512 = search rules in
-    puts_none c.args.rulings whole c.requires.0 c.requires.1
+    let whole : length c.args.verdicts ≡ 512 = search rules in
+    puts_none c.args.verdicts whole c.requires.0 c.requires.1
 
 pub loop-i-preserved : goal.loop-i-preserved
 loop-i-preserved c =
     let a = c.args in
-    let whole : length a.rulings ≡ 512 = search rules in
-    puts_next a.rulings whole c.requires.0 _ c.loop-i.invariant c.loop-i-test.true
+    let whole : length a.verdicts ≡ 512 = search rules in
+    puts_next a.verdicts whole c.requires.0 _ c.loop-i.invariant c.loop-i-test.true
     c.record_of-bytes.ensures c.lay.ensures
 
 pub shape_of-out : goal.shape_of-out
@@ -24,5 +24,5 @@ shape_of-out c = pieced_length c.loop-i.invariant
 
 pub returns : goal.returns
 returns c =
-    let whole : length c.args.rulings ≡ 512 = search rules in
-    puts_all c.args.rulings whole c.requires.0 c.loop-i.invariant c.loop-i-test.false
+    let whole : length c.args.verdicts ≡ 512 = search rules in
+    puts_all c.args.verdicts whole c.requires.0 c.loop-i.invariant c.loop-i-test.false

@@ -12,5 +12,5 @@ pub returns : goal.returns
 returns c =
     let a = c.args in
     let e = c.verdicts_kept.ensures in
-    given_as (full_kept a.contents.now a.bundle.now e) a.verdicts.now a.count.now (verdicts_kept a.contents.now a.bundle.now) e
+    given_as _ a.verdicts.now a.count.now (verdicts_kept a.contents.now a.bundle.now) e
     c.give.ensures

@@ -11,15 +11,16 @@ pub found-requires : goal.found-requires
 found-requires c =
     full_in c.args.bundle.now c.verdicts_in.ensures
 
-pub returns-in-Is : goal.returns-in-Is
-returns-in-Is c =
+pub returns-in-Ok : goal.returns-in-Ok
+returns-in-Ok c =
     let a = c.args in
     one_given (verdicts_in a.bundle.now) a.i a.verdict.now (le-ltb _ _ c.if-short.false) c.verdicts_in.ensures
-    c.found.ensures c.in-Is.is c.record_of-bytes.ensures
+    c.found.ensures c.in-Ok.is c.record_of-bytes.ensures
     c.store.ensures.1
 
-pub returns-in-Refused : goal.returns-in-Refused
-returns-in-Refused c =
+pub returns-in-Err : goal.returns-in-Err
+returns-in-Err c =
     let a = c.args in
-    one_refused (verdicts_in a.bundle.now) a.i a.verdict.now (le-ltb _ _ c.if-short.false) c.verdicts_in.ensures
-    c.found.ensures c.in-Refused.is
+    rw c.told.ensures
+    (one_refused (verdicts_in a.bundle.now) a.i a.verdict.now (le-ltb _ _ c.if-short.false) c.verdicts_in.ensures
+    c.found.ensures c.in-Err.is)

@@ -11,4 +11,4 @@ pub returns : goal.returns
 returns c =
     let a = c.args in
     let e = c.verdicts_in.ensures in
-    given_as (full_in a.bundle.now e) a.verdicts.now a.count.now (verdicts_in a.bundle.now) e c.give.ensures
+    given_as _ a.verdicts.now a.count.now (verdicts_in a.bundle.now) e c.give.ensures

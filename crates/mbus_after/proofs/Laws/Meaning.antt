@@ -1,5 +1,5 @@
 -- What the answer means: the line found is accepted and began at or after t, none such begins before it; 18 means that none does anywhere.
-use Prim.Native.Nat.{ℕ, zero, suc, ◌+◌, ◌≤◌, ◌<◌, zero-le}
+use Prim.Native.Nat.{ℕ, zero, suc, ◌+◌, ◌≤◌, zero-le}
 use mathlib.Core.Bool.{Bool, true, false, cond}
 use mathlib.Core.List.{List, [], ◌∷◌, ◌++◌}
 use mathlib.Core.Path.{◌≡◌, refl, sym, ap, ap₂, subst, ◌∙◌}
@@ -7,25 +7,16 @@ use native.Mathlib.Nat.{le_of_suc-le-suc}
 use native.Mathlib.Omega.{arith}
 use borrow.Author.Tests.{leb-true, le-leb}
 use lib.Dec.{leb}
-use lib.ListN.{length, drop}
+use lib.ListN.{length}
 use Rattle.base_rules.specs.Lists.{at, any}
 use Rattle.base_rules.specs.Answers.{Answer, reads, refusal, within}
 use Rattle.base_rules.proofs.Laws.Tests.{neither}
-use Rattle.mbus_search.specs.Searching.{Begins, Spot, spot_at, length_here, further, or_else, find_in}
+use Rattle.mbus_search.specs.declared.Spot.{Spot}
+use Rattle.mbus_search.specs.Searching.{spot_at, length_here, further, or_else, find_in}
 use Rattle.mbus_search.proofs.Laws.Meaning as search
-use Rattle.mbus_after.specs.After.{BeginsAfter, TimedSpot, timed_at, moved_timed, or_later, find_after, after_shown}
+use Rattle.mbus_after.specs.declared.TimedSpot.{TimedSpot}
+use Rattle.mbus_after.specs.After.{BeginsAfter, timed_at, moved_timed, or_later, find_after}
 use Rattle.mbus_after.proofs.Laws.Walks.{moved_zero, moved_moved, first_passed}
-
--- no two answers are shown alike
-pub after_same : (a b : Answer TimedSpot) → after_shown a ≡ after_shown b → a ≡ b
-after_same (refusal m) (refusal n) e = cc
-after_same (refusal m) (reads q) e = let z : ◌≡◌ {A = ℕ} 0 1 = cc in absurd (omega arith)
-after_same (reads p) (refusal n) e = let z : ◌≡◌ {A = ℕ} 0 1 = cc in absurd (omega arith)
-after_same (reads p) (reads q) e =
-    let a : p.spot.place ≡ q.spot.place = cc in
-    let b : p.spot.length ≡ q.spot.length = cc in
-    let c : p.time ≡ q.time = cc in
-    ap reads (λ i. timed_at (a i) (b i) (c i))
 
 -- what is found: a line that began at or after t, and when
 pub record Finding (t : ℕ) (s times : List ℕ) (p : TimedSpot) : Type 0 where

@@ -1,11 +1,11 @@
 -- What the walks of the search hold on to.
-use Prim.Native.Nat.{ℕ, zero, suc, ◌+◌, ◌-◌, ◌≤◌, ◌<◌}
-use mathlib.Core.Bool.{Bool, true, false, cond, ◌&&◌, true≢false, and-eq-true_iff}
+use Prim.Native.Nat.{ℕ, suc, ◌+◌, ◌-◌, ◌≤◌, ◌<◌}
+use mathlib.Core.Bool.{Bool, true, false, cond, and-eq-true_iff}
 use mathlib.Core.List.{List, [], ◌∷◌}
 use mathlib.Core.Path.{◌≡◌, refl, sym, ap, ap₂, subst, ◌∙◌}
 use native.Mathlib.Numerals.{add-one}
 use native.Mathlib.Omega.{arith}
-use borrow.Author.Tests.{ltb-true, ltb-false, leb-true, lt-ltb, le-leb, lt-leb}
+use borrow.Author.Tests.{ltb-true, ltb-false, le-leb, lt-leb}
 use lib.Dec.{ltb, leb}
 use lib.ListN
 use lib.ListN.{drop, drop_of_length-le, length-drop}
@@ -13,13 +13,15 @@ use lib.Seq.{drop-cons, drop-nil, drop-drop}
 use Rattle.base_rules.specs.Lists.{at}
 use Rattle.base_rules.specs.Answers.{Answer, reads, refusal}
 use Rattle.base_rules.proofs.Laws.Tests.{by_test}
-use Rattle.mbus_search.specs.declared.Found.{Found}
-use Rattle.mbus_search.specs.declared.Found.TheVariants as founds
-use Rattle.mbus_search.specs.Searching.{Spot, spot_at, length_here, further, or_else, find_in, moved_by, found_shown}
+use Rattle.std.specs.Prelude.{Result, Ok, Err}
+use Rattle.base_rules.specs.declared.refusals.Refusal.{Refusal}
+use Rattle.base_rules.specs.Shown.{shown}
+use Rattle.base_rules.proofs.Laws.AnswerLaws.{shown_ok, shown_err}
+use Rattle.mbus_search.specs.declared.Spot.{Spot}
+use Rattle.mbus_search.specs.Searching.{spot_at, length_here, further, or_else, find_in, moved_by}
 use Rattle.mbus_search.proofs.Laws.Walks.{cut_is}
-use Rattle.mbus_search.proofs.Laws.Meaning.{found_same}
-use Rattle.mbus_after.specs.declared.FoundAfter.TheVariants.{At, Refused}
-use Rattle.mbus_after.specs.After.{TimedSpot, timed_at, moved_timed, or_later, find_after, after_shown, early_first, began_since, find_from}
+use Rattle.mbus_after.specs.declared.TimedSpot.{TimedSpot}
+use Rattle.mbus_after.specs.After.{timed_at, moved_timed, or_later, find_after, early_first, began_since, find_from}
 
 -- ---- places further on
 
@@ -143,36 +145,38 @@ search_none t (c ∷ s) (b ∷ times) n e = go (length_here (c ∷ s)) refl (fin
     go (refusal m) h (reads f) g rest q = let z : ◌≡◌ {A = ℕ} 0 1 = cc in absurd (omega arith)
     go (refusal m) h (refusal k) g rest q = first_passed t c b s times (no_length (leb t b) h) ∙ ap (moved_timed 1) (rest k g)
 
+-- by 18 alone
+pub only_18 : (s : List ℕ) (n : ℕ) → find_in s ≡ refusal n → n ≡ 18
+unfolding find_in
+only_18 [] n e = cc
+only_18 (c ∷ s) n e = go (length_here (c ∷ s)) (find_in s) (only_18 s) e
+  where
+    go : (a : Answer ℕ) (f : Answer Spot) → ((k : ℕ) → f ≡ refusal k → k ≡ 18) → or_else a (further f) ≡ refusal n → n ≡ 18
+    go (reads m) f rest q = cc q
+    go (refusal m) (reads o) rest q = cc q
+    go (refusal m) (refusal k) rest q = let number : k ≡ n = cc in sym number ∙ rest k refl
+
 -- ---- the search from a place on, as the code cuts it out
 
-pub from_beyond : (s : List ℕ) (place : ℕ) → ListN.length s < place → founds.Refused 18 ≡ found_shown (find_from place s)
+pub from_beyond : (s : List ℕ) (place : ℕ) → ListN.length s < place → find_from place s ≡ refusal 18
 unfolding find_in
 from_beyond s place h =
-    let over : ListN.length s ≤ place = omega arith in ap (λ (l : List ℕ). found_shown (moved_by place (find_in l))) (sym (drop_of_length-le s over))
+    let over : ListN.length s ≤ place = omega arith in ap (λ (l : List ℕ). moved_by place (find_in l)) (drop_of_length-le s over)
 
-module _ (s : List ℕ) (place : ℕ) {f : Found} (e : f ≡ found_shown (find_in (ListN.take (ListN.length s - place) (drop place s)))) where
-  cut_found : f ≡ found_shown (find_in (drop place s))
-  cut_found = e ∙ ap (λ (l : List ℕ). found_shown (find_in l)) (cut_is s place)
+module _ (s : List ℕ) (place : ℕ) {f : Result Spot Refusal} (e : f ≡ shown (find_in (ListN.take (ListN.length s - place) (drop place s)))) where
+  pub cut_found : f ≡ shown (find_in (drop place s))
+  cut_found = e ∙ ap (λ (l : List ℕ). shown (find_in l)) (cut_is s place)
 
-  moved_found : (a : Answer Spot) → found_shown a ≡ f → {m : ℕ} → f ≡ founds.Refused m → founds.Refused m ≡ found_shown (moved_by place a)
-  moved_found (refusal n) h t = sym t ∙ sym h
-  moved_found (reads p) h t = let z : ◌≡◌ {A = ℕ} 0 1 = cc in absurd (omega arith)
+  pub from_refused : {r : Refusal} → f ≡ Err r → Err r ≡ shown (find_from place s)
+  from_refused t = rw (shown_err (find_in (drop place s)) _ (sym cut_found ∙ t))
 
-  moved_at : (a : Answer Spot) → found_shown a ≡ f → {p n : ℕ} → f ≡ founds.At p n → founds.At (place + p) n ≡ found_shown (moved_by place a)
-  moved_at (refusal m) h t = let z : ◌≡◌ {A = ℕ} 0 1 = cc in absurd (omega arith)
-  moved_at (reads q) h {p} {n} t = let a : q.place ≡ p = cc in let b : q.length ≡ n = cc in rw (a, b)
-
-  pub from_refused : {m : ℕ} → f ≡ founds.Refused m → founds.Refused m ≡ found_shown (find_from place s)
-  from_refused t = moved_found (find_in (drop place s)) (sym cut_found) t
-
-  pub from_at : {p n : ℕ} → f ≡ founds.At p n → founds.At (place + p) n ≡ found_shown (find_from place s)
-  from_at t = moved_at (find_in (drop place s)) (sym cut_found) t
+  pub from_at : {p : Spot} → f ≡ Ok p → find_from place s ≡ reads (spot_at (place + p.place) p.length)
+  from_at t = rw (shown_ok (find_in (drop place s)) _ (sym cut_found ∙ t))
 
   -- the place found lies inside
-  pub from_inside : place ≤ ListN.length s → {p n : ℕ} → f ≡ founds.At p n → place + p < ListN.length s
-  from_inside h {p} {n} t =
-      let q : find_in (drop place s) ≡ reads (spot_at p n) = found_same (find_in (drop place s)) (reads (spot_at p n)) (sym cut_found ∙ t) in
-      omega (arith, (search_reached 0 (drop place s) [] (spot_at p n) q).inside, length-drop place s)
+  pub from_inside : place ≤ ListN.length s → {p : Spot} → f ≡ Ok p → place + p.place < ListN.length s
+  from_inside h {p} t =
+      omega (arith, (search_reached 0 (drop place s) [] p (shown_ok (find_in (drop place s)) p (sym cut_found ∙ t))).inside, length-drop place s)
 
 -- ---- the walk over the places found: from here on the answer is the same
 
@@ -198,9 +202,9 @@ pub after_start : {t : ℕ} {s times : List ℕ} → After t s times 0
 after_start {t} {s} {times} = record { so = passed_zero t s times }
 
 -- at the end
-pub after_end : {t : ℕ} {s times : List ℕ} {place : ℕ} → After t s times place → ListN.length s ≤ place → Refused 18 ≡ after_shown (find_after t s times)
+pub after_end : {t : ℕ} {s times : List ℕ} {place : ℕ} → After t s times place → ListN.length s ≤ place → find_after t s times ≡ refusal 18
 after_end {t} {s} {times} {place} w h =
-    ap after_shown (ap (moved_timed place) (sym (empty t (drop place times)))
+    sym (ap (moved_timed place) (sym (empty t (drop place times)))
     ∙ ap (λ (l : List ℕ). moved_timed place (find_after t l (drop place times))) (sym (drop_of_length-le s h)) ∙ w.so)
 
 -- where a line was found
@@ -210,26 +214,30 @@ pub record FoundHere (t : ℕ) (s times : List ℕ) (place found n : ℕ) : Type
   pub inside : found < ListN.length s
   pub beyond : place ≤ found
 
-module _ {t : ℕ} {s times : List ℕ} {place : ℕ} (w : After t s times place) {f : Found} (e : f ≡ found_shown (find_from place s)) where
-  pub after_none : {m : ℕ} → f ≡ founds.Refused m → Refused 18 ≡ after_shown (find_after t s times)
-  after_none {m} r = go (find_in (drop place s)) refl (sym e ∙ r)
+module _ {t : ℕ} {s times : List ℕ} {place : ℕ} (w : After t s times place) {f : Result Spot Refusal} (e : f ≡ shown (find_from place s)) where
+  pub after_none : {r : Refusal} → f ≡ Err r → find_after t s times ≡ refusal r.0
+  after_none {r} q = go (find_in (drop place s)) refl (sym e ∙ q)
     where
-      go : (a : Answer Spot) → find_in (drop place s) ≡ a → found_shown (moved_by place a) ≡ founds.Refused m → Refused 18 ≡ after_shown (find_after t s times)
-      go (refusal n) q h = ap after_shown (ap (moved_timed place) (sym (search_none t (drop place s) (drop place times) n q)) ∙ w.so)
-      go (reads p) q h = let z : ◌≡◌ {A = ℕ} 0 1 = cc in absurd (omega arith)
+      go : (a : Answer Spot) → find_in (drop place s) ≡ a → shown (moved_by place a) ≡ Err r → find_after t s times ≡ refusal r.0
+      go (refusal n) q h =
+          let number : n ≡ r.0 = cc in
+          rw (← number, only_18 (drop place s) n q)
+          (sym (ap (moved_timed place) (sym (search_none t (drop place s) (drop place times) n q)) ∙ w.so))
+      go (reads p) q h = cc h
 
-  pub after_found : {found n : ℕ} → f ≡ founds.At found n → FoundHere t s times place found n
-  after_found {found} {n} r = go (find_in (drop place s)) refl (sym e ∙ r)
+  pub after_found : {p : Spot} → f ≡ Ok p → FoundHere t s times place p.place p.length
+  after_found {p} r = go (find_in (drop place s)) refl (sym e ∙ r)
     where
-      go : (a : Answer Spot) → find_in (drop place s) ≡ a → found_shown (moved_by place a) ≡ founds.At found n → FoundHere t s times place found n
-      go (refusal m) q h = let z : ◌≡◌ {A = ℕ} 0 1 = cc in absurd (omega arith)
-      go (reads p) q h =
-          let r = search_reached t (drop place s) (drop place times) p q in
-          let x : place + p.place ≡ found = cc in
-          let y : p.length ≡ n = cc in
+      go : (a : Answer Spot) → find_in (drop place s) ≡ a → shown (moved_by place a) ≡ Ok p → FoundHere t s times place p.place p.length
+      go (refusal m) q h = cc h
+      go (reads o) q h =
+          let r = search_reached t (drop place s) (drop place times) o q in
+          let z : spot_at (place + o.place) o.length ≡ p = cc in
+          let x : place + o.place ≡ p.place = ap (λ (k : Spot). k.place) z in
+          let y : o.length ≡ p.length = ap (λ (k : Spot). k.length) z in
           record {
-            walk = subst (After t s times) x (after_more w p.place r.passed);
-            here = rw (← x, ← drop-drop p.place place s, ← y) r.here;
+            walk = subst (After t s times) x (after_more w o.place r.passed);
+            here = rw (← x, ← drop-drop o.place place s, ← y) r.here;
             inside = omega (arith, r.inside, length-drop place s);
             beyond = omega arith;
           }
@@ -239,14 +247,14 @@ module _ {t : ℕ} {s times : List ℕ} {place found n : ℕ} (w : FoundHere t s
   pub after_timed : began ≡ true → found < ListN.length times
   after_timed h = ltb-true found (ListN.length times) ((and-eq-true_iff (ltb found (ListN.length times)) (leb t (at times found))).0 (sym e ∙ h)).0
 
-  pub after_hit : began ≡ true → At found n (at times found) ≡ after_shown (find_after t s times)
+  pub after_hit : began ≡ true → find_after t s times ≡ reads (timed_at found n (at times found))
   unfolding find_after
   after_hit h =
       let both = (and-eq-true_iff (ltb found (ListN.length times)) (leb t (at times found))).0 (sym e ∙ h) in
       let first : find_after t (drop found s) (drop found times) ≡ reads (timed_at 0 n (at times found)) =
       rw (drop-cons s found 0 w.inside, drop-cons times found 0 (after_timed h), both.1, rw (drop-cons s found 0 w.inside) at w.here) in
       let zero_more : found ≡ found + 0 = omega arith in
-      ap (λ (x : ℕ). At x n (at times found)) zero_more ∙ ap after_shown (ap (moved_timed found) (sym first) ∙ w.walk.so)
+      sym (ap (λ (x : ℕ). reads (timed_at x n (at times found))) zero_more ∙ ap (moved_timed found) (sym first) ∙ w.walk.so)
 
   -- or it did not, and is passed over
   pub after_old : began ≡ false → After t s times (found + 1)

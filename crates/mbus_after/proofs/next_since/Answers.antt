@@ -1,5 +1,4 @@
 -- `mbus_after::next_since` meets its contract: every time passed is before t.
-use Prim.Native.Nat.{◌-◌}
 use mathlib.Core.Path.{refl}
 use native.Mathlib.Omega.{arith}
 use Rattle.mbus_after.proofs.Laws.Walks.{early_end, early_here, early_next}

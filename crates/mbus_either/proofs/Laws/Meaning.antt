@@ -9,12 +9,14 @@ use denote.Ref.{Bor}
 use Rattle.mbus_rules.specs.declared.Telegram.{Telegram}
 use Rattle.base_rules.specs.Answers.{Answer, reads, refusal, within}
 use Rattle.mbus_rules.specs.Lines.{read_line, Accepted}
-use Rattle.mbus_search.specs.Searching.{accepts, Begins, Spot, find_in}
+use Rattle.mbus_search.specs.declared.Spot.{Spot}
+use Rattle.mbus_search.specs.Searching.{accepts, Begins, find_in}
 use Rattle.mbus_search.proofs.Laws.Meaning.{found_begins, begins_found, none_begins, lowest}
 use Rattle.mbus_either.specs.declared.Interface.{Interface}
 use Rattle.mbus_either.specs.declared.Interface.TheVariants.{Mbus, Optical}
 use Rattle.mbus_either.specs.declared.Either.{Either}
-use Rattle.mbus_either.specs.Interfaces.{LiveLine, live_on, or_optical, find_either}
+use Rattle.mbus_either.specs.declared.LiveLine.{LiveLine}
+use Rattle.mbus_either.specs.Interfaces.{live_on, or_optical, find_either}
 use Rattle.mbus_either.specs.Stretches.{capture_of, StretchOf, HandsEither}
 use Rattle.mbus_either.proofs.Laws.Lines.{live_found}
 

@@ -6,7 +6,7 @@ use Rattle.mbus_either.proofs.part_of.Goals as goal
 
 pub returns : goal.returns
 returns c = record {
-  characters = rw (add-sub_cancel_left c.args.place c.args.length);
+  characters = rw (add-sub_cancel_left c.args.spot.place c.args.spot.length);
   block = refl;
   place = omega arith;
 }

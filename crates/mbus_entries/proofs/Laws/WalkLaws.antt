@@ -11,8 +11,9 @@ use lib.Dec.{ltb, eqb}
 use lib.ListN.{length, get_or, take, drop, set, replicate, get_or-replicate, length-drop, length-set, drop_of_length-le, take-append-drop}
 use lib.Seq.{length-take-le, drop-cons, get_or-set_same, get_or-set_other, take-suc-set, drop-set-lt, drop-drop}
 use Rattle.mbus_rules.specs.declared.Entry.{Entry}
-use Rattle.base_rules.specs.declared.Outcome.{Outcome}
-use Rattle.base_rules.specs.declared.Outcome.TheVariants.{Accepted, Refused}
+use Rattle.std.specs.Prelude.{Result, Ok, Err}
+use Rattle.base_rules.specs.declared.refusals.Refusal.{Refusal}
+use Rattle.base_rules.specs.Shown.{shown}
 use Rattle.base_rules.specs.Lists
 use Rattle.base_rules.specs.Lists.{any}
 use Rattle.base_rules.proofs.Laws.ListLaws.{any_snoc}
@@ -26,10 +27,11 @@ use Rattle.mbus_rules.proofs.Laws.Seven.{Different, different_last, different_ro
 use Rattle.mbus_rules.specs.Telegrams.{blank_entry}
 use Rattle.base_rules.proofs.Laws.Tests.{neither, passed}
 use Rattle.mbus_entries.specs.declared.Entries.{Entries}
-use Rattle.mbus_entries.specs.declared.entry.Tried.{Tried}
-use Rattle.mbus_entries.specs.Trying.{Taken, taken_of, tried, tried_shown, unseen, next_of}
-use Rattle.mbus_entries.proofs.Laws.TryLaws.{shown_refused, shown_passed, follow_reads, tried_reads}
-use Rattle.mbus_entries.specs.Walking.{entries_shown, unmarked, outcome_after, is_refusal}
+use Rattle.base_rules.proofs.Laws.AnswerLaws.{shown_ok, shown_err}
+use Rattle.mbus_entries.specs.declared.entry.Taken.{Taken}
+use Rattle.mbus_entries.specs.Trying.{taken_of, tried, unseen, next_of}
+use Rattle.mbus_entries.proofs.Laws.TryLaws.{follow_reads, tried_reads}
+use Rattle.mbus_entries.specs.Walking.{listed, unmarked}
 use Rattle.base_rules.proofs.Laws.ListLaws.{rest_is}
 
 -- ---- one entry
@@ -165,45 +167,40 @@ module _ {rest : List ℕ} {at count : ℕ} {marks : List Bool} {entries : List 
     }
 
 -- one turn of the walk, on what the code was told of the entry: it is passed over, or it is what the rest is refused by
-pub record Turn (rest : List ℕ) (at count : ℕ) (marks : List Bool) (entries : List Entry) (q v : ℕ) (x : Entry) : Type 0 where
+pub record Turn (rest : List ℕ) (at count : ℕ) (marks : List Bool) (entries : List Entry) (t : Taken) : Type 0 where
   pub below : count < 7
-  pub few : q < 8
-  pub narrow : v ≤ 8
-  pub inside : at + (2 + v) ≤ length rest
-  pub next : Walked rest (at + (2 + v)) (count + 1) (set marks q true) (set entries count x)
+  pub few : t.quantity < 8
+  pub narrow : t.width ≤ 8
+  pub inside : at + (2 + t.width) ≤ length rest
+  pub next : Walked rest (at + (2 + t.width)) (count + 1) (set marks t.quantity true) (set entries count t.entry)
 
-module _ {rest : List ℕ} {at count : ℕ} {marks : List Bool} {entries : List Entry} {y : Tried} (w : Walked rest at count marks entries) (h : at < length rest)
-    (e : y ≡ tried_shown (next_of (take (length rest - at) (drop at rest)) marks)) where
-  told : tried_shown (next_of (drop at rest) marks) ≡ y
-  told = sym (e ∙ ap (λ (s : List ℕ). tried_shown (next_of s marks)) (rest_is rest at))
+module _ {rest : List ℕ} {at count : ℕ} {marks : List Bool} {entries : List Entry} {y : Result Taken Refusal} (w : Walked rest at count marks entries) (h : at < length rest)
+    (e : y ≡ shown (next_of (take (length rest - at) (drop at rest)) marks)) where
+  told : shown (next_of (drop at rest) marks) ≡ y
+  told = sym (e ∙ ap (λ (s : List ℕ). shown (next_of s marks)) (rest_is rest at))
 
-  pub turned : {q v : ℕ} {x : Entry} → y ≡ Tried.Passed q v x → Turn rest at count marks entries q v x
-  turned {q} {v} {x} p =
-      let n = shown_passed (next_of (drop at rest) marks) (told ∙ p) in
+  pub turned : {t : Taken} → y ≡ Ok t → Turn rest at count marks entries t
+  turned {t} p =
+      let n = shown_ok (next_of (drop at rest) marks) t (told ∙ p) in
       let k = known w h n in
       record {
         below = below w h n;
-        few = rw k.marks (quantity_few x.unit);
+        few = rw k.marks (quantity_few t.entry.unit);
         narrow = k.narrow;
         inside = omega (arith, k.inside, length-drop at rest);
         next = walked_next w h n;
       }
 
-  pub halted : {n : ℕ} → y ≡ Tried.Refused n → read_entries 0 rest [] ≡ refusal n
-  halted p = walked_step w h ∙ ap (λ (a : Answer Taken). follow a (others w h)) (shown_refused (next_of (drop at rest) marks) (told ∙ p))
+  pub halted : {n : Refusal} → y ≡ Err n → read_entries 0 rest [] ≡ refusal n.0
+  halted {n} p = walked_step w h ∙ ap (λ (a : Answer Taken). follow a (others w h)) (shown_err (next_of (drop at rest) marks) n.0 (told ∙ p))
 
 -- ---- the end
 
--- how the walk ends: at the end of the rest, or at an entry that is refused
-pub data Ended (rest : List ℕ) (at : ℕ) (outcome : Outcome) : Type 0 where
-  whole : outcome ≡ Accepted → length rest ≤ at → Ended rest at outcome
-  refused : (n : ℕ) → outcome ≡ Refused n → read_entries 0 rest [] ≡ refusal n → Ended rest at outcome
-
-module _ {rest : List ℕ} {at count : ℕ} {marks : List Bool} {entries : List Entry} (w : Walked rest at count marks entries) where
+module _ {rest : List ℕ} {at count : ℕ} {marks : List Bool} {entries : List Entry} (w : Walked rest at count marks entries) (h : length rest ≤ at) where
   -- all required quantities are marked, or 16
-  walked_all : length rest ≤ at → read_entries 0 rest [] ≡ refuse 16 (unmarked marks) (reads (take count entries))
+  walked_all : read_entries 0 rest [] ≡ refuse 16 (unmarked marks) (reads (take count entries))
   unfolding read_entries
-  walked_all h =
+  walked_all =
       sym w.so
       ∙ ap (λ (s : List ℕ). read_entries 0 s (take count entries)) (drop_of_length-le rest h)
       ∙ ap (λ (t : Bool). refuse 16 t (reads (take count entries))) (sym marks-missing)
@@ -211,32 +208,18 @@ module _ {rest : List ℕ} {at count : ℕ} {marks : List Bool} {entries : List 
       marks-missing : unmarked marks ≡ missing (take count entries)
       marks-missing = lacking_same (λ q. get_or marks q false) (λ q. seen q (take count entries)) w.link
 
-  walked_whole : ◌≡◌ {A = Entries} (record { outcome = Accepted; count = count; entries = entries }) (entries_shown (reads (take count entries)))
+  walked_whole : ◌≡◌ {A = Entries} (record { count = count; entries = entries }) (listed (take count entries))
   walked_whole =
       let all : entries ≡ take count entries ++ replicate (7 - count) blank_entry =
       sym (take-append-drop count entries) ∙ ap (λ (l : List Entry). take count entries ++ l) w.blanks in
       let n : count ≡ length (take count entries) = sym w.sized in
-      λ i. record { outcome = Accepted; count = n i; entries = (all ∙ ap (λ (k : ℕ). take count entries ++ replicate (7 - k) blank_entry) n) i }
+      λ i. record { count = n i; entries = (all ∙ ap (λ (k : ℕ). take count entries ++ replicate (7 - k) blank_entry) n) i }
 
-  -- a refusal hands back the number alone
-  pub ended_refused : {outcome ended : Outcome} → Ended rest at outcome → ended ≡ outcome_after outcome marks → is_refusal ended ≡ true
-      → ◌≡◌ {A = Entries} (record { outcome = ended; count = 0; entries = replicate 7 blank_entry }) (entries_shown (read_entries 0 rest []))
-  ended_refused (whole a h) e r = rw (walked_all h, e, a) (go (unmarked marks) (rw (e, a) at r))
-    where
-      go : (t : Bool) → is_refusal (cond t (Refused 16) Accepted) ≡ true
-          → ◌≡◌ {A = Entries} (record { outcome = cond t (Refused 16) Accepted; count = 0; entries = replicate 7 blank_entry })
-          (entries_shown (refuse 16 t (reads (take count entries))))
-      go true r = refl
-      go false r = absurd (false≢true r)
-  ended_refused (refused n o q) e r = rw (q, e, o)
+  -- by the test of the marks
+  module _ {lacks : Bool} (e : lacks ≡ unmarked marks) where
+    pub ended_missing : lacks ≡ true → read_entries 0 rest [] ≡ refusal 16
+    ended_missing t = rw (walked_all, ← e, t)
 
-  pub ended_whole : {outcome ended : Outcome} → Ended rest at outcome → ended ≡ outcome_after outcome marks → is_refusal ended ≡ false
-      → ◌≡◌ {A = Entries} (record { outcome = ended; count = count; entries = entries }) (entries_shown (read_entries 0 rest []))
-  ended_whole (whole a h) e r = rw (walked_all h, e, a) (go (unmarked marks) (rw (e, a) at r))
-    where
-      go : (t : Bool) → is_refusal (cond t (Refused 16) Accepted) ≡ false
-          → ◌≡◌ {A = Entries} (record { outcome = cond t (Refused 16) Accepted; count = count; entries = entries })
-          (entries_shown (refuse 16 t (reads (take count entries))))
-      go true r = absurd (true≢false r)
-      go false r = walked_whole
-  ended_whole (refused n o q) e r = absurd (true≢false (rw (e, o) at r))
+    pub ended_whole : lacks ≡ false
+        → ◌≡◌ {A = Result Entries Refusal} (Ok (record { count = count; entries = entries })) (shown (within listed (read_entries 0 rest [])))
+    ended_whole t = rw (walked_all, ← e, t) (λ i. Ok (walked_whole i))

@@ -2,24 +2,27 @@
 use Prim.Native.Nat.{ℕ, ◌-◌, ◌<◌}
 use mathlib.Core.Bool.{Bool, true, false}
 use mathlib.Core.List.{List, []}
-use mathlib.Core.Path.{◌≡◌, refl, sym, ap, ◌∙◌}
+use mathlib.Core.Path.{◌≡◌, refl, sym, ap, ap₂, ◌∙◌}
 use native.Mathlib.Omega.{arith}
 use lib.ListN.{take, drop}
 use lib.Seq.{take-take, get_or-take}
-use Rattle.base_rules.specs.declared.Outcome.TheVariants
+use Rattle.std.specs.Prelude.{Result, Ok, Err}
+use Rattle.base_rules.specs.declared.refusals.Refusal.{Refusal}
 use Rattle.mbus_rules.specs.declared.Kind.TheVariants as kinds
 use Rattle.mbus_rules.specs.declared.Outline.TheVariants as outlines
 use Rattle.mbus_rules.specs.declared.Entry.{Entry}
 use Rattle.mbus_rules.specs.declared.Header.{Header}
-use Rattle.mbus_rules.specs.declared.Reading.{Reading}
+use Rattle.mbus_rules.specs.declared.Telegram.{Telegram}
 use Rattle.base_rules.specs.Lists.{at}
 use Rattle.base_rules.specs.Answers.{Answer, reads, refusal, refuse, within}
 use Rattle.mbus_rules.specs.Headers.{header_of, wrong_header}
 use Rattle.mbus_rules.specs.Entries.{read_entries}
-use Rattle.mbus_rules.specs.Telegrams.{data_of, shown}
+use Rattle.base_rules.specs.Shown.{shown}
+use Rattle.base_rules.proofs.Laws.AnswerLaws.{shown_ok, shown_refused, within_refused, within_read}
+use Rattle.mbus_rules.specs.Telegrams.{data_of}
 use Rattle.mbus_rules.specs.Lines.{read_data}
 use Rattle.mbus_rules.specs.Outlines.{outlined}
-use Rattle.mbus_entries.specs.Walking.{entries_shown}
+use Rattle.mbus_entries.specs.Walking.{listed}
 use Rattle.mbus_entries.specs.declared.Entries.{Entries}
 use Rattle.mbus_reading.specs.Bodies.{body_of}
 
@@ -48,46 +51,24 @@ data_is a d = go (wrong_header d)
     go true = refl
     go false = refl
 
-refused_by : (ans : Answer (List Entry)) (n : ℕ) → (entries_shown ans).outcome ≡ TheVariants.Refused n → ans ≡ refusal n
-refused_by (refusal m) n e = cc
-refused_by (reads done) n e = let z : ◌≡◌ {A = ℕ} 0 1 = cc in absurd (omega arith)
+-- the data telegram of entries in their places
+abbrev data_made : ℕ → Entries → Header → Result Telegram Refusal
+data_made a b h = Ok (record { kind = kinds.Data; address = a; method = 0; header = h; count = b.count; entries = b.entries })
 
-outlined_as : (a : ℕ) (h : Header) (ans : Answer (List Entry)) → (entries_shown ans).outcome ≡ TheVariants.Accepted → outlines.Data a ≡ outlined
-    (within (data_of a h) ans)
-outlined_as a h (refusal m) e = let z : ◌≡◌ {A = ℕ} 0 1 = cc in absurd (omega arith)
-outlined_as a h (reads done) e = refl
+module _ (a : ℕ) (d : List ℕ) where
+  pub data_refused : {r : Refusal} → Err r ≡ shown (within listed (body_of d)) → read_data a d ≡ refusal r.0
+  data_refused e =
+      data_is a d ∙ ap (within (data_of a (header_of d))) (within_refused listed (body_of d) (shown_refused (within listed (body_of d)) (sym e)))
 
-accepted_as : (a : ℕ) (h : Header) (ans : Answer (List Entry)) → (entries_shown ans).outcome ≡ TheVariants.Accepted
-    → ◌≡◌ {A = Reading}
-    (record {
-      outcome = TheVariants.Accepted;
-      telegram = record { kind = kinds.Data; address = a; method = 0; header = h; count = (entries_shown ans).count; entries = (entries_shown ans).entries };
-    })
-    (shown (within (data_of a h) ans))
-accepted_as a h (refusal m) e = let z : ◌≡◌ {A = ℕ} 0 1 = cc in absurd (omega arith)
-accepted_as a h (reads done) e = refl
+  module _ {b : Entries} (e : Ok b ≡ shown (within listed (body_of d))) where
+    held : (done : List Entry) × (body_of d ≡ reads done) × (listed done ≡ b)
+    held = within_read listed (body_of d) (shown_ok (within listed (body_of d)) b (sym e))
 
-module _ (a : ℕ) (d : List ℕ) (x : Entries) (e : x ≡ entries_shown (body_of d)) where
-  outcome_is : (entries_shown (body_of d)).outcome ≡ x.outcome
-  outcome_is = sym (ap (λ (y : Entries). y.outcome) e)
+    whole : reads (data_of a (header_of d) held.0) ≡ read_data a d
+    whole = sym (data_is a d ∙ ap (within (data_of a (header_of d))) held.1)
 
-  pub data_refused : (n : ℕ) → x.outcome ≡ TheVariants.Refused n → read_data a d ≡ refusal n
-  data_refused n o = data_is a d ∙ ap (within (data_of a (header_of d))) (refused_by (body_of d) n (outcome_is ∙ o))
+    pub data_outlined : outlines.Data a ≡ outlined (read_data a d)
+    data_outlined = ap outlined whole
 
-  pub data_outlined : x.outcome ≡ TheVariants.Accepted → outlines.Data a ≡ outlined (read_data a d)
-  data_outlined o = outlined_as a (header_of d) (body_of d) (outcome_is ∙ o) ∙ ap outlined (sym (data_is a d))
-
-  pub data_accepted : (h : Header) → h ≡ header_of d → x.outcome ≡ TheVariants.Accepted
-      → ◌≡◌ {A = Reading}
-      (record {
-        outcome = TheVariants.Accepted;
-        telegram = record { kind = kinds.Data; address = a; method = 0; header = h; count = x.count; entries = x.entries };
-      })
-      (shown (read_data a d))
-  data_accepted h eh o =
-      (λ i. record {
-        outcome = TheVariants.Accepted;
-        telegram = record { kind = kinds.Data; address = a; method = 0; header = eh i; count = (e i).count; entries = (e i).entries };
-      })
-      ∙ accepted_as a (header_of d) (body_of d) (outcome_is ∙ o)
-      ∙ ap shown (sym (data_is a d))
+    pub data_accepted : {h : Header} → h ≡ header_of d → data_made a b h ≡ shown (read_data a d)
+    data_accepted eh = ap₂ (data_made a) (sym held.2) eh ∙ ap shown whole

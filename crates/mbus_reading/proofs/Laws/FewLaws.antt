@@ -7,7 +7,7 @@ use native.Mathlib.Omega.{arith}
 use borrow.Author.Tests.{ne_eqb}
 use lib.ListN.{length, take, drop, set, length-map}
 use lib.Seq.{take_at}
-use Rattle.base_rules.specs.declared.Outcome.TheVariants.{Accepted}
+use Rattle.std.specs.Prelude.{Ok}
 use Rattle.mbus_rules.specs.declared.Telegram.{Telegram}
 use Rattle.mbus_rules.specs.declared.Outline.{Outline}
 use Rattle.base_rules.specs.Lists.{at, any, total}
@@ -22,7 +22,7 @@ use Rattle.base_characters.proofs.Laws.PairLaws.{length_characters, length_lows,
 use Rattle.base_characters.proofs.Laws.StoreLaws.{stored_none, stored_next}
 use Rattle.mbus_shape.specs.Shapes.{shape_body}
 use Rattle.mbus_shape.proofs.Laws.LeftLaws.{brief_few}
-use Rattle.mbus_reading.specs.Taking.{TakenBytes}
+use Rattle.mbus_reading.specs.Taking.{TakenFew}
 use Rattle.mbus_reading.proofs.Laws.TakingLaws.{sound_line}
 
 pub record Walked (b : List ℕ) (low : List ℕ) (i : ℕ) (now : List ℕ) : Type 0 where
@@ -67,23 +67,17 @@ module _ {b low : List ℕ} {i : ℕ} {now : List ℕ} (w : Walked b low i now) 
     stored = stored_next w.stored (omega (arith, length_lows b)) (ap byte_of e ∙ sym (at_bytes (chars b) i));
   }
 
-  pub walked_all : length b / 2 ≤ i → TakenBytes (chars b) now Accepted (total (map byte_of (chars b)) % 256)
+  pub walked_all : length b / 2 ≤ i → TakenFew (chars b) now (Ok tt)
   walked_all h = (
     sound_line (chars b) w.some (sym (characters_all b w.in_range h)) (sym (characters_all b w.even h)),
     ap (take (length (chars b))) (copied_all w.stored (omega (arith, length_lows b)))
         ∙ take_at (map byte_of (chars b)) (drop (length (map byte_of (chars b))) low) (length (chars b)) (length-map (chars b) byte_of),
-    refl,
   )
 
 -- few characters have no header and no entries: the shape is the outline
-pub few_is : (s low : List ℕ) (sum : ℕ) {n : ℕ} {v : Outline} → length s ≤ 5 → n ≡ length s → TakenBytes s low Accepted sum
+pub few_is : (s low : List ℕ) {n : ℕ} {v : Outline} → length s ≤ 5 → n ≡ length s → TakenFew s low (Ok tt)
     → v ≡ outlined (refuse 5 (is_long (take n low)) (read_frame shape_body (take n low))) → v ≡ outlined (read_line s)
-few_is s low sum h en t e =
+few_is s low h en t e =
     e ∙ ap (λ (k : ℕ). outlined (refuse 5 (is_long (take k low)) (read_frame shape_body (take k low)))) en
     ∙ ap (λ (b : List ℕ). outlined (refuse 5 (is_long b) (read_frame shape_body b))) t.1
     ∙ brief_few (map byte_of s) (rw (length-map s byte_of) (omega arith)) ∙ ap outlined (sym t.0)
-
--- none at all
-pub none_is : (s : List ℕ) → length s ≡ 0 → read_line s ≡ refusal 1
-unfolding read_line
-none_is s e = rw e

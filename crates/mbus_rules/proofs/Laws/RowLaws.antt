@@ -70,9 +70,9 @@ same_told false b e = not-true b e
 pub unit_past : (u : ℕ) → 256 ≤ u → quantity_of u ≡ unknown
 unfolding quantity_of
 unit_past u h =
-    eqb-true (row_of u).2 unknown
-    (found_where (has_unit u) (λ r. eqb r.2 unknown) (λ r. ltb r.1 256) no_row table refl
-    (λ r has last. absurd (omega (arith, leb-true u r.1 ((and-eq-true_iff (leb r.0 u) (leb u r.1)).0 has).1, ltb-true r.1 256 last)))
+    eqb-true (row_of u).quantity unknown
+    (found_where (has_unit u) (λ r. eqb r.quantity unknown) (λ r. ltb r.last 256) no_row table refl
+    (λ r has last. absurd (omega (arith, leb-true u r.last ((and-eq-true_iff (leb r.first u) (leb u r.last)).0 has).1, ltb-true r.last 256 last)))
     refl)
 
 -- the row of the point in time, and no other
@@ -89,17 +89,17 @@ time_quantity u = go (dec_lt u 256)
 
 pub quantity_few : (u : ℕ) → quantity_of u < 8
 unfolding quantity_of
-quantity_few u = ltb-true (row_of u).2 8 (found_each (has_unit u) (λ r. ltb r.2 8) no_row table refl)
+quantity_few u = ltb-true (row_of u).quantity 8 (found_each (has_unit u) (λ r. ltb r.quantity 8) no_row table refl)
 
-pub low_some : (u : ℕ) → 0 < (row_of u).4
-low_some u = ltb-true 0 (row_of u).4 (found_each (has_unit u) (λ r. ltb 0 r.4) no_row table refl)
+pub low_some : (u : ℕ) → 0 < (row_of u).divisor
+low_some u = ltb-true 0 (row_of u).divisor (found_each (has_unit u) (λ r. ltb 0 r.divisor) no_row table refl)
 
 -- 02, 2026-07, by the quantities that it names
 pub may_fall_three : (u : ℕ) → may_fall u ≡ (eqb (quantity_of u) inlet || eqb (quantity_of u) outlet || eqb (quantity_of u) flow)
 unfolding may_fall quantity_of
 may_fall_three u =
-    let three : UnitRow → Bool = λ r. eqb r.2 inlet || eqb r.2 outlet || eqb r.2 flow in
-    same_told (three (row_of u)) (row_of u).7 (found_each (has_unit u) (λ r. cond (three r) r.7 (not r.7)) no_row table refl)
+    let three : UnitRow → Bool = λ r. eqb r.quantity inlet || eqb r.quantity outlet || eqb r.quantity flow in
+    same_told (three (row_of u)) (row_of u).may_fall (found_each (has_unit u) (λ r. cond (three r) r.may_fall (not r.may_fall)) no_row table refl)
 
 -- 16, by the quantities that 01 names
 pub missing_five : (there : ℕ → Bool)
@@ -127,18 +127,18 @@ lacking_same f g e =
 pub structure_past : (st : ℕ) → 256 ≤ st → (is_packed st || is_binary st) ≡ false
 structure_past st h =
     not-true (is_packed st || is_binary st)
-    (found_where (has_structure st) (λ r. not (r.2 || r.3)) (λ r. ltb r.0 256) no_structure structures refl
-    (λ r has small. absurd (omega (arith, ltb-true r.0 256 small, eqb-true st r.0 has))) refl)
+    (found_where (has_structure st) (λ r. not (r.packed || r.binary)) (λ r. ltb r.structure 256) no_structure structures refl
+    (λ r has small. absurd (omega (arith, ltb-true r.structure 256 small, eqb-true st r.structure has))) refl)
 
 pub width_most : (st : ℕ) → width_of st ≤ 8
 unfolding width_of
-width_most st = leb-true (structure_of st).1 8 (found_each (has_structure st) (λ r. leb r.1 8) no_structure structures refl)
+width_most st = leb-true (structure_of st).width 8 (found_each (has_structure st) (λ r. leb r.width 8) no_structure structures refl)
 
 pub width_least : (st : ℕ) → (is_packed st || is_binary st) ≡ true → 1 ≤ width_of st
 unfolding width_of
 width_least st e =
-    leb-true 1 (structure_of st).1
-    (rw e at (found_each (has_structure st) (λ r. cond (r.2 || r.3) (leb 1 r.1) true) no_structure structures refl))
+    leb-true 1 (structure_of st).width
+    (rw e at (found_each (has_structure st) (λ r. cond (r.packed || r.binary) (leb 1 r.width) true) no_structure structures refl))
 
 -- below 8 no structure is one of packed digits, and from there on none is one of binary
 pub low_packed : (st : ℕ) → st < 8 → is_packed st ≡ false
@@ -147,7 +147,7 @@ low_packed st h = not-true (is_packed st) (below 8 (λ k. not (is_packed k)) ref
 pub high_binary : (st : ℕ) → 8 ≤ st → is_binary st ≡ false
 high_binary st h =
     not-true (is_binary st)
-    (found_where (has_structure st) (λ r. not r.3) (λ r. not r.3 || ltb r.0 8) no_structure structures refl high refl)
+    (found_where (has_structure st) (λ r. not r.binary) (λ r. not r.binary || ltb r.structure 8) no_structure structures refl high refl)
   where
-    high : (r : StructureRow) → has_structure st r ≡ true → (not r.3 || ltb r.0 8) ≡ true → not r.3 ≡ true
-    high r has e = by_test r.3 (λ b. absurd (omega (arith, ltb-true r.0 8 (rw b at e), eqb-true st r.0 has))) (λ b. rw b)
+    high : (r : StructureRow) → has_structure st r ≡ true → (not r.binary || ltb r.structure 8) ≡ true → not r.binary ≡ true
+    high r has e = by_test r.binary (λ b. absurd (omega (arith, ltb-true r.structure 8 (rw b at e), eqb-true st r.structure has))) (λ b. rw b)

@@ -7,18 +7,9 @@ use lib.Seq.{take-nil, drop-nil}
 use Rattle.base_rules.specs.Answers.{Answer, reads, refusal}
 use Rattle.base_rules.proofs.Laws.Tests.{by_test}
 use Rattle.mbus_rules.specs.Lines.{read_line}
-use Rattle.mbus_search.specs.Searching.{accepts, Begins, length_from, length_here, Spot, further, or_else, find_in, found_shown}
+use Rattle.mbus_search.specs.declared.Spot.{Spot}
+use Rattle.mbus_search.specs.Searching.{accepts, Begins, length_from, length_here, further, or_else, find_in}
 use Rattle.mbus_search.proofs.Laws.SearchLaws.{left_at, only_length, here_hit}
-
--- no two answers are shown alike
-pub found_same : (a b : Answer Spot) → found_shown a ≡ found_shown b → a ≡ b
-found_same (refusal m) (refusal n) e = cc
-found_same (refusal m) (reads q) e = let z : ◌≡◌ {A = ℕ} 0 1 = cc in absurd (omega arith)
-found_same (reads p) (refusal n) e = let z : ◌≡◌ {A = ℕ} 0 1 = cc in absurd (omega arith)
-found_same (reads p) (reads q) e =
-    let a : p.place ≡ q.place = cc in
-    let b : p.length ≡ q.length = cc in
-    ap reads (λ i. record { place = a i; length = b i })
 
 -- only one length is possible at a place
 pub one_length : (s : List ℕ) (place m n : ℕ) → Begins s place m → Begins s place n → m ≡ n

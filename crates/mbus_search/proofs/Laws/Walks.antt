@@ -1,5 +1,6 @@
 -- What the two walks of the search hold on to.
-use Rattle.std.proofs.Common.{◌≡◌, ℕ, suc, ◌+◌, ◌-◌, ◌%◌, ◌<◌, ◌≤◌, Bool, true, false, cond, ◌||◌, leb, List, [], ◌∷◌, map, take, drop, set, sym, refl, ap, ◌∙◌, subst, ap₂, true≢false, zero-le, add-one, arith, length-drop, length-set, drop_of_length-le, length-take-le, take_all, drop-cons, get_or-take, take-suc, take-suc-set, leb-true}
+use Rattle.std.specs.Prelude.{Result, Ok, Err}
+use Rattle.std.proofs.Common.{◌≡◌, ℕ, suc, ◌+◌, ◌-◌, ◌%◌, ◌<◌, ◌≤◌, Bool, true, false, ◌||◌, leb, List, [], ◌∷◌, map, take, drop, set, sym, refl, ap, ◌∙◌, subst, ap₂, true≢false, zero-le, add-one, arith, length-drop, length-set, drop_of_length-le, length-take-le, take_all, drop-cons, get_or-take, take-suc, take-suc-set, leb-true}
 use mathlib.Core.Bool.{and-eq-true_iff}
 use mathlib.Core.List.{map-append}
 use lib.ListN
@@ -17,9 +18,10 @@ use Rattle.mbus_shape.specs.Shapes.{frame_by}
 use Rattle.mbus_shape.proofs.Laws.FirstLaws.{left_most}
 use Rattle.mbus_shape.proofs.Laws.WholeLaws.{frame_whole}
 use Rattle.mbus_reading.proofs.Laws.TakingLaws.{sound_line}
-use Rattle.mbus_search.specs.declared.Found.{Found}
-use Rattle.mbus_search.specs.declared.Found.TheVariants.{At, Refused}
-use Rattle.mbus_search.specs.Searching.{accepts, length_here, Spot, further, or_else, find_in, moved_by, found_shown}
+use Rattle.base_rules.specs.declared.refusals.Refusal.{Refusal}
+use Rattle.base_rules.specs.Shown.{shown, refused_by}
+use Rattle.mbus_search.specs.declared.Spot.{Spot}
+use Rattle.mbus_search.specs.Searching.{accepts, length_here, spot_at, further, or_else, find_in, moved_by}
 use Rattle.mbus_search.specs.Ending.{ends_in}
 use Rattle.mbus_search.proofs.Laws.SearchLaws.{left_at, accepted_sound, accepted_ends, here_hit, here_none}
 
@@ -28,16 +30,16 @@ moved_further k (refusal n) = refl
 moved_further k (reads p) = let e : k + (p.place + 1) ≡ k + 1 + p.place = omega arith in ap (λ (x : ℕ). reads (record { place = x; length = p.length })) e
 
 -- The walk over places: no line begins at a place before.
-pub record Searched (s : List ℕ) (place : ℕ) (found : Found) : Type 0 where
+pub record Searched (s : List ℕ) (place : ℕ) (found : Result Spot Refusal) : Type 0 where
   pub inside : place ≤ ListN.length s
-  pub nothing : found ≡ Refused 18
+  pub nothing : found ≡ Err (refused_by 18)
   pub so : moved_by place (find_in (drop place s)) ≡ find_in s
 
 moved_none : (a : Answer Spot) → moved_by 0 a ≡ a
 moved_none (refusal n) = refl
 moved_none (reads p) = let e : 0 + p.place ≡ p.place = omega arith in ap (λ (x : ℕ). reads (record { place = x; length = p.length })) e
 
-pub searched_none : {s : List ℕ} → Searched s 0 (Refused 18)
+pub searched_none : {s : List ℕ} → Searched s 0 (Err (refused_by 18))
 searched_none {s} = record { inside = zero-le; nothing = refl; so = moved_none (find_in s) }
 
 -- the rest of the capture from a place on, as the code cuts it out
@@ -51,7 +53,7 @@ find_here s place h =
     rw add-one
     (ap find_in (drop-cons s place 0 h) ∙ ap (λ (l : List ℕ). or_else (length_here l) (further (find_in (drop (suc place) s)))) (sym (drop-cons s place 0 h)))
 
-pub searched_next : {s : List ℕ} {place : ℕ} {found next : Found} → Searched s place found → next ≡ Refused 18 → place < ListN.length s
+pub searched_next : {s : List ℕ} {place : ℕ} {found next : Result Spot Refusal} → Searched s place found → next ≡ Err (refused_by 18) → place < ListN.length s
     → length_here (take (ListN.length s - place) (drop place s)) ≡ refusal 18 → Searched s (place + 1) next
 searched_next {s} {place} w n h e = record {
   inside = omega arith;
@@ -63,17 +65,17 @@ searched_next {s} {place} w n h e = record {
       ∙ w.so;
 }
 
-pub searched_all : {s : List ℕ} {place : ℕ} {found : Found} → Searched s place found → ListN.length s ≤ place → found ≡ found_shown (find_in s)
+pub searched_all : {s : List ℕ} {place : ℕ} {found : Result Spot Refusal} → Searched s place found → ListN.length s ≤ place → found ≡ shown (find_in s)
 unfolding find_in
 searched_all {s} {place} w h =
-    w.nothing ∙ ap found_shown (ap (λ (l : List ℕ). moved_by place (find_in l)) (sym (drop_of_length-le s h)) ∙ w.so)
+    w.nothing ∙ ap shown (ap (λ (l : List ℕ). moved_by place (find_in l)) (sym (drop_of_length-le s h)) ∙ w.so)
 
-pub searched_hit : {s : List ℕ} {place : ℕ} {found : Found} → Searched s place found → place < ListN.length s → (n : ℕ)
-    → length_here (take (ListN.length s - place) (drop place s)) ≡ reads n → At place n ≡ found_shown (find_in s)
+pub searched_hit : {s : List ℕ} {place : ℕ} {found : Result Spot Refusal} → Searched s place found → place < ListN.length s → (n : ℕ)
+    → length_here (take (ListN.length s - place) (drop place s)) ≡ reads n → Ok (spot_at place n) ≡ shown (find_in s)
 searched_hit {s} {place} w h n e =
     let zero_more : place ≡ place + 0 = omega arith in
-    ap (λ (x : ℕ). At x n) zero_more
-    ∙ ap found_shown
+    ap (λ (x : ℕ). Ok (spot_at x n)) zero_more
+    ∙ ap shown
     (ap (moved_by place)
     (sym (find_here s place h ∙ ap (λ (a : Answer ℕ). or_else a (further (find_in (drop (place + 1) s)))) (ap length_here (sym (cut_is s place)) ∙ e))) ∙ w.so)
 
@@ -134,15 +136,15 @@ gathers_all {line} {i} {low} {sum} g e some =
     ∙ frame_whole read_body line (g.summed ∙ ap (λ (s : List ℕ). total (map byte_of s) % 256) whole)
     ∙ sym (sound_line line (omega arith) (sym (gathered_all g.in_range (omega arith))) (sym (gathered_all g.even (omega arith))))
 
-pub record Walked (rest : List ℕ) (length i : ℕ) (found : Found) (low : List ℕ) (sum : ℕ) : Type 0 where
+pub record Walked (rest : List ℕ) (length i : ℕ) (found : Result Spot Refusal) (low : List ℕ) (sum : ℕ) : Type 0 where
   pub allowed : length ≡ left_at rest
   pub inside : i ≤ length
   pub room : length ≤ ListN.length rest
   pub none : length ≤ i → length_here rest ≡ refusal 18
-  pub nothing : found ≡ Refused 18
+  pub nothing : found ≡ Err (refused_by 18)
   pub gathers : Gathers (take length rest) i low sum
 
-pub walked_none : {rest : List ℕ} {length : ℕ} {found : Found} {low : List ℕ} → length ≡ left_at rest → length ≤ ListN.length rest → found ≡ Refused 18
+pub walked_none : {rest : List ℕ} {length : ℕ} {found : Result Spot Refusal} {low : List ℕ} → length ≡ left_at rest → length ≤ ListN.length rest → found ≡ Err (refused_by 18)
     → ListN.length low ≡ 261 → Walked rest length 0 found low 0
 walked_none {rest} e h n places = record {
   allowed = e;
@@ -153,19 +155,15 @@ walked_none {rest} e h n places = record {
   gathers = gathers_none places;
 }
 
-module _ {rest : List ℕ} {length i : ℕ} {found : Found} {low : List ℕ} {sum : ℕ} (w : Walked rest length i found low sum) where
+module _ {rest : List ℕ} {length i : ℕ} {found : Result Spot Refusal} {low : List ℕ} {sum : ℕ} (w : Walked rest length i found low sum) where
   pub walked_most : length ≤ 261
   walked_most = omega (arith, w.allowed, left_most rest)
-
-  -- not at its end
-  pub walked_on : (i ≡ length → ⊥) → i < length
-  walked_on n = omega (arith, w.inside)
 
   pub walked_places : (x : ℕ) → length ≤ ListN.length (set low i x)
   walked_places x = omega (arith, walked_most, w.gathers.places, length-set low i x)
 
 -- one more character, which is sound
-module _ {rest : List ℕ} {length i : ℕ} {found : Found} {low : List ℕ} {sum : ℕ} (w : Walked rest length i found low sum) (h : i < length) where
+module _ {rest : List ℕ} {length i : ℕ} {found : Result Spot Refusal} {low : List ℕ} {sum : ℕ} (w : Walked rest length i found low sum) (h : i < length) where
   pub walked_room : i < 261
   walked_room = omega (arith, walked_most w)
 

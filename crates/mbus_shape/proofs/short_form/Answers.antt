@@ -22,7 +22,7 @@ returns-then-wrong_sum c =
       ← c.byte_at-control.ensures,
       ← c.byte_at-address.ensures,
     )
-    (rw (← c.wrapping_add_u8-sum.ensures.value, ← c.wrong_sum.ensures, c.if-wrong_sum.true))
+    (rw (← c.wrong_sum.ensures, c.if-wrong_sum.true))
 
 pub returns : goal.returns
 returns c =
@@ -33,4 +33,4 @@ returns c =
       ← c.byte_at-control.ensures,
       ← c.byte_at-address.ensures,
     )
-    (rw (← c.wrapping_add_u8-sum.ensures.value, ← c.wrong_sum.ensures, c.if-wrong_sum.false) c.short_shape.ensures)
+    (rw (← c.wrong_sum.ensures, c.if-wrong_sum.false) c.short_shape.ensures)

@@ -1,11 +1,11 @@
 -- A number's size against what its structure holds.
 use Prim.Native.Nat.{ℕ, zero, suc, ◌-◌, ◌*◌, ◌/◌, ◌^◌, ◌≤◌, ◌<◌}
-use mathlib.Core.Bool.{Bool, true, false, not, ◌||◌, true≢false, false≢true}
-use mathlib.Core.Path.{◌≡◌, refl, sym, ap, ◌∙◌}
+use mathlib.Core.Bool.{true, false, not, true≢false, false≢true}
+use mathlib.Core.Path.{◌≡◌, sym, ap, ◌∙◌}
 use native.Mathlib.Nat.{pow-succ'}
 use native.Mathlib.Omega.{arith}
-use borrow.Author.Tests.{ltb-true, ltb-false, lt-ltb, le-ltb}
-use lib.Dec.{ltb, lit≤}
+use borrow.Author.Tests.{ltb-true, ltb-false, lt-ltb, le-ltb, lt-leb, le-leb}
+use lib.Dec.{ltb, leb, lit≤}
 use lib.IntN.{ℤ, pos, negsuc, nat_abs}
 use Rattle.mbus_rules.specs.Signs.{fits_signed}
 use Rattle.base_numbers.specs.TwosComplement.{below_zero}
@@ -34,11 +34,8 @@ pub long_below : (w : ℕ) (z : ℤ) → below_zero z ≡ true → ltb ((100 ^ w
 long_below w (pos n) e = absurd (false≢true e)
 long_below w (negsuc n) e = tenth (100 ^ w) (suc n) (limit_some w)
 
-pub long_above : (w : ℕ) (z : ℤ) → below_zero z ≡ false → not (ltb (nat_abs z) (100 ^ w)) ≡ not (fits_signed w z)
-long_above w (pos n) e = refl
+pub long_above : (w : ℕ) (z : ℤ) → below_zero z ≡ false → leb (100 ^ w) (nat_abs z) ≡ not (fits_signed w z)
+long_above w (pos n) e =
+    by_test (ltb n (100 ^ w)) (λ t. lt-leb (100 ^ w) n (ltb-true n (100 ^ w) t) ∙ sym (ap not t))
+    (λ t. le-leb (100 ^ w) n (ltb-false n (100 ^ w) t) ∙ sym (ap not t))
 long_above w (negsuc n) e = absurd (true≢false e)
-
--- digits in a structure of binary are wrong
-pub digits_coded : (t x y : Bool) → true ≡ (t || true || x || y)
-digits_coded true x y = refl
-digits_coded false x y = refl

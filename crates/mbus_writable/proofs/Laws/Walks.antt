@@ -1,47 +1,23 @@
--- Laws of `specs/Walks`.
-use Prim.Native.Nat.{ℕ, suc, ◌+◌, ◌≤◌, ◌<◌, zero-le}
-use mathlib.Core.Bool.{Bool, true, false, ◌||◌, or_assoc, or-false, or-true}
+-- Laws of a walk over entries.
+use Prim.Native.Nat.{ℕ, suc, ◌+◌, ◌<◌}
+use mathlib.Core.Bool.{Bool, true, false, ◌||◌, or-false, or-true}
 use mathlib.Core.List.{List, [], ◌∷◌, ◌++◌}
 use mathlib.Core.Path.{◌≡◌, refl, sym, ap, ◌∙◌}
 use native.Mathlib.Numerals.{add-one}
 use native.Mathlib.Omega.{arith}
-use borrow.Author.Tests.{lt-ltb, le-ltb, eqb-true, eqb-false}
+use borrow.Author.Tests.{eqb-true, eqb-false}
 use lib.Dec.{eqb}
 use lib.ListN.{length, get_or, take, drop, set, replicate, get_or-replicate, length-set, drop_of_length-le}
-use lib.Seq.{drop-cons, take-suc, take_all, length-take-le, get_or-take, get_or-set_same, get_or-set_other}
-use Rattle.mbus_rules.specs.declared.Kind.{Kind}
+use lib.Seq.{drop-cons, take-suc, take_all, get_or-set_same, get_or-set_other}
 use Rattle.mbus_rules.specs.declared.Entry.{Entry}
-use Rattle.mbus_rules.specs.declared.Telegram.{Telegram}
 use Rattle.base_rules.specs.Lists.{any}
 use Rattle.base_rules.proofs.Laws.ListLaws.{any_snoc}
 use Rattle.mbus_rules.specs.Quantities.{quantity_of}
 use Rattle.mbus_rules.specs.Entries.{seen, lacking}
 use Rattle.mbus_rules.proofs.Laws.RowLaws.{quantity_few, lacking_same}
 use Rattle.base_rules.proofs.Laws.Tests.{by_test}
-use Rattle.mbus_rules.specs.Writing.{entries_of, used_entry, wrong_entry, unwritten_header, repeats, wrong_data, wrong_for, unwritable}
+use Rattle.mbus_rules.specs.Writing.{wrong_entry, repeats}
 use Rattle.mbus_writable.specs.Together.{wrong_together}
-
--- ---- a walk that looks from a place on
-
-pub record Looked {A : Type 0} (test : A → Bool) (s : List A) (from i : ℕ) (found : Bool) : Type 0 where
-  pub so : (found || any test (drop i s)) ≡ any test (drop from s)
-
-pub looked_none : {A : Type 0} (test : A → Bool) (s : List A) (from : ℕ) → Looked test s from from false
-looked_none test s from = record { so = refl }
-
-pub looked_next : {A : Type 0} {test : A → Bool} {s : List A} {from i : ℕ} {found : Bool} (d : A) → Looked test s from i found → i < length s
-    → Looked test s from (i + 1) (found || test (get_or s i d))
-unfolding any
-looked_next {test = test} {s} {from} {i} {found} d g h = record {
-  so =
-      or_assoc found (test (get_or s i d)) (any test (drop (i + 1) s))
-      ∙ ap (λ (l : Bool). found || l) (rw add-one (ap (any test) (sym (drop-cons s i d h)))) ∙ g.so;
-}
-
-pub looked_all : {A : Type 0} {test : A → Bool} {s : List A} {from i : ℕ} {found : Bool} → Looked test s from i found → length s ≤ i → found
-    ≡ any test (drop from s)
-unfolding any
-looked_all {test = test} {s} {from} {i} {found} g h = sym (or-false found) ∙ ap (λ (l : List _). found || any test l) (sym (drop_of_length-le s h)) ∙ g.so
 
 -- what is wrong so far, and is wrong with what is left; the marks say which quantities came so far
 pub record Walked (es : List Entry) (i : ℕ) (wrong : Bool) (marks : List Bool) : Type 0 where
@@ -106,39 +82,3 @@ module _ {es : List Entry} {i : ℕ} {wrong : Bool} {marks : List Bool} (g : Wal
       let done : wrong ≡ (any wrong_entry es || repeats [] es) = sym (or-false wrong) ∙ (rw none at g.so) in
       let m : (q : ℕ) → q < 8 → get_or marks q false ≡ seen q es = λ q h. g.marked q h ∙ ap (seen q) all in
       rw (done, lacking_same (λ q. get_or marks q false) (λ q. seen q es) m)
-
--- the same for the places of an array, of which the count says how many are entries
-pub record Counted (entries : List Entry) (count i : ℕ) (wrong : Bool) (marks : List Bool) : Type 0 where
-  pub inside : i ≤ count
-  pub walked : Walked (take count entries) i wrong marks
-
-pub counted_none : {entries : List Entry} {count : ℕ} → Counted entries count 0 false (replicate 8 false)
-counted_none {entries} {count} = record { inside = zero-le; walked = walked_none (take count entries) }
-
-pub counted_next : {entries : List Entry} {count i : ℕ} {wrong : Bool} {marks : List Bool} {q : ℕ} {w : Bool} (d : Entry) → Counted entries count i wrong marks
-    → count ≤ length entries → i < count → q ≡ quantity_of (get_or entries i d).unit → w ≡ wrong_entry (get_or entries i d)
-    → Counted entries count (i + 1) (wrong || w || get_or marks q false) (set marks q true)
-counted_next {entries} {count} {i} d g n h eq ew =
-    let size : length (take count entries) ≡ count = length-take-le count entries n in
-    record { inside = omega arith; walked = rw (eq, ew, ← get_or-take count entries i d h) (walked_next g.walked d (omega arith)) }
-
-pub counted_all : {entries : List Entry} {count i : ℕ} {wrong : Bool} {marks : List Bool} → Counted entries count i wrong marks → count ≤ length entries
-    → count ≤ i
-    → (wrong || lacking (λ q. get_or marks q false)) ≡ wrong_together (take count entries)
-counted_all {entries} {count} g n h =
-    let size : length (take count entries) ≡ count = length-take-le count entries n in
-    let inside = g.inside in
-    walked_all g.walked (omega arith)
-
--- ---- 20 for a data telegram, as the code tries it
-
-pub data_many : (t : Telegram) → 7 < t.count → wrong_data t ≡ true
-data_many t h = rw (lt-ltb 7 t.count h, or-true (unwritten_header t.header))
-
-pub data_few : (t : Telegram) (u w p : Bool) → t.count ≤ 7 → u ≡ unwritten_header t.header → w ≡ wrong_together (entries_of t) → p
-    ≡ any used_entry (drop t.count t.entries) → (u || w || p) ≡ wrong_data t
-data_few t u w p h eu ew ep = rw (le-ltb 7 t.count h, eu, ew, ep) (simp or_assoc)
-
-pub for_kind : (t : Telegram) {k : Kind} → t.kind ≡ k → wrong_for k t ≡ unwritable t
-unfolding unwritable
-for_kind t {k} e = ap (λ (x : Kind). wrong_for x t) (sym e)

@@ -22,16 +22,16 @@ pub overflow_sub-result : goal.overflow_sub-result
 overflow_sub-result c =
     rw (limit (goal.at.overflow_sub-result c).After-limit_of-limit) (limit_some (width_of c.args.structure))
 
-pub returns-then-below : goal.returns-then-below
-returns-then-below c =
+pub returns-then-is_below_zero : goal.returns-then-is_below_zero
+returns-then-is_below_zero c =
     let a = c.args in
     let t = to_z-of_z w64 a.count c.ranges.count in
-    rw (limit (goal.at.returns-then-below c).After-limit_of-limit, c.size_of-size.ensures ∙ ap nat_abs t)
-    (long_below (width_of a.structure) a.count (sym (c.is_below_zero-below.ensures ∙ ap below_zero t) ∙ c.if-below.true))
+    rw (limit (goal.at.returns-then-is_below_zero c).After-limit_of-limit, c.size_of-size.ensures ∙ ap nat_abs t)
+    (long_below (width_of a.structure) a.count (sym (c.is_below_zero.ensures ∙ ap below_zero t) ∙ c.if-is_below_zero.true))
 
 pub returns : goal.returns
 returns c =
     let a = c.args in
     let t = to_z-of_z w64 a.count c.ranges.count in
     rw (limit (goal.at.returns c).After-limit_of-limit, c.size_of-size.ensures ∙ ap nat_abs t)
-    (long_above (width_of a.structure) a.count (sym (c.is_below_zero-below.ensures ∙ ap below_zero t) ∙ c.if-below.false))
+    (long_above (width_of a.structure) a.count (sym (c.is_below_zero.ensures ∙ ap below_zero t) ∙ c.if-is_below_zero.false))

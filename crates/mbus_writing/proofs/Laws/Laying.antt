@@ -122,7 +122,7 @@ binary_cut w (negsuc n) h f =
 packed_most : (st : ℕ) → is_binary st ≡ false → width_of st ≤ 6
 unfolding width_of
 packed_most st e =
-    leb-true (structure_of st).1 6 (rw e at (found_each (has_structure st) (λ r. cond r.3 true (leb r.1 6)) no_structure structures refl))
+    leb-true (structure_of st).width 6 (rw e at (found_each (has_structure st) (λ r. cond r.binary true (leb r.width 6)) no_structure structures refl))
 
 value_cut : (st u : ℕ) (v : Value) → (is_time u ≡ true → width_of st ≡ 6) → wrong_value st u v ≡ false
     → (take (width_of st) (eight_bytes (width_of st) v) ≡ bytes_of_value (width_of st) v) × (exists (width_of st) v ≡ true)

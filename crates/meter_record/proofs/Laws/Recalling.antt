@@ -8,11 +8,12 @@ use borrow.Author.Tests.{eqb-true, eqb-false}
 use lib.Dec.{eqb}
 use lib.ListN.{length, take, drop, length-drop, length-append, take-append-drop}
 use lib.Seq.{take_all, take_at}
-use Rattle.base_rules.specs.declared.Outcome.TheVariants.{Accepted, Refused}
-use Rattle.mbus_rules.specs.declared.Reading.{Reading}
+use Rattle.std.specs.Prelude.{Result, Ok, Err}
+use Rattle.base_rules.specs.declared.refusals.Refusal.{Refusal}
 use Rattle.mbus_rules.specs.declared.Telegram.{Telegram}
 use Rattle.base_rules.specs.Answers.{Answer, reads, refusal, refuse, follow}
-use Rattle.mbus_rules.specs.Telegrams.{shown}
+use Rattle.base_rules.specs.Shown.{shown}
+use Rattle.base_rules.proofs.Laws.AnswerLaws.{shown_ok, shown_refused}
 use Rattle.base_rules.proofs.Laws.Tests.{by_test}
 use Rattle.meter_steps.specs.declared.Meter.{Meter}
 use Rattle.base_lent.specs.Recorded.{no_record}
@@ -93,35 +94,23 @@ read_size b m e = by_test (eqb (length b) 192) (λ y. eqb-true (length b) 192 y)
     other : meter_from b ≡ refusal no_record → ⊥
     other f = let z : ◌≡◌ {A = ℕ} 0 1 = cc in omega arith
 
-told_refused : (test : Bool) (t : Telegram) (n : ℕ) → (shown (refuse no_record test (reads t))).outcome ≡ Refused n
-    → refuse no_record test (reads t) ≡ refusal no_record
-told_refused true t n e = refl
-told_refused false t n e = cc
-
-told_accepted : (a : Answer Telegram) → (shown a).outcome ≡ Accepted → a ≡ reads (shown a).telegram
-told_accepted (refusal n) e = cc
-told_accepted (reads t) e = refl
-
 -- by what the bytes of the template read as
-module _ (b : List ℕ) (size : length b ≡ 192) {r : Reading} (e : r ≡ shown (telegram_from (take 136 (drop 56 b)))) where
+module _ (b : List ℕ) (size : length b ≡ 192) {r : Result Telegram Refusal} (e : r ≡ shown (telegram_from (take 136 (drop 56 b)))) where
   whole : r ≡ shown (telegram_from (drop 56 b))
   whole = e ∙ ap (λ (l : List ℕ). shown (telegram_from l)) (take_all 136 (drop 56 b) (omega (arith, length-drop 56 b)))
 
-  pub from_refused : (n : ℕ) → r.outcome ≡ Refused n → meter_from b ≡ refusal no_record
-  from_refused n h =
-      let t = drop 56 b in
-      let refused : telegram_from t ≡ refusal no_record = told_refused (not (same t (telegram_bytes (telegram_in t)))) (telegram_in t) n
-      (sym (ap (λ (x : Reading). x.outcome) whole) ∙ h) in
-      ap (λ (a : Answer Telegram). follow a (λ (x : Telegram). recalled b (meter_in b x))) refused
+  pub from_refused : {x : Refusal} → r ≡ Err x → meter_from b ≡ refusal x.0
+  from_refused h =
+      ap (λ (a : Answer Telegram). follow a (λ (x : Telegram). recalled b (meter_in b x)))
+      (shown_refused (telegram_from (drop 56 b)) (sym whole ∙ h))
 
-  pub from_accepted : r.outcome ≡ Accepted → meter_from b ≡ recalled b (meter_in b r.telegram)
-  from_accepted h =
-      let taken : telegram_from (drop 56 b) ≡ reads (shown (telegram_from (drop 56 b))).telegram = told_accepted (telegram_from (drop 56 b))
-      (sym (ap (λ (x : Reading). x.outcome) whole) ∙ h) in
-      ap (λ (a : Answer Telegram). follow a (λ (x : Telegram). recalled b (meter_in b x))) (taken ∙ ap (λ (x : Reading). reads x.telegram) (sym whole))
+  module _ {t : Telegram} (h : r ≡ Ok t) where
+    read : telegram_from (drop 56 b) ≡ reads t
+    read = shown_ok (telegram_from (drop 56 b)) t (sym whole ∙ h)
 
-  -- and the template's own bytes are those of the record
-  pub from_known : r.outcome ≡ Accepted → telegram_bytes r.telegram ≡ drop 56 b
-  from_known h =
-      telegram_written (drop 56 b) r.telegram
-      (told_accepted (telegram_from (drop 56 b)) (sym (ap (λ (x : Reading). x.outcome) whole) ∙ h) ∙ ap (λ (x : Reading). reads x.telegram) (sym whole))
+    pub from_accepted : meter_from b ≡ recalled b (meter_in b t)
+    from_accepted = ap (λ (a : Answer Telegram). follow a (λ (x : Telegram). recalled b (meter_in b x))) read
+
+    -- and the template's own bytes are those of the record
+    pub from_known : telegram_bytes t ≡ drop 56 b
+    from_known = telegram_written (drop 56 b) t read

@@ -3,7 +3,7 @@ use lib.ListN.{drop, length-take}
 use mathlib.Core.Path.{◌≡◌, sym, ap, ◌∙◌}
 use native.Mathlib.Omega.{arith}
 use Rattle.meter_steps.specs.declared.Meter.{Meter}
-use Rattle.meter_steps.specs.Meters.{shown_setup}
+use Rattle.base_rules.specs.Shown.{shown}
 use Rattle.mbus_records.specs.Telegrams.{telegram_bytes}
 use Rattle.meter_record.specs.MeterRecords.{recalled}
 use Rattle.meter_record.proofs.Laws.Recalling.{template_in, recalled_other, recalled_unreached, recalled_same}
@@ -26,25 +26,25 @@ slice_bounds-is_same-end c =
 pub returns-then-other : goal.returns-then-other
 returns-then-other c =
     let b = c.args.b.now in
-    c.no_meter.ensures ∙ sym (ap shown_setup (recalled_other b c.meter_in-meter.result
+    sym (ap shown (recalled_other b c.meter_in-meter.result
     (behind (goal.at.returns-then-other c).After-meter_in-meter)
     c.front_bytes-again.ensures c.is_same-same.ensures (ap not c.if-other.true)))
-    ∙ ap (λ (m : Meter). shown_setup (recalled b m)) c.meter_in-meter.ensures
+    ∙ ap (λ (m : Meter). shown (recalled b m)) c.meter_in-meter.ensures
 
-pub returns-then-unreached : goal.returns-then-unreached
-returns-then-unreached c =
+pub returns-then-is_unreached : goal.returns-then-is_unreached
+returns-then-is_unreached c =
     let b = c.args.b.now in
-    c.no_meter-then-unreached.ensures ∙ sym (ap shown_setup (recalled_unreached b c.meter_in-meter.result
-    (behind (goal.at.returns-then-unreached c).After-meter_in-meter)
+    sym (ap shown (recalled_unreached b c.meter_in-meter.result
+    (behind (goal.at.returns-then-is_unreached c).After-meter_in-meter)
     c.front_bytes-again.ensures c.is_same-same.ensures
-    c.is_unreached-unreached.ensures (ap not c.if-other.false) c.if-unreached.true))
-    ∙ ap (λ (m : Meter). shown_setup (recalled b m)) c.meter_in-meter.ensures
+    c.is_unreached.ensures (ap not c.if-other.false) c.if-is_unreached.true))
+    ∙ ap (λ (m : Meter). shown (recalled b m)) c.meter_in-meter.ensures
 
 pub returns : goal.returns
 returns c =
     let b = c.args.b.now in
-    sym (ap shown_setup (recalled_same b c.meter_in-meter.result
+    sym (ap shown (recalled_same b c.meter_in-meter.result
     (behind (goal.at.returns c).After-meter_in-meter)
-    c.front_bytes-again.ensures c.is_same-same.ensures c.is_unreached-unreached.ensures
-    (ap not c.if-other.false) c.if-unreached.false))
-    ∙ ap (λ (m : Meter). shown_setup (recalled b m)) c.meter_in-meter.ensures
+    c.front_bytes-again.ensures c.is_same-same.ensures c.is_unreached.ensures
+    (ap not c.if-other.false) c.if-is_unreached.false))
+    ∙ ap (λ (m : Meter). shown (recalled b m)) c.meter_in-meter.ensures

@@ -28,7 +28,7 @@ use Rattle.mbus_rules.specs.TelegramSizes.{Sized}
 use Rattle.mbus_rules.specs.Writing.{entries_of, used_value, used_entry, wrong_value, wrong_entry, unwritten_header, repeats, wrong_data, wrong_for, unwritable}
 use Rattle.meter_template.specs.declared.Pair.{Pair}
 use Rattle.meter_template.specs.Templates.{is_data_kind, holds, lacks, unfit_template, value_count, total_in, pair_in, next_access, raised, counted}
-use Rattle.meter_template.specs.Templates.{filled_entry, filled, data_with, total_most, passes, overflows, plus, shown_sum}
+use Rattle.meter_template.specs.Templates.{filled_entry, filled, data_with, total_most, passes, overflows, plus}
 use Rattle.meter_template.proofs.Laws.Walks.{pass_fits}
 
 -- both totals are within the limit
@@ -255,10 +255,3 @@ raised_sized t z =
 
 pub data_sized : (own : ℕ) (p : Pair) (t : Telegram) → own < 256 → Sized t → Sized (data_with own p t)
 data_sized own p t small z = record { address = small; header = z.header; places = length-map t.entries (filled_entry p) ∙ z.places }
-
--- no two sums are shown as one
-pub shown_sum_same : (a b : Answer Pair) → shown_sum a ≡ shown_sum b → a ≡ b
-shown_sum_same (refusal m) (refusal n) e = cc
-shown_sum_same (refusal m) (reads q) e = cc
-shown_sum_same (reads p) (refusal n) e = cc
-shown_sum_same (reads p) (reads q) e = cc

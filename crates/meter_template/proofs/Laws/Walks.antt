@@ -1,7 +1,9 @@
 -- What the code leans on: walks over the entries of a template, where what is left gives the whole answer, and the test for 71.
 use Prim.Native.Nat.{ℕ, suc, ◌+◌, ◌-◌, ◌≤◌, ◌<◌}
-use mathlib.Core.Bool.{Bool, true, false}
-use mathlib.Core.List.{List, ◌++◌, map, append-nil}
+use mathlib.Core.Bool.{Bool, true, false, ◌||◌}
+use Rattle.std.specs.List.{list_any}
+use Rattle.base_rules.specs.Lists.{any}
+use mathlib.Core.List.{List, [], ◌∷◌, ◌++◌, map, append-nil}
 use mathlib.Core.Path.{◌≡◌, refl, sym, ap, ap₂, ◌∙◌}
 use native.Mathlib.Numerals.{add-one}
 use native.Mathlib.Omega.{arith}
@@ -63,3 +65,9 @@ sum_passes total amount h = go (ltb (total_most - total) amount) refl
     go : (b : Bool) → ltb (total_most - total) amount ≡ b → b ≡ passes total amount
     go true e = sym (lt-ltb total_most (total + amount) (omega (arith, ltb-true (total_most - total) amount e)))
     go false e = sym (le-ltb total_most (total + amount) (omega (arith, ltb-false (total_most - total) amount e)))
+
+-- whether some element passes the test, as the library says it
+pub some_listed : {A : Type 0} (test : A → Bool) (s : List A) → list_any test s ≡ any test s
+unfolding any
+some_listed test [] = refl
+some_listed test (x ∷ s) = ap (λ (b : Bool). test x || b) (some_listed test s)

@@ -2,12 +2,7 @@
 use Rattle.meter_template.specs.Templates.{total_in}
 use lib.ListN.{drop}
 use mathlib.Core.Path.{◌≡◌}
-use mathlib.Core.Path.{◌≡◌}
-use Prim.Native.Nat.{◌-◌}
 use Rattle.meter_template.proofs.total_in.Given as goal
 
-abbrev pub invariant-loop-i : goal.invariant-loop-i
-invariant-loop-i l = total_in l.quantity (drop l.i l.entries) ≡ total_in l.quantity l.entries
-
-abbrev pub decreases-loop-i : goal.decreases-loop-i
-decreases-loop-i l = 7 - l.i
+abbrev pub invariant-loop-e : goal.invariant-loop-e
+invariant-loop-e l = total_in l.quantity (drop l.e-index l.e-items) ≡ total_in l.quantity l.e-items

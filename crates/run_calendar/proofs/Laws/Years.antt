@@ -1,12 +1,11 @@
 -- The days of years: 365 each, and one more for each leap year, counted by divisions.
-use Prim.Native.Nat.{ℕ, zero, suc, ◌+◌, ◌*◌, ◌/◌, ◌%◌, ◌≤◌}
+use Prim.Native.Nat.{ℕ, zero, suc, ◌+◌, ◌*◌, ◌/◌, ◌%◌}
 use mathlib.Core.Bool.{Bool, true, false, cond, not, ◌&&◌, ◌||◌}
-use mathlib.Core.Path.{◌≡◌, refl, sym, ◌∙◌}
+use mathlib.Core.Path.{◌≡◌, refl}
 use native.Mathlib.Omega.{arith}
 use lib.Dec.{eqb}
 use borrow.Author.Tests.{eqb-true, eqb-false}
-use Rattle.base_calendar.specs.Months.{leap, days_in}
-use Rattle.run_calendar.specs.Days.{days_of_year, year_days, month_days}
+use Rattle.run_calendar.specs.Days.{days_of_year, year_days}
 
 -- the leap years among the first so many from 2000 on
 abbrev more : ℕ → ℕ

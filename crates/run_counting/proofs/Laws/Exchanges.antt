@@ -15,7 +15,8 @@ use Rattle.bench_clock.specs.Times.{late}
 use Rattle.exchange_replies.specs.Fits.{fits}
 use Rattle.exchange_steps.specs.declared.Exchange.{Exchange}
 use Rattle.exchange_steps.specs.declared.State.{State}
-use Rattle.exchange_steps.specs.Steps.{begun, waits, moved, failed, cause_of, after_line, is_well, ends_well, shown_step}
+use Rattle.base_rules.specs.Shown as answers
+use Rattle.exchange_steps.specs.Steps.{begun, waits, moved, failed, cause_of, after_line, is_well, ends_well}
 use Rattle.exchange_steps.specs.declared.Cause.TheVariants.{Silent}
 use Rattle.exchange_steps.specs.declared.State.TheVariants.{Well}
 use Rattle.exchange_steps.specs.Histories.{exchange_after}
@@ -40,7 +41,7 @@ ended_stays x w [] = refl
 ended_stays x w (k ∷ ks) = ap (λ (y : Exchange). told_rows y ks) (row_refused x w k (λ a. exchange_after x a ≡ x) refl refl) ∙ ended_stays x w ks
 
 ended_not_well : (x : Exchange) → waits x.state ≡ false → (k : Recorded) → ends_well_by x k ≡ false
-ended_not_well x w k = row_refused x w k (λ a. ends_well (shown_step a) ≡ false) refl refl
+ended_not_well x w k = row_refused x w k (λ a. ends_well (answers.shown a) ≡ false) refl refl
 
 -- ---- a read that was just sent
 

@@ -13,18 +13,18 @@ use Rattle.bench_clock.specs.Times.{late}
 use Rattle.exchange_replies.specs.Fits.{fits}
 use Rattle.base_rules.proofs.Laws.ListLaws.{any_append}
 use Rattle.bundle_check.specs.Records.{Recorded}
-use Rattle.run_counting.specs.declared.ear.Ear.{Ear}
-use Rattle.run_counting.specs.declared.ear.Ear.TheVariants.{Deaf, Open}
+use Rattle.run_counting.specs.declared.ear.Open.{Open}
+use Rattle.std.specs.Prelude.{Option, None, Some}
 use Rattle.run_counting.specs.declared.ear.Turn.{Turn}
 use Rattle.run_counting.specs.Counting.{is_sent, row_outline, looked, send_end, begins_from, counts_after, counts, onward, kept_if, numbers_from}
 use Rattle.run_counting.specs.Ears.{ear_opened, uncounted, heard_by, turn_of, passed_by}
 
 -- what is open after a send that is one, with whether a row that could decide was heard since
-abbrev open_for : Bool → Bool → Outline → ℕ → Ear
-open_for sent heard outline end = cond (sent && not heard) (ear_opened outline end) Deaf
+abbrev open_for : Bool → Bool → Outline → ℕ → Option Open
+open_for sent heard outline end = cond (sent && not heard) (ear_opened outline end) None
 
-abbrev pub ear_of : List Recorded → Ear
-ear_of [] = Deaf
+abbrev pub ear_of : List Recorded → Option Open
+ear_of [] = None
 ear_of (send ∷ since) = open_for (is_sent send) (any (begins_from (send_end send)) since) (row_outline send) (send_end send)
 
 -- One more row heard at t, over plain tests: `sent` that the send is one, `heard` that a row since could decide, `later` that this row

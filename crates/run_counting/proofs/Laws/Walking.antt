@@ -14,8 +14,8 @@ use Rattle.bundle_check.specs.Records.{Recorded, records_of, blank_record}
 use Rattle.bundle_check.proofs.Laws.Accepted.{accepted_sound, row_there}
 use Rattle.bundle_check.proofs.Laws.HoldingLaws.{record_for, records_held, length_held}
 use Rattle.bundle_check.proofs.Laws.BodyLaws.{few_rows}
-use Rattle.run_counting.specs.declared.ear.Ear.{Ear}
-use Rattle.run_counting.specs.declared.ear.Ear.TheVariants.{Deaf}
+use Rattle.run_counting.specs.declared.ear.Open.{Open}
+use Rattle.std.specs.Prelude.{Option, None}
 use Rattle.run_counting.specs.declared.ear.Turn.{Turn}
 use Rattle.run_counting.specs.Counting.{kept_if, numbers_from, numbers_of}
 use Rattle.run_counting.specs.Ears.{passed_by, row_in}
@@ -40,7 +40,7 @@ rows_from b i n e h =
 
 -- ---- the loop
 
-pub record Noted (b : List ℕ) (position n i : ℕ) (ear : Ear) (found : ℕ) (rows : List ℕ) : Type 0 where
+pub record Noted (b : List ℕ) (position n i : ℕ) (ear : Option Open) (found : ℕ) (rows : List ℕ) : Type 0 where
   pub accepted : check_of b ≡ reads n
   pub inside : i ≤ n
   pub few : found ≤ i
@@ -51,16 +51,16 @@ pub record Noted (b : List ℕ) (position n i : ℕ) (ear : Ear) (found : ℕ) (
   pub rest : drop found rows ≡ replicate (most_rows - found) 0
 
 module _ {b : List ℕ} {position n : ℕ} where
-  pub noted_none : check_of b ≡ reads n → Noted b position n 0 Deaf 0 (replicate most_rows 0)
+  pub noted_none : check_of b ≡ reads n → Noted b position n 0 None 0 (replicate most_rows 0)
   noted_none e = record { accepted = e; inside = zero-le; few = zero-le; whole = refl; stretch = []; hears = refl; so = refl; rest = refl }
 
-  module _ {i found : ℕ} {ear : Ear} {rows : List ℕ} {turn : Turn} (g : Noted b position n i ear found rows) (h : i < n)
+  module _ {i found : ℕ} {ear : Option Open} {rows : List ℕ} {turn : Turn} (g : Noted b position n i ear found rows) (h : i < n)
       (e : turn ≡ passed_by position ear (row_in b i)) where
     abbrev row : Recorded
     row = row_in b i
 
     next : Next position i g.stretch row (drop (suc i) (records_of b)) turn
-    next = next_row position i g.stretch row (drop (suc i) (records_of b)) turn (e ∙ ap (λ (x : Ear). passed_by position x row) g.hears)
+    next = next_row position i g.stretch row (drop (suc i) (records_of b)) turn (e ∙ ap (λ (x : Option Open). passed_by position x row) g.hears)
 
     on : (counts : Bool) → turn.counts ≡ counts
         → take found rows ++ kept_if counts i (numbers_from position (suc i) next.after (drop (suc i) (records_of b))) ≡ numbers_of position (records_of b)
@@ -100,7 +100,7 @@ module _ {b : List ℕ} {position n : ℕ} where
             drop-set-lt (found + 1) rows found i (omega arith) ∙ sym (drop-drop 1 found rows)
             ∙ ap (drop 1) (g.rest ∙ ap (λ (m : ℕ). replicate m 0) more)
 
-  pub noted_all : {i found : ℕ} {ear : Ear} {rows : List ℕ} → Noted b position n i ear found rows → n ≤ i → Numbers b position found rows
+  pub noted_all : {i found : ℕ} {ear : Option Open} {rows : List ℕ} → Noted b position n i ear found rows → n ≤ i → Numbers b position found rows
   unfolding numbers_from
   noted_all {i} {found} {ear} {rows} g h =
       let all : take found rows ≡ numbers_of position (records_of b) =

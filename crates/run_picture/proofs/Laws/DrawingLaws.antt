@@ -2,21 +2,18 @@
 use Prim.Native.Nat.{ℕ, zero, suc, ◌+◌, ◌-◌, ◌≤◌, ◌<◌}
 use mathlib.Core.Bool.{true, false}
 use mathlib.Core.List.{List, [], ◌∷◌, ◌++◌}
-use mathlib.Core.Path.{◌≡◌, refl, sym, ap, ◌∙◌}
+use mathlib.Core.Path.{◌≡◌, refl}
 use native.Mathlib.Omega.{arith}
 use lib.Dec.{eqb}
-use lib.ListN.{length, get_or, get_or-map}
+use lib.ListN.{get_or}
 use Rattle.bundle_check.specs.Records.{Recorded}
-use Rattle.run_verdicts.specs.declared.Ruling.{Ruling}
 use Rattle.run_verdicts.specs.declared.Verdict.{Verdict}
-use Rattle.run_verdicts.specs.declared.Verdict.TheVariants.{Wake, Unasked}
-use Rattle.run_verdicts.specs.Shown.{ruling}
+use Rattle.run_verdicts.specs.declared.Verdict.TheVariants.{Unasked}
 use Rattle.run_picture.specs.declared.pace.Pace.{Pace}
 use Rattle.run_picture.specs.declared.page.Page.{Page}
 use Rattle.run_picture.specs.Timing.{paced, unpaced, cut_at}
 use Rattle.run_picture.specs.Elements.{mark_text, pause_text, row_drawn}
-use Rattle.run_picture.specs.Pictures.{pauses_drawn, marks_drawn, ruled, rows_drawn, lane_drawn, lanes_drawn}
-use Rattle.base_rules.proofs.Laws.ListLaws.{get_d_inside}
+use Rattle.run_picture.specs.Pictures.{pauses_drawn, marks_drawn, rows_drawn, lane_drawn, lanes_drawn}
 
 -- ---- a row more
 module _ (s : Pace) {next : Pace} {k : Recorded} {ks rest : List Recorded} (r : rest ≡ k ∷ ks) (e : next ≡ paced s k) where
@@ -65,10 +62,3 @@ module _ (p : Page) (vs : List Verdict) (ks : List Recorded) (y : ℕ) {position
   pub lanes_none : positions ≡ [] → lanes_drawn p vs ks y positions ≡ []
   unfolding lanes_drawn
   lanes_none e = rw e
-
--- ---- verdicts in their places
-
-pub ruled_at : (rulings : List Ruling) (i : ℕ) → i < length rulings → (get_or rulings i (ruling Wake)).verdict ≡ get_or (ruled rulings) i Unasked
-ruled_at rulings i h =
-    ap (λ (r : Ruling). r.verdict) (get_d_inside rulings i (ruling Wake) (ruling Unasked) h)
-    ∙ sym (get_or-map (λ (r : Ruling). r.verdict) rulings i (ruling Unasked))

@@ -1,15 +1,15 @@
 -- The longest picture: how many bytes each of its parts has at most, each number with ten digits, and that all of them together are under `picture_most`.
 use Prim.Native.Nat.{ℕ, zero, suc, ◌+◌, ◌-◌, ◌*◌, ◌/◌, ◌%◌, ◌^◌, ◌≤◌, ◌<◌, max, zero-le}
-use mathlib.Core.Bool.{Bool, true, false, cond, ◌||◌}
+use mathlib.Core.Bool.{Bool, true, false, cond}
 use mathlib.Core.List.{List, [], ◌∷◌, ◌++◌}
 use mathlib.Core.Path.{◌≡◌, refl}
 use native.Mathlib.Omega.{arith}
-use borrow.Author.Tests.{ltb-true, ltb-false, leb-true, leb-false, eqb-true, eqb-false}
+use borrow.Author.Tests.{ltb-true, leb-true, leb-false, eqb-true}
 use lib.Dec.{eqb, ltb, leb}
 use lib.ListN.{length, get_or, drop, length-append}
 use Rattle.base_rules.specs.Answers.{reads}
 use Rattle.base_rules.proofs.Laws.ByteLaws.{EachByte}
-use Rattle.base_rules.proofs.Laws.Tests.{neither, by_test}
+use Rattle.base_rules.proofs.Laws.Tests.{neither}
 use Rattle.base_characters.specs.Characters.{chars}
 use Rattle.base_characters.proofs.Laws.PairLaws.{length_characters}
 use Rattle.bundle_rows.specs.Lists.{All}
@@ -19,7 +19,7 @@ use Rattle.bundle_check.specs.Bundles.{check_of}
 use Rattle.bundle_check.specs.Records.{Recorded, records_of, record_time}
 use Rattle.bundle_check.specs.Walks.{some_wrong, end_of}
 use Rattle.bundle_check.proofs.Laws.Accepted.{accepted_sound}
-use Rattle.bundle_check.proofs.Laws.RecordLaws.{wrong_record, Timely, Holdable}
+use Rattle.bundle_check.proofs.Laws.RecordLaws.{wrong_record, Timely}
 use Rattle.bundle_check.proofs.Laws.HoldingLaws.{holdable_held, timely_held}
 use Rattle.run_counting.specs.Counting.{kept_if}
 use Rattle.run_listing.specs.Listings.{word_of}

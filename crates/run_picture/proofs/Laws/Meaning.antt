@@ -24,20 +24,20 @@ use Rattle.run_verdicts.specs.declared.Verdict.TheVariants.{Unasked}
 use Rattle.run_verdicts.specs.Verdicts.{verdicts_of}
 use Rattle.run_picture.specs.declared.pace.Pace.{Pace}
 use Rattle.run_picture.specs.declared.page.Page.{Page}
-use Rattle.run_picture.specs.declared.Drawn.TheVariants.{Written}
+use Rattle.std.specs.Prelude.{Ok}
 use Rattle.run_picture.specs.Timing.{paced, unpaced}
 use Rattle.run_picture.specs.Pages.{has_rows, used_from, page_of}
 use Rattle.text_filling.specs.Texts.{text}
 use Rattle.run_picture.specs.Elements.{pauses_open_text, lane_text, row_drawn}
 use Rattle.run_picture.specs.Pictures.{Inside, head_text, pauses_drawn, marks_drawn, rows_drawn, lane_drawn, lanes_drawn, picture_with, picture_of}
 use Rattle.run_picture.specs.Shown.{drawn_in, Draws}
-use Rattle.run_picture.proofs.Laws.Shown.{shown_drawn_same}
+use Rattle.base_rules.proofs.Laws.AnswerLaws.{shown_same}
 
 -- ---- where it stands
-pub picture_stands : (b out : List ℕ) {n : ℕ} {after : List ℕ} → Draws b out (Written n) after
+pub picture_stands : (b out : List ℕ) {n : ℕ} {after : List ℕ} → Draws b out (Ok n) after
     → (n ≡ length (picture_of b)) × (n ≤ length out) × (take n after ≡ picture_of b) × (drop n after ≡ drop n out)
 picture_stands b out {n} {after} d =
-    go (check_of b) (ltb (length out) (length (picture_of b))) refl refl (shown_drawn_same (drawn_in b out) (reads n) (sym d.answer))
+    go (check_of b) (ltb (length out) (length (picture_of b))) refl refl (shown_same (drawn_in b out) (reads n) (sym d.answer))
   where
     whole : List ℕ
     whole = picture_of b

@@ -11,7 +11,6 @@ use Rattle.mbus_rules.specs.declared.Kind.TheVariants as kinds
 use Rattle.mbus_rules.specs.declared.Telegram.{Telegram}
 use Rattle.mbus_rules.specs.declared.Outline.{Outline}
 use Rattle.mbus_rules.specs.declared.Outline.TheVariants as outlines
-use Rattle.mbus_rules.specs.Lines.{read_line}
 use Rattle.mbus_rules.specs.Outlines.{outline_of, outlined}
 use Rattle.bench_clock.specs.declared.Clock.{Clock}
 use Rattle.bench_clock.specs.Times.{earlier}

@@ -10,13 +10,13 @@ use Rattle.run_picture.proofs.has_room.Goals as goal
 
 pub returns-then-room-ge-PICTURE_MOST : goal.returns-then-room-ge-PICTURE_MOST
 returns-then-room-ge-PICTURE_MOST c =
-    let b = c.args.bundle.now in
-    let most = longest b c.args.count (λ i. omega (arith, c.type_inv.bundle i)) c.requires.0 in
-    sym (le-leb (length (picture_of b)) c.args.room (omega (arith, most, c.if-room-ge-PICTURE_MOST.true)))
+    let s = c.args.scene.now in
+    let most = longest s.bundle.now s.count s.known.bytes s.known.accepted in
+    sym (le-leb (length (picture_of s.bundle.now)) c.args.room (omega (arith, most, c.if-room-ge-PICTURE_MOST.true)))
 
 pub returns : goal.returns
 returns c =
-    let b = c.args.bundle.now in
-    let rows = c.requires.1 in
-    let same = picture_drawn b c.requires.0 rows.judged rows.sizes in
-    measured b c.requires.0 c.args.room (λ i. omega (arith, c.type_inv.bundle i)) (rw same at c.put_picture-size.ensures.count)
+    let s = c.args.scene.now in
+    let k = s.known in
+    let same = picture_drawn s.bundle.now k.accepted k.judged k.sizes in
+    measured s.bundle.now k.accepted c.args.room k.bytes (rw same at c.put_picture-size.ensures.count)

@@ -1,5 +1,4 @@
 -- `run_repeats::earlier_of` meets its contract: the loop leaves at the first row that gives the same reading.
-use Prim.Native.Nat.{◌-◌}
 use native.Mathlib.Omega.{arith}
 use Rattle.bundle_check.proofs.Laws.BodyLaws.{few_rows}
 use Rattle.run_repeats.proofs.Laws.Looking.{looking_none, looking_unmarked, looking-hit, looking-miss, looking_all}
@@ -13,17 +12,11 @@ pub bounds-marks-i : goal.bounds-marks-i
 bounds-marks-i c =
     omega (arith, c.requires.1, few_rows c.args.bundle.now c.args.count c.requires.0.accepted)
 
-pub returns-then-mark-eq0 : goal.returns-then-mark-eq0
-returns-then-mark-eq0 c =
-    looking_unmarked c.requires.0 c.requires.1 c.if-mark-eq0.true
+pub returns-then-marks-i-eq0 : goal.returns-then-marks-i-eq0
+returns-then-marks-i-eq0 c = looking_unmarked c.requires.0 c.requires.1 c.if-marks-i-eq0.true
 
 pub loop-j-init : goal.loop-j-init
-loop-j-init c =
-    looking_none
-
-pub is_same_reading-same-requires : goal.is_same_reading-same-requires
-is_same_reading-same-requires c =
-    (c.requires.0, omega (arith, c.loop-j-test.true, c.requires.1), c.requires.1, c.if-mark-eq0.false)
+loop-j-init c = looking_none
 
 pub overflow_cast-result : goal.overflow_cast-result
 overflow_cast-result c =
@@ -33,14 +26,13 @@ pub overflow_add-result : goal.overflow_add-result
 overflow_add-result c =
     omega (arith, c.loop-j-test.true, c.requires.1, few_rows c.args.bundle.now c.args.count c.requires.0.accepted)
 
-pub returns-then-same : goal.returns-then-same
-returns-then-same c =
-    looking-hit c.requires.0 c.requires.1 c.loop-j.invariant c.loop-j-test.true c.is_same_reading-same.ensures c.if-same.true
+pub returns-then-is_same_reading : goal.returns-then-is_same_reading
+returns-then-is_same_reading c =
+    looking-hit c.requires.0 c.requires.1 c.loop-j.invariant c.loop-j-test.true c.is_same_reading.ensures c.if-is_same_reading.true
 
 pub loop-j-preserved : goal.loop-j-preserved
 loop-j-preserved c =
-    looking-miss c.requires.0 c.requires.1 c.loop-j.invariant c.loop-j-test.true c.is_same_reading-same.ensures c.if-same.false
+    looking-miss c.requires.0 c.requires.1 c.loop-j.invariant c.loop-j-test.true c.is_same_reading.ensures c.if-is_same_reading.false
 
 pub returns : goal.returns
-returns c =
-    looking_all c.requires.0 c.requires.1 c.loop-j.invariant c.loop-j-test.false
+returns c = looking_all c.requires.0 c.requires.1 c.loop-j.invariant c.loop-j-test.false

@@ -1,27 +1,28 @@
 -- `run_repeats::earlier_rows` meets its contract: each way out by what the check answered.
 use mathlib.Core.Path.{refl}
-use Rattle.run_counting.proofs.Laws.Answering.{check_refused, check_reads}
-use Rattle.run_repeats.proofs.Laws.Answering.{earlier_refused, earlier_short, earlier_told}
 use borrow.Author.Tests.{le-ltb, lt-ltb}
+use Rattle.std.proofs.Common.{rules}
+use Rattle.run_counting.proofs.Laws.Answering.{check_reads}
+use Rattle.run_repeats.specs.Repeats.{earlier_into}
+use Rattle.run_repeats.proofs.Laws.Answering.{earlier_short, earlier_told}
 use Rattle.run_repeats.proofs.earlier_rows.Goals as goal
 
-pub returns-then-short : goal.returns-then-short
-returns-then-short c =
+pub returns-in_err-count : goal.returns-in_err-count
+unfolding earlier_into
+returns-in_err-count c = search rules
+
+pub returns-then-rows-count : goal.returns-then-rows-count
+returns-then-rows-count c =
     let a = c.args in
-    earlier_short a.bundle.now a.rows.now (check_reads a.bundle.now c.check.ensures c.in-Rows.is) (lt-ltb _ _ c.if-short.true)
+    earlier_short a.bundle.now a.rows.now (check_reads a.bundle.now c.check.ensures c.in_ok-count.was) (lt-ltb _ _ c.if-rows-count.true)
 
 pub mark_rows-requires : goal.mark_rows-requires
 mark_rows-requires c =
     let a = c.args in
-    (check_reads a.bundle.now c.check.ensures c.in-Rows.is, refl)
+    (check_reads a.bundle.now c.check.ensures c.in_ok-count.was, refl)
 
-pub returns-in-Refused : goal.returns-in-Refused
-returns-in-Refused c =
+pub returns : goal.returns
+returns c =
     let a = c.args in
-    earlier_refused a.bundle.now a.rows.now (check_refused a.bundle.now c.check.ensures c.in-Refused.is)
-
-pub returns-else-short : goal.returns-else-short
-returns-else-short c =
-    let a = c.args in
-    let e = check_reads a.bundle.now c.check.ensures c.in-Rows.is in
-    earlier_told a.bundle.now a.rows.now e (le-ltb _ _ c.if-short.false) c.put_earlier.ensures
+    let e = check_reads a.bundle.now c.check.ensures c.in_ok-count.was in
+    earlier_told a.bundle.now a.rows.now e (le-ltb _ _ c.if-rows-count.false) c.put_earlier.ensures

@@ -1,20 +1,20 @@
 -- The error by C.1 from figures: what the tests leave of them, and that a volume over 10^9 ml may stand as 10^9 + 1.
-use Prim.Native.Nat.{ℕ, ◌+◌, ◌*◌, ◌-◌, ◌≤◌, ◌<◌, min}
+use Prim.Native.Nat.{ℕ, ◌*◌, ◌-◌, ◌≤◌, ◌<◌}
 use mathlib.Core.Bool.{Bool, true, false, ◌||◌}
 use mathlib.Core.List.{[], ◌∷◌}
-use mathlib.Core.Path.{◌≡◌, refl, sym, ap, ap₂, ◌∙◌}
+use mathlib.Core.Path.{◌≡◌, refl, ap₂, ◌∙◌}
 use native.Mathlib.Nat.{mul-le-mul, mul-pos}
 use native.Mathlib.Omega.{arith}
 use borrow.Author.Tests.{ltb-true, ltb-false, lt-ltb, le-ltb, eqb-false, ne_eqb, leb-false}
 use lib.Dec.{ltb, leb, eqb}
 use lib.IntN.{ℤ, pos, ◌-ℤ◌, ◌*ℤ◌}
-use Rattle.base_rules.specs.Answers.{Answer, reads, refusal}
+use Rattle.base_rules.specs.Answers.{reads}
 use Rattle.base_rules.proofs.Laws.Tests.{neither, passed}
 use Rattle.base_rules.proofs.Laws.AnswerLaws.{reads_same}
 use Rattle.base_rules.proofs.Laws.TestLaws.{none}
 use Rattle.base_numbers.specs.Rounding.{Nearest}
 use Rattle.bench_indication.proofs.Laws.Errors.{tenths_nearest}
-use Rattle.bench_indication.specs.Errors.{tenths, rise_most, rise_error_of}
+use Rattle.bench_indication.specs.Errors.{rise_most, rise_error_of}
 use Rattle.run_replay.specs.Errors.{volume_most, volume_over, interval_most, wrong_interval, error_by_c1, error_of_figures}
 use Rattle.run_replay.specs.Shown.{capped_volume}
 

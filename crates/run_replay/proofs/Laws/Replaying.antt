@@ -1,21 +1,18 @@
 -- The replay of a bundle, by what is answered of the rows that count.
-use Prim.Native.Nat.{ℕ, zero, suc, ◌+◌, ◌-◌, ◌/◌, ◌≤◌, ◌<◌}
+use Prim.Native.Nat.{ℕ, suc, ◌-◌, ◌≤◌, ◌<◌}
 use mathlib.Core.Bool.{Bool, true, false}
-use mathlib.Core.List.{List, [], ◌∷◌, ◌++◌, map}
-use mathlib.Core.Path.{◌≡◌, refl, sym, ap, ap₂, ◌∙◌}
-use native.Mathlib.Nat.{not-suc-le-zero}
+use mathlib.Core.List.{List, [], ◌∷◌, map}
+use mathlib.Core.Path.{◌≡◌, refl, sym, ap, ◌∙◌}
 use native.Mathlib.Omega.{arith}
-use lib.IntN.{ℤ}
-use lib.ListN.{length, get_or, length-map, get_or-append}
-use Rattle.base_rules.specs.Answers.{Answer, reads, refusal, refuse, follow}
-use Rattle.base_characters.specs.Characters.{chars}
-use Rattle.base_rules.specs.declared.Outcome.TheVariants as outcomes
+use lib.ListN.{length, get_or, get_or-append}
+use Rattle.base_rules.specs.Answers.{Answer, reads, refusal, refuse, within}
+use Rattle.std.specs.Prelude.{Ok, Err}
+use Rattle.base_rules.specs.declared.refusals.Refusal.{Refusal}
+use Rattle.base_rules.specs.Shown.{shown}
+use Rattle.base_rules.proofs.Laws.AnswerLaws.{reads_same, shown_ok, shown_refused, within_refused, within_read}
 use Rattle.base_rules.proofs.Laws.TestLaws.{not_refused}
-use Rattle.bench_indication.specs.declared.Indication.{Indication}
-use Rattle.bench_indication.specs.declared.Indication.TheVariants as indications
-use Rattle.bench_indication.specs.Errors.{shown_indication}
 use Rattle.bundle_rows.specs.Fields.{wrong_position}
-use Rattle.bundle_rows.specs.Rows.{unchecked_row, unchecked_characters, body_in}
+use Rattle.bundle_rows.specs.Rows.{unchecked_characters}
 use Rattle.bundle_rows.proofs.Laws.CharacterLaws.{characters_whole}
 use Rattle.bundle_check.specs.Bundles.{check_of}
 use Rattle.bundle_check.specs.Records.{Recorded, records_of, blank_record}
@@ -23,15 +20,13 @@ use Rattle.bundle_check.proofs.Laws.BodyLaws.{few_rows, unchecked_right}
 use Rattle.run_calendar.specs.Days.{interval}
 use Rattle.run_counting.specs.declared.Counted.{Counted}
 use Rattle.run_counting.specs.Counting.{looked_at, answers_of, numbers_of, counting_of}
-use Rattle.run_counting.specs.Shown.{padded, shown_counting}
+use Rattle.run_counting.specs.Shown.{padded, numbered}
 use Rattle.run_counting.proofs.Laws.Numbering.{few_numbers, rows_are, numbers_below}
 use Rattle.run_counting.proofs.Laws.Walking.{record_there, length_records}
 use Rattle.run_replay.specs.declared.figures.Figures.{Figures}
-use Rattle.run_replay.specs.declared.Replayed.{Replayed}
-use Rattle.run_replay.specs.declared.Replayed.TheVariants.{Error, Refused}
 use Rattle.run_replay.specs.Errors.{error_of_figures, error_between, row_tells, last_of, error_from, replay_of}
-use Rattle.run_replay.specs.Figures.{line_tells, Told}
-use Rattle.run_replay.specs.Shown.{shown_told, first_number, last_number, shown_replay}
+use Rattle.run_replay.specs.Figures.{line_tells}
+use Rattle.run_replay.specs.Shown.{shown_told, first_number, last_number}
 use Rattle.run_replay.proofs.Laws.Figuring.{capped_same}
 
 -- ---- the first and the last of a list
@@ -89,37 +84,27 @@ module _ (b : List ℕ) (position s1 s2 elapsed : ℕ) where
     pub count : c.count ≡ length numbers
     pub holds : c.rows ≡ padded numbers
 
-  module _ {c : Counted} (e : c ≡ shown_counting (counting_of b position)) where
-    pub replay_refused : {n : ℕ} → c.outcome ≡ outcomes.Refused n → Refused n ≡ shown_replay numbers (replay_of b position s1 s2 elapsed)
-    replay_refused {n} o = go (counting_of b position) refl
-      where
-        go : (a : Answer (List ℕ)) → counting_of b position ≡ a → Refused n ≡ shown_replay numbers (replay_of b position s1 s2 elapsed)
-        go (refusal m) f =
-            let same : outcomes.Refused m ≡ outcomes.Refused n = sym (ap (λ (x : Counted). x.outcome) (e ∙ ap shown_counting f)) ∙ o in
-            let number : m ≡ n = cc in
-            rw (refused_both m f, number)
-        go (reads l) f =
-            let same : outcomes.Accepted ≡ outcomes.Refused n = sym (ap (λ (x : Counted). x.outcome) (e ∙ ap shown_counting f)) ∙ o in
-            let z : ◌≡◌ {A = ℕ} 0 1 = cc in
-            absurd (omega arith)
+  pub replay_refused : {r : Refusal} → Err r ≡ shown (within numbered (counting_of b position)) → replay_of b position s1 s2 elapsed ≡ refusal r.0
+  replay_refused {r} e =
+      refused_both r.0 (within_refused numbered (counting_of b position) (shown_refused (within numbered (counting_of b position)) (sym e)))
 
-    pub replay_counts : c.outcome ≡ outcomes.Accepted → Counts c
-    unfolding counting_of
-    replay_counts o = go (check_of b) refl (wrong_position position) refl
-      where
-        never : (n : ℕ) → counting_of b position ≡ refusal n → Counts c
-        never n f =
-            let same : outcomes.Refused n ≡ outcomes.Accepted = sym (ap (λ (x : Counted). x.outcome) (e ∙ ap shown_counting f)) ∙ o in
-            let z : ◌≡◌ {A = ℕ} 0 1 = cc in
-            absurd (omega arith)
+  pub replay_counts : {c : Counted} → Ok c ≡ shown (within numbered (counting_of b position)) → Counts c
+  unfolding counting_of
+  replay_counts {c} e = go (check_of b) refl (wrong_position position) refl
+    where
+      held : (l : List ℕ) × (counting_of b position ≡ reads l) × (numbered l ≡ c)
+      held = within_read numbered (counting_of b position) (shown_ok (within numbered (counting_of b position)) c (sym e))
 
-        go : (a : Answer ℕ) → check_of b ≡ a → (t : Bool) → wrong_position position ≡ t → Counts c
-        go (refusal n) f t w = never n (rw f)
-        go (reads n) f true w = never 34 (rw (f, w))
-        go (reads n) f false w =
-            let all : counting_of b position ≡ reads numbers = rw (f, w) in
-            let same : c ≡ shown_counting (reads numbers) = e ∙ ap shown_counting all in
-            record { rows = n; checked = f; right = w; count = ap (λ (x : Counted). x.count) same; holds = ap (λ (x : Counted). x.rows) same }
+      never : (n : ℕ) → counting_of b position ≡ refusal n → Counts c
+      never n f = absurd (not_refused (sym f ∙ held.1))
+
+      go : (a : Answer ℕ) → check_of b ≡ a → (t : Bool) → wrong_position position ≡ t → Counts c
+      go (refusal n) f t w = never n (rw f)
+      go (reads n) f true w = never 34 (rw (f, w))
+      go (reads n) f false w =
+          let all : counting_of b position ≡ reads numbers = rw (f, w) in
+          let same : c ≡ numbered numbers = sym held.2 ∙ ap numbered (reads_same (sym held.1 ∙ all)) in
+          record { rows = n; checked = f; right = w; count = ap (λ (x : Counted). x.count) same; holds = ap (λ (x : Counted). x.rows) same }
 
   -- ---- and then
 
@@ -131,8 +116,8 @@ module _ (b : List ℕ) (position s1 s2 elapsed : ℕ) where
     unfolding replay_of
     replays = rw (k.checked, k.right, rows_are position (records_of b))
 
-    pub replay_few : c.count < 2 → Refused 63 ≡ shown_replay numbers (replay_of b position s1 s2 elapsed)
-    replay_few h = ap (shown_replay numbers) (sym (replays ∙ few_answers row s1 s2 elapsed numbers (omega (arith, k.count))))
+    pub replay_few : c.count < 2 → replay_of b position s1 s2 elapsed ≡ refusal 63
+    replay_few h = replays ∙ few_answers row s1 s2 elapsed numbers (omega (arith, k.count))
 
     pub count_fits : c.count ≤ 512
     count_fits =
@@ -172,17 +157,6 @@ module _ (b : List ℕ) (position s1 s2 elapsed : ℕ) where
         (capped_same (row_tells (row (first_number numbers))).volume (row_tells (row (last_number numbers))).volume s1 s2 elapsed
         (interval (row_tells (row (first_number numbers))).time (row_tells (row (last_number numbers))).time)
         ∙ sym (replays ∙ two_answers row s1 s2 elapsed numbers (omega (arith, k.count))))
-
--- what the code's answer of the error tells
-pub error_refused : (a : Answer ℤ) {i : Indication} {n : ℕ} (numbers : List ℕ) → i ≡ shown_indication a → i ≡ indications.Refused n
-    → Refused n ≡ shown_replay numbers a
-error_refused (refusal m) numbers e f = cc
-error_refused (reads x) numbers e f = let z : ◌≡◌ {A = ℕ} 0 1 = cc in absurd (omega arith)
-
-pub error_told : (a : Answer ℤ) {i : Indication} {x y : ℤ} (numbers : List ℕ) {first last : ℕ} → i ≡ shown_indication a → i ≡ indications.Error x
-    → first ≡ first_number numbers → last ≡ last_number numbers → y ≡ x → Error first last y ≡ shown_replay numbers a
-error_told (refusal m) numbers e f g h q = let z : ◌≡◌ {A = ℕ} 0 1 = cc in absurd (omega arith)
-error_told (reads x) numbers e f g h q = cc
 
 -- ---- what a replay rests on
 

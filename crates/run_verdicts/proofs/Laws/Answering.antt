@@ -9,9 +9,11 @@ use borrow.Author.Tests.{ltb-false}
 use lib.Dec.{ltb}
 use lib.ListN.{length, get_or, take, length-map, get_or-map}
 use lib.Seq.{take-suc, take_all}
-use Rattle.base_rules.specs.Answers.{reads, refusal}
+use Rattle.base_rules.specs.Answers.{reads, refusal, within}
 use Rattle.base_rules.specs.Lists.{any}
-use Rattle.base_rules.specs.declared.Outcome.TheVariants.{Accepted}
+use Rattle.std.specs.Prelude.{Result, Ok}
+use Rattle.base_rules.specs.declared.refusals.Refusal.{Refusal}
+use Rattle.base_rules.specs.Shown.{shown}
 use Rattle.base_rules.proofs.Laws.ListLaws.{Gathered, gathered_none, gathered_next, gathered_all}
 use Rattle.base_rules.proofs.Laws.Tests.{neither, none_at}
 use Rattle.bundle_rows.specs.declared.Row.{Row}
@@ -31,10 +33,11 @@ use Rattle.bundle_columns.proofs.Laws.Turning.{length_kept, kept_at}
 use Rattle.run_counting.specs.Ears.{row_with}
 use Rattle.run_counting.proofs.Laws.Walking.{record_there, length_records}
 use Rattle.run_verdicts.specs.declared.kept.Faults.{Faults}
+use Rattle.run_verdicts.specs.declared.Verdicts.{Verdicts}
 use Rattle.run_verdicts.specs.Verdicts.{verdicts_of}
 use Rattle.run_verdicts.specs.Answering.{verdicts_in, body_past, records_kept, verdicts_kept}
 use Rattle.run_verdicts.specs.Walking.{or_blank, row_from, record_from, firsts, records_from, Walkable, Tried, faults_of}
-use Rattle.run_verdicts.specs.Shown.{in_places, shown_verdicts}
+use Rattle.run_verdicts.specs.Shown.{in_places, listed}
 use Rattle.run_verdicts.proofs.Laws.Telling.{length_verdicts}
 
 -- ---- the first values of a function that gives the elements of a list are the list
@@ -67,11 +70,12 @@ module _ (b : List ℕ) where
       inside = λ i h. unchecked_inside b i n e h;
     }
 
-    pub in_reads : record { outcome = Accepted; count = n; rulings = in_places (verdicts_of (records_from false b b n)) } ≡ shown_verdicts (verdicts_in b)
+    pub in_reads : ◌≡◌ {A = Result Verdicts Refusal} (Ok (record { count = n; verdicts = in_places (verdicts_of (records_from false b b n)) }))
+        (shown (within listed (verdicts_in b)))
     unfolding verdicts_in
     in_reads =
         let size : n ≡ length (verdicts_of (records_of b)) = sym (length_verdicts [] (records_of b) ∙ length_records b n e) in
-        rw (e, rows_in) (ap (λ (m : ℕ). record { outcome = Accepted; count = m; rulings = in_places (verdicts_of (records_of b)) }) size)
+        rw (e, rows_in) (λ i. Ok (record { count = size i; verdicts = in_places (verdicts_of (records_of b)) }))
 
 -- ---- columns
 
@@ -143,13 +147,14 @@ module _ {lists : List ℕ} {n : ℕ} (t : Tried lists n) where
           (λ i h. ap (λ (r : Row). row_with r (body_in b r)) (kept_there i h) ∙ sym (get_or-map (λ r. row_with r (body_in b r)) rows i blank_row))
 
       pub kept-reads :
-          record { outcome = Accepted; count = n; rulings = in_places (verdicts_of (records_from true lists b n)) } ≡ shown_verdicts (verdicts_kept lists b)
+          ◌≡◌ {A = Result Verdicts Refusal} (Ok (record { count = n; verdicts = in_places (verdicts_of (records_from true lists b n)) }))
+          (shown (within listed (verdicts_kept lists b)))
       unfolding verdicts_kept
       kept-reads =
           let whole : n ≡ length (verdicts_of (records_kept (columns_in lists) b)) =
           sym (length_verdicts [] (records_kept (columns_in lists) b) ∙ length-map rows (λ r. row_with r (body_in b r)) ∙ size) in
           rw (t.from, fields, places, rows_kept)
-          (ap (λ (m : ℕ). record { outcome = Accepted; count = m; rulings = in_places (verdicts_of (records_kept (columns_in lists) b)) }) whole)
+          (λ i. Ok (record { count = whole i; verdicts = in_places (verdicts_of (records_kept (columns_in lists) b)) }))
 
 pub kept_refused : (lists b : List ℕ) {k : ℕ} → columns_from lists ≡ refusal k → refusal k ≡ verdicts_kept lists b
 unfolding verdicts_kept

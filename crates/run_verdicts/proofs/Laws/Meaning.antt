@@ -28,7 +28,8 @@ use Rattle.exchange_steps.specs.declared.Cause.TheVariants.{Silent}
 use Rattle.exchange_steps.specs.declared.Exchange.{Exchange}
 use Rattle.exchange_steps.specs.declared.State.TheVariants.{Resend, Well, Failed}
 use Rattle.exchange_steps.specs.Steps.{most_sends, failed, cause_of, after_line, waits, asks_resend, asks_for, begun, sending, moved, past}
-use Rattle.exchange_steps.specs.Steps.{heard_in, sent_in, resent_in, heard_on, is_well, ends_well, shown_step}
+use Rattle.base_rules.specs.Shown as answers
+use Rattle.exchange_steps.specs.Steps.{heard_in, sent_in, resent_in, heard_on, is_well, ends_well}
 use Rattle.exchange_steps.specs.Histories.{exchange_after, stands}
 use Rattle.exchange_steps.proofs.Laws.Steps.{by_cond, step_cases, step_taken, uncalled, asks_only, resent_same}
 use Rattle.bundle_check.specs.Records.{Recorded}
@@ -389,12 +390,12 @@ line_well request sends silent outline = go silent (fits request outline) (ltb s
     go false false false = refl
 
 well_so : (request : Request) (end t : ℕ) (now : Outline) (heard : Bool) (b : Slot) → Outstanding request end heard b
-    → is_counts (heard_verdict b now (row_clock t)) ≡ ends_well (shown_step (heard_on b now (row_clock t)))
+    → is_counts (heard_verdict b now (row_clock t)) ≡ ends_well (answers.shown (heard_on b now (row_clock t)))
 well_so request end t now true b o =
     let x = o.x in
     let next = moved x (after_line x.request x.sends (past x (row_clock t)) now) (row_clock t) in
     rw (o.is, o.waiting) (go (ltb t x.began.0)
-    ∙ ap (λ (a : Answer Exchange). ends_well (shown_step a)) (sym (uncalled x (row_clock t) false next refl)))
+    ∙ ap (λ (a : Answer Exchange). ends_well (answers.shown a)) (sym (uncalled x (row_clock t) false next refl)))
   where
     go : (early : Bool) → is_counts (cond early LeftOver Second) ≡ false
     go true = refl
@@ -411,7 +412,7 @@ well_so request end t now false b o =
     (λ f. let before = leb-false end t f in rw (o.is, lt-ltb t x.began.0 (omega arith), lt-ltb t x.last.0 (omega arith)))
 
 pub ends_well_lem : (before : List Recorded) (k : Recorded) → is_wake (chars k.body) ≡ false → is_sent k ≡ false
-    → is_counts (verdict_behind before k) ≡ ends_well (shown_step (heard_on (slot_of k.position before) (row_outline k) (row_clock k.time)))
+    → is_counts (verdict_behind before k) ≡ ends_well (answers.shown (heard_on (slot_of k.position before) (row_outline k) (row_clock k.time)))
 unfolding verdict_after
 ends_well_lem before k w h = rw (w, h) (go (stretch_of k.position before) (stands_so k.position before))
   where
@@ -419,11 +420,11 @@ ends_well_lem before k w h = rw (w, h) (go (stretch_of k.position before) (stand
     b = slot_of k.position before
 
     Well-so : Type 0
-    Well-so = is_counts (heard_verdict b (row_outline k) (row_clock k.time)) ≡ ends_well (shown_step (heard_on b (row_outline k) (row_clock k.time)))
+    Well-so = is_counts (heard_verdict b (row_outline k) (row_clock k.time)) ≡ ends_well (answers.shown (heard_on b (row_outline k) (row_clock k.time)))
 
     idle : b ≡ Idle → Well-so
     idle e = ap (λ (c : Slot). is_counts (heard_verdict c (row_outline k) (row_clock k.time))) e
-        ∙ sym (ap (λ (c : Slot). ends_well (shown_step (heard_on c (row_outline k) (row_clock k.time)))) e)
+        ∙ sym (ap (λ (c : Slot). ends_well (answers.shown (heard_on c (row_outline k) (row_clock k.time)))) e)
 
     by : (sent : Bool) (outline : Outline) (end : ℕ) (heard : Bool) → Behind sent outline end heard b → Well-so
     by false outline end heard s = idle s

@@ -1,21 +1,29 @@
 -- `run_verdicts::verdicts_in` meets its contract: each way out by what the check answered.
-use mathlib.Core.Path.{ap, ◌∙◌}
-use Rattle.run_counting.proofs.Laws.Answering.{check_refused, check_reads}
-use Rattle.run_verdicts.specs.Shown.{shown_verdicts}
+use mathlib.Core.List.{List}
+use mathlib.Core.Path.{sym, ap, ◌∙◌}
+use Rattle.std.proofs.lemmas.Result.{err_from_is_err_and}
+use Rattle.base_rules.specs.Answers.{Answer, within}
+use Rattle.base_rules.specs.Shown.{shown}
+use Rattle.base_rules.proofs.Laws.AnswerLaws.{shown_ok, shown_refused}
+use Rattle.bundle_check.specs.Bundles.{check_of}
+use Rattle.run_verdicts.specs.declared.Verdict.{Verdict}
+use Rattle.run_verdicts.specs.Shown.{listed}
 use Rattle.run_verdicts.proofs.Laws.Answering.{in_refused, walkable_in, in_reads}
 use Rattle.run_verdicts.proofs.verdicts_in.Goals as goal
 
-pub walk-requires : goal.walk-requires
-walk-requires c =
+pub returns-in_err-count : goal.returns-in_err-count
+returns-in_err-count c =
     let b = c.args.bundle.now in
-    walkable_in b (check_reads b c.check.ensures c.in-Rows.is)
+    let p = err_from_is_err_and c.from_residual.result c.from_residual.ensures.1 in
+    rw (p.1, p.2)
+    (ap (λ (a : Answer (List Verdict)). shown (within listed a)) (in_refused b (shown_refused (check_of b) (sym c.in_err-count.ensures))))
 
-pub returns-in-Rows : goal.returns-in-Rows
-returns-in-Rows c =
+pub walk-verdicts-requires : goal.walk-verdicts-requires
+walk-verdicts-requires c =
     let b = c.args.bundle.now in
-    rw c.walk.ensures (in_reads b (check_reads b c.check.ensures c.in-Rows.is))
+    walkable_in b (shown_ok (check_of b) _ (sym c.in_ok-count.ensures))
 
-pub returns-in-Refused : goal.returns-in-Refused
-returns-in-Refused c =
+pub returns : goal.returns
+returns c =
     let b = c.args.bundle.now in
-    c.refused.ensures ∙ ap shown_verdicts (in_refused b (check_refused b c.check.ensures c.in-Refused.is))
+    rw c.walk-verdicts.ensures (in_reads b (shown_ok (check_of b) _ (sym c.in_ok-count.ensures)))

@@ -1,15 +1,17 @@
 -- Along the bytes: the loop's invariant, from the first place to the end.
 use Prim.Native.Nat.{ℕ, suc, ◌+◌, ◌-◌, ◌≤◌, ◌<◌, zero-le}
 use mathlib.Core.List.{List, [], ◌∷◌}
-use mathlib.Core.Path.{◌≡◌, sym, ap, ap₂, ◌∙◌}
+use mathlib.Core.Path.{◌≡◌, sym, ap, ap₂, subst, ◌∙◌}
 use native.Mathlib.Nat.{zero-add, add_assoc, sub-zero}
 use native.Mathlib.Numerals.{add-one}
 use native.Mathlib.Omega.{arith}
-use lib.ListN.{length, get_or, drop, set, length-drop}
+use lib.ListN.{length, get_or, take, drop, set, length-drop}
+use Rattle.std.proofs.Common.{take_all}
 use lib.Seq.{drop-drop, drop-cons}
 use Rattle.base_lent.proofs.Laws.Copying.{Copied, copied_none, copied_next, copied_length, copied_all}
-use Rattle.serial_marks.specs.Unmarking.{first, Unmarking, unmarked_in, Unmarks}
-use Rattle.serial_marks.specs.declared.First.TheVariants.{Finished, Unfinished}
+use Rattle.serial_marks.specs.Unmarking.{whole, first, Unmarking, unmarked_in, Unmarks}
+use Rattle.std.specs.Prelude.{Option, Some, None}
+use Rattle.serial_marks.specs.declared.Whole.{Whole}
 use Rattle.serial_marks.proofs.Laws.FirstLaws.{first_on}
 use Rattle.serial_marks.proofs.Laws.UnmarkingLaws.{nothing, after, stop, step, no_room, within_both}
 
@@ -29,6 +31,13 @@ along_none bytes d =
       count = rw (sub-zero, zero-add);
     }
 
+-- the bytes from a place on, as the code cuts them out
+behind : (s : List ℕ) (used : ℕ) → take (length s - used) (drop used s) ≡ drop used s
+behind s used = take_all (length s - used) (drop used s) (omega (arith, length-drop used s))
+
+pub behind_first : (s : List ℕ) (used : ℕ) {f : Option Whole} → f ≡ first (take (length s - used) (drop used s)) → f ≡ first (drop used s)
+behind_first s used e = e ∙ ap first (behind s used)
+
 -- the head and the tail of what is left of a list
 cut : (s : List ℕ) (m c : ℕ) (t : List ℕ) → drop m s ≡ c ∷ t → (m < length s) × (c ≡ get_or s m 0) × (drop (m + 1) s ≡ t)
 cut s m c t e =
@@ -40,7 +49,7 @@ module _ {bytes d : List ℕ} {used made : ℕ} {now : List ℕ} (g : Along byte
   pub along_length : length now ≡ length d
   along_length = copied_length g.stored
 
-  module _ {n c : ℕ} (e : first (drop used bytes) ≡ Finished n c) where
+  module _ {n c : ℕ} (e : first (drop used bytes) ≡ Some (whole n c)) where
     pub along_inside : used + n ≤ length bytes
     along_inside =
         let size : n ≤ length (drop used bytes) = (first_on (drop used bytes) [] e).1.inside in
@@ -76,10 +85,14 @@ module _ {bytes d : List ℕ} {used made : ℕ} {now : List ℕ} (g : Along byte
         left = copied_all g.stored past;
       }
 
-  pub along_full : length now ≤ made → Unmarks bytes d now (record { used = used; made = made })
+  -- there is no room for more
+  pub along_full : length d ≤ made → Unmarks bytes d now (record { used = used; made = length now })
   along_full h =
-      let none : length d - made ≡ 0 = omega (arith, along_length) in
-      along_end (rw none (no_room (drop used bytes)))
+      let none : length d - made ≡ 0 = omega arith in
+      let most : length (unmarked_in (length d) bytes).characters ≤ length d = (within_both (length d) bytes).places in
+      let inside : made ≤ length (unmarked_in (length d) bytes).characters = g.stored.inside in
+      let full : made ≡ length now = omega (arith, along_length) in
+      subst (λ (m : ℕ). Unmarks bytes d now (record { used = used; made = m })) full (along_end (rw none (no_room (drop used bytes))))
 
-  pub along_stop : first (drop used bytes) ≡ Unfinished → Unmarks bytes d now (record { used = used; made = made })
+  pub along_stop : first (drop used bytes) ≡ None → Unmarks bytes d now (record { used = used; made = made })
   along_stop e = along_end (stop (length d - made) (drop used bytes) e)

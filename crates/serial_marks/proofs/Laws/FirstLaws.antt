@@ -14,9 +14,9 @@ use Rattle.base_characters.specs.Characters.{byte_of, odd, carrier}
 use Rattle.base_rules.proofs.Laws.Tests.{by_test}
 use Rattle.base_characters.proofs.Laws.CharacterLaws.{carrier_byte}
 use Rattle.serial_marks.specs.Marks.{port_marked, wronged, Beginning}
-use Rattle.serial_marks.specs.Unmarking.{first, after_mark, after_zero}
-use Rattle.serial_marks.specs.declared.First.{First}
-use Rattle.serial_marks.specs.declared.First.TheVariants.{Finished, Unfinished}
+use Rattle.serial_marks.specs.Unmarking.{whole, first, after_mark, after_zero}
+use Rattle.std.specs.Prelude.{Option, Some, None}
+use Rattle.serial_marks.specs.declared.Whole.{Whole}
 use Rattle.serial_marks.proofs.Laws.MarkLaws.{wronged_back}
 
 -- the byte at a place of the bytes, as the code looks at it, and what comes behind it
@@ -24,12 +24,12 @@ pub here : (s : List ℕ) (at : ℕ) → at < length s → drop at s ≡ get_or 
 here s at h = rw (add-one, drop-cons s at 0)
 
 -- either way it can go
-by_case : {X : Type 0} (f : First) → (f ≡ Unfinished → X) → ((n c : ℕ) → f ≡ Finished n c → X) → X
-by_case Unfinished stop whole = stop refl
-by_case (Finished n c) stop whole = whole n c refl
+by_case : {X : Type 0} (f : Option Whole) → (f ≡ None → X) → ((n c : ℕ) → f ≡ Some (whole n c) → X) → X
+by_case None stop go = stop refl
+by_case (Some w) stop go = go w.size w.character refl
 
-pub by_first : {X : Type 0} (s : List ℕ) → (first s ≡ Unfinished → X) → ((n c : ℕ) → first s ≡ Finished n c → X) → X
-by_first s stop whole = by_case (first s) stop whole
+pub by_first : {X : Type 0} (s : List ℕ) → (first s ≡ None → X) → ((n c : ℕ) → first s ≡ Some (whole n c) → X) → X
+by_first s stop go = by_case (first s) stop go
 
 -- ---- a whole character is some of the bytes, and what comes behind them does not change it
 
@@ -37,11 +37,11 @@ pub record Sized (n : ℕ) (s : List ℕ) : Type 0 where
   pub some : 0 < n
   pub inside : n ≤ length s
 
-Known : First → First → List ℕ → Type 0
-Known Unfinished g s = Unit {0}
-Known (Finished n c) g s = (g ≡ Finished n c) × Sized n s
+Known : Option Whole → Option Whole → List ℕ → Type 0
+Known None g s = Unit {0}
+Known (Some w) g s = (g ≡ Some w) × Sized w.size s
 
-known_either : (s : List ℕ) (t : Bool) (a a' b b' : First) → Known a a' s → Known b b' s → Known (cond t a b) (cond t a' b') s
+known_either : (s : List ℕ) (t : Bool) (a a' b b' : Option Whole) → Known a a' s → Known b b' s → Known (cond t a b) (cond t a' b') s
 known_either s true a a' b b' ha hb = ha
 known_either s false a a' b b' ha hb = hb
 
@@ -54,32 +54,32 @@ mark_known : (x : ℕ) (s q : List ℕ) → Known (after_mark s) (after_mark (s 
 unfolding Known
 mark_known x [] q = tt
 mark_known x (b ∷ s) q =
-    known_either (x ∷ b ∷ s) (eqb b 0xFF) (Finished 2 (carrier 0xFF)) (Finished 2 (carrier 0xFF)) (cond (eqb b 0x00) (after_zero s) (Finished 1 (wronged 0xFF)))
-    (cond (eqb b 0x00) (after_zero (s ++ q)) (Finished 1 (wronged 0xFF))) (refl, record { some = omega arith; inside = omega arith })
-    (known_either (x ∷ b ∷ s) (eqb b 0x00) (after_zero s) (after_zero (s ++ q)) (Finished 1 (wronged 0xFF)) (Finished 1 (wronged 0xFF)) (zero_known x b s q)
+    known_either (x ∷ b ∷ s) (eqb b 0xFF) (Some (whole 2 (carrier 0xFF))) (Some (whole 2 (carrier 0xFF))) (cond (eqb b 0x00) (after_zero s) (Some (whole 1 (wronged 0xFF))))
+    (cond (eqb b 0x00) (after_zero (s ++ q)) (Some (whole 1 (wronged 0xFF)))) (refl, record { some = omega arith; inside = omega arith })
+    (known_either (x ∷ b ∷ s) (eqb b 0x00) (after_zero s) (after_zero (s ++ q)) (Some (whole 1 (wronged 0xFF))) (Some (whole 1 (wronged 0xFF))) (zero_known x b s q)
     (refl, record { some = omega arith; inside = omega arith }))
 
 first_known : (s q : List ℕ) → Known (first s) (first (s ++ q)) s
 unfolding Known
 first_known [] q = tt
 first_known (b ∷ s) q =
-    known_either (b ∷ s) (eqb b 0xFF) (after_mark s) (after_mark (s ++ q)) (Finished 1 (carrier b)) (Finished 1 (carrier b)) (mark_known b s q)
+    known_either (b ∷ s) (eqb b 0xFF) (after_mark s) (after_mark (s ++ q)) (Some (whole 1 (carrier b))) (Some (whole 1 (carrier b))) (mark_known b s q)
     (refl, record { some = omega arith; inside = omega arith })
 
-pub first_on : (s q : List ℕ) {n c : ℕ} → first s ≡ Finished n c → (first (s ++ q) ≡ Finished n c) × Sized n s
+pub first_on : (s q : List ℕ) {n c : ℕ} → first s ≡ Some (whole n c) → (first (s ++ q) ≡ Some (whole n c)) × Sized n s
 unfolding Known
 first_on s q e = rw e at (first_known s q)
 
 -- ---- what is unfinished is the beginning of a mark
 
-one_case : (f : First) (n c : ℕ) → f ≡ Finished n c → f ≡ Unfinished → ⊥
+one_case : (f : Option Whole) (n c : ℕ) → f ≡ Some (whole n c) → f ≡ None → ⊥
 one_case f n c e u = let z : ◌≡◌ {A = ℕ} 0 1 = cc in omega arith
 
-zero_left : (s : List ℕ) → after_zero s ≡ Unfinished → s ≡ []
+zero_left : (s : List ℕ) → after_zero s ≡ None → s ≡ []
 zero_left [] e = refl
 zero_left (b ∷ s) e = absurd (one_case (after_zero (b ∷ s)) 3 (wronged b) refl e)
 
-mark_left : (s : List ℕ) → after_mark s ≡ Unfinished → Beginning (0xFF ∷ s)
+mark_left : (s : List ℕ) → after_mark s ≡ None → Beginning (0xFF ∷ s)
 mark_left [] e = inr (inl refl)
 mark_left (b ∷ s) e =
     by_test (eqb b 0xFF) (λ m. absurd (one_case (after_mark (b ∷ s)) 2 (carrier 0xFF) (rw m) e))
@@ -87,7 +87,7 @@ mark_left (b ∷ s) e =
     (λ z. inr (inr (rw (eqb-true b 0x00 z, zero_left s (rw (m, z) at e)) refl)))
     (λ z. absurd (one_case (after_mark (b ∷ s)) 1 (wronged 0xFF) (rw (m, z)) e)))
 
-pub first_left : (s : List ℕ) → first s ≡ Unfinished → Beginning s
+pub first_left : (s : List ℕ) → first s ≡ None → Beginning s
 first_left [] e = inl refl
 first_left (b ∷ s) e =
     by_test (eqb b 0xFF) (λ m. rw (eqb-true b 0xFF m) (mark_left s (rw m at e)))
@@ -95,9 +95,9 @@ first_left (b ∷ s) e =
 
 -- ---- a character that was marked stands first as itself
 
-pub first_marked : (c : ℕ) → c ≤ 511 → (s : List ℕ) → first (port_marked c ++ s) ≡ Finished (length (port_marked c)) c
+pub first_marked : (c : ℕ) → c ≤ 511 → (s : List ℕ) → first (port_marked c ++ s) ≡ Some (whole (length (port_marked c)) c)
 first_marked c h s =
-    by_test (odd c) (λ o. rw o (ap (Finished 3) (wronged_back c h o)))
+    by_test (odd c) (λ o. rw o (ap (λ (x : ℕ). Some (whole 3 x)) (wronged_back c h o)))
     (λ o. by_test (eqb (byte_of c) 0xFF)
-    (λ m. rw (o, m) (ap (Finished 2) (ap carrier (eqb-true 0xFF (byte_of c) (rw (eqb-true (byte_of c) 0xFF m))) ∙ carrier_byte c h o)))
-    (λ m. rw (o, m) (rw m (ap (Finished 1) (carrier_byte c h o)))))
+    (λ m. rw (o, m) (ap (λ (x : ℕ). Some (whole 2 x)) (ap carrier (eqb-true 0xFF (byte_of c) (rw (eqb-true (byte_of c) 0xFF m))) ∙ carrier_byte c h o)))
+    (λ m. rw (o, m) (rw m (ap (λ (x : ℕ). Some (whole 1 x)) (carrier_byte c h o)))))

@@ -1,5 +1,5 @@
 -- Laws of the characters that are made of bytes: each is 0 to 511, and those of even parity were passed on as such.
-use Prim.Native.Nat.{ℕ, zero, suc, ◌+◌, ◌<◌}
+use Prim.Native.Nat.{ℕ, zero, suc, ◌<◌}
 use mathlib.Core.Bool.{Bool, true, false, cond, ◌||◌, true≢false}
 use mathlib.Core.List.{List, [], ◌∷◌, ◌++◌}
 use mathlib.Core.Path.{◌≡◌, refl, sym, ap₂, ◌∙◌}
@@ -16,9 +16,9 @@ use Rattle.base_characters.proofs.Laws.CharacterLaws.{byte_carrier, carrier_even
 use Rattle.base_rules.proofs.Laws.Tests.{neither}
 use Rattle.base_lent.specs.Pieces.{pieces}
 use Rattle.serial_marks.specs.Marks.{port_marked, wronged}
-use Rattle.serial_marks.specs.Unmarking.{first, after_mark, after_zero, Unmarking, unmarked_in}
-use Rattle.serial_marks.specs.declared.First.{First}
-use Rattle.serial_marks.specs.declared.First.TheVariants.{Finished, Unfinished}
+use Rattle.serial_marks.specs.Unmarking.{whole, first, after_mark, after_zero, Unmarking, unmarked_in}
+use Rattle.std.specs.Prelude.{Option, Some, None}
+use Rattle.serial_marks.specs.declared.Whole.{Whole}
 use Rattle.serial_marks.proofs.Laws.MarkLaws.{wronged_odd, wronged_in_range}
 use Rattle.serial_marks.proofs.Laws.FirstLaws.{by_first}
 use Rattle.serial_marks.proofs.Laws.UnmarkingLaws.{stop, step, no_room}
@@ -28,11 +28,11 @@ record Sound (n c : ℕ) (s : List ℕ) : Type 0 where
   range : over c ≡ false
   passed : odd c ≡ false → take n s ≡ port_marked c
 
-Right : First → List ℕ → Type 0
-Right Unfinished s = Unit {0}
-Right (Finished n c) s = Sound n c s
+Right : Option Whole → List ℕ → Type 0
+Right None s = Unit {0}
+Right (Some w) s = Sound w.size w.character s
 
-right_either : (s : List ℕ) (t : Bool) (a b : First) → (t ≡ true → Right a s) → (t ≡ false → Right b s) → Right (cond t a b) s
+right_either : (s : List ℕ) (t : Bool) (a b : Option Whole) → (t ≡ true → Right a s) → (t ≡ false → Right b s) → Right (cond t a b) s
 right_either s true a b ha hb = ha refl
 right_either s false a b ha hb = hb refl
 
@@ -57,22 +57,22 @@ mark_right : (x : ℕ) (s : List ℕ) → x ≡ 0xFF → Bytes s → Right (afte
 unfolding Right
 mark_right x [] e h = tt
 mark_right x (b ∷ s) e h =
-    right_either (x ∷ b ∷ s) (eqb b 0xFF) (Finished 2 (carrier 0xFF)) (cond (eqb b 0x00) (after_zero s) (Finished 1 (wronged 0xFF)))
+    right_either (x ∷ b ∷ s) (eqb b 0xFF) (Some (whole 2 (carrier 0xFF))) (cond (eqb b 0x00) (after_zero s) (Some (whole 1 (wronged 0xFF))))
     (λ m. record {
       range = carrier_in_range 0xFF (lit< tt);
       passed = λ o. ap₂ (λ (p q : ℕ). p ∷ q ∷ []) e (eqb-true b 0xFF m) ∙ sym ff_marked;
     })
-    (λ m. right_either (x ∷ b ∷ s) (eqb b 0x00) (after_zero s) (Finished 1 (wronged 0xFF)) (λ z. zero_right x b s h.1)
+    (λ m. right_either (x ∷ b ∷ s) (eqb b 0x00) (after_zero s) (Some (whole 1 (wronged 0xFF))) (λ z. zero_right x b s h.1)
     (λ z. wrong_sound 1 0xFF (x ∷ b ∷ s) (lit< tt)))
 
 first_right : (s : List ℕ) → Bytes s → Right (first s) s
 unfolding Right
 first_right [] h = tt
 first_right (b ∷ s) h =
-    right_either (b ∷ s) (eqb b 0xFF) (after_mark s) (Finished 1 (carrier b)) (λ m. mark_right b s (eqb-true b 0xFF m) h.1)
+    right_either (b ∷ s) (eqb b 0xFF) (after_mark s) (Some (whole 1 (carrier b))) (λ m. mark_right b s (eqb-true b 0xFF m) h.1)
     (λ m. record { range = carrier_in_range b h.0; passed = λ o. sym (plain_marked b h.0 m) })
 
-first_sound : (s : List ℕ) → Bytes s → {n c : ℕ} → first s ≡ Finished n c → Sound n c s
+first_sound : (s : List ℕ) → Bytes s → {n c : ℕ} → first s ≡ Some (whole n c) → Sound n c s
 unfolding Right
 first_sound s h e = rw e at (first_right s h)
 

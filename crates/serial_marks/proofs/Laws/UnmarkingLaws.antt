@@ -14,8 +14,8 @@ use Rattle.base_characters.specs.Characters.{over}
 use Rattle.base_rules.proofs.Laws.Tests.{neither}
 use Rattle.base_lent.specs.Pieces.{pieces}
 use Rattle.serial_marks.specs.Marks.{port_marked, Beginning}
-use Rattle.serial_marks.specs.Unmarking.{first, Unmarking, unmarked_in}
-use Rattle.serial_marks.specs.declared.First.TheVariants.{Finished, Unfinished}
+use Rattle.serial_marks.specs.Unmarking.{whole, first, Unmarking, unmarked_in}
+use Rattle.std.specs.Prelude.{Some, None}
 use Rattle.serial_marks.proofs.Laws.FirstLaws.{by_first, first_on, first_left, first_marked}
 
 abbrev pub nothing : Unmarking
@@ -34,12 +34,12 @@ after_after m n cs ds u =
 
 -- ---- both ways a step can go
 
-pub stop : (room : ℕ) (s : List ℕ) → first s ≡ Unfinished → unmarked_in room s ≡ nothing
+pub stop : (room : ℕ) (s : List ℕ) → first s ≡ None → unmarked_in room s ≡ nothing
 unfolding unmarked_in
 stop zero s e = refl
 stop (suc room) s e = rw e
 
-pub step : (room : ℕ) (s : List ℕ) {n c : ℕ} → first s ≡ Finished n c → unmarked_in (suc room) s ≡ after n (c ∷ []) (unmarked_in room (drop n s))
+pub step : (room : ℕ) (s : List ℕ) {n c : ℕ} → first s ≡ Some (whole n c) → unmarked_in (suc room) s ≡ after n (c ∷ []) (unmarked_in room (drop n s))
 unfolding unmarked_in
 step room s e = rw e
 
@@ -87,10 +87,10 @@ in_two (suc room) k s q =
     let more : suc (length u.characters) + k ≡ suc (length u.characters + k) = omega arith in
     let behind : drop n (s ++ q) ≡ drop n s ++ q = drop-append-le n s q inside in
     let rest : drop u.used (drop n s) ≡ drop (n + u.used) s = drop-drop u.used n s in
-    let whole : unmarked_in (suc (length u.characters + k)) (s ++ q) ≡ after n (c ∷ []) (unmarked_in (length u.characters + k) (drop n s ++ q)) =
+    let all : unmarked_in (suc (length u.characters + k)) (s ++ q) ≡ after n (c ∷ []) (unmarked_in (length u.characters + k) (drop n s ++ q)) =
     step (length u.characters + k) (s ++ q) on.0 ∙ ap (λ (l : List ℕ). after n (c ∷ []) (unmarked_in (length u.characters + k) l)) behind in
     rw (step room s e, more)
-    (whole
+    (all
     ∙ ap (after n (c ∷ [])) (in_two room k (drop n s) q)
     ∙ after_after n u.used (c ∷ []) u.characters (unmarked_in k (drop u.used (drop n s) ++ q))
     ∙ ap (λ (l : List ℕ). after (n + u.used) (c ∷ u.characters) (unmarked_in k (l ++ q))) rest))
@@ -115,7 +115,7 @@ full_room room s h =
     ⊎_elim (λ full. inl (drop_of_length-le s {i = (unmarked_in room s).used} (omega arith))) (λ begun. begun) (what_is_left room s)
 
 -- and of an unfinished mark nothing is made
-unfinished : (s : List ℕ) → Beginning s → first s ≡ Unfinished
+unfinished : (s : List ℕ) → Beginning s → first s ≡ None
 unfinished s b = ⊎_elim (λ e. rw e) (λ r. ⊎_elim (λ e. rw e) (λ e. rw e) r) b
 
 pub none_of_beginning : (k : ℕ) (s : List ℕ) → Beginning s → unmarked_in k s ≡ nothing
@@ -132,12 +132,12 @@ marked_on (c ∷ cs) h k q =
     let small : c ≤ 511 = ltb-false 511 c both.0 in
     let rest : List ℕ = pieces port_marked cs in
     let more : suc (length cs) + k ≡ suc (length cs + k) = omega arith in
-    let whole : unmarked_in (suc (length cs + k)) (port_marked c ++ (rest ++ q))
+    let all : unmarked_in (suc (length cs + k)) (port_marked c ++ (rest ++ q))
     ≡ after (length (port_marked c)) (c ∷ []) (unmarked_in (length cs + k) (rest ++ q)) =
     step (length cs + k) (port_marked c ++ (rest ++ q)) (first_marked c small (rest ++ q))
     ∙ ap (λ (l : List ℕ). after (length (port_marked c)) (c ∷ []) (unmarked_in (length cs + k) l)) (drop-append_seam (port_marked c) (rest ++ q)) in
     ap₂ unmarked_in more (append_assoc (port_marked c) rest q)
-    ∙ whole
+    ∙ all
     ∙ ap (after (length (port_marked c)) (c ∷ [])) (marked_on cs both.1 k q)
     ∙ after_after (length (port_marked c)) (length rest) (c ∷ []) cs (unmarked_in k q)
     ∙ ap (λ (n : ℕ). after n (c ∷ cs) (unmarked_in k q)) (sym (length-append (port_marked c) rest))

@@ -1,8 +1,7 @@
 -- `serial_marks::unmark` meets its contract: the loop goes along the bytes, a whole character at a time.
-use Prim.Native.Nat.{◌-◌}
 use mathlib.Core.Path.{sym, ◌∙◌}
 use native.Mathlib.Omega.{arith}
-use Rattle.serial_marks.proofs.Laws.Along.{along_none, along_length, along_inside, along_next, along_full, along_stop}
+use Rattle.serial_marks.proofs.Laws.Along.{along_none, along_length, along_inside, along_next, along_full, along_stop, behind_first}
 use Rattle.serial_marks.proofs.unmark.Goals as goal
 
 pub loop-made-init : goal.loop-made-init
@@ -14,7 +13,7 @@ shape_of-characters-in_default c =
 
 pub returns-in_default : goal.returns-in_default
 returns-in_default c =
-    along_stop c.loop-made.invariant (sym c.first_at-next.ensures ∙ c.in_default.is)
+    along_stop c.loop-made.invariant (sym (behind_first c.args.bytes.now c.loop-made.used c.first_of.ensures) ∙ c.in_default.is)
 
 pub offset_bounds-characters-made : goal.offset_bounds-characters-made
 offset_bounds-characters-made c =
@@ -25,7 +24,7 @@ overflow_add-used c =
     omega (
       arith,
       along_inside c.loop-made.invariant
-          (sym c.first_at-next.ensures ∙ c.in-Finished.is),
+          (sym (behind_first c.args.bytes.now c.loop-made.used c.first_of.ensures) ∙ c.in-Some.is),
     )
 
 pub loop-made-smaller : goal.loop-made-smaller
@@ -34,7 +33,7 @@ loop-made-smaller c =
 
 pub loop-made-preserved : goal.loop-made-preserved
 loop-made-preserved c =
-    along_next c.loop-made.invariant (sym c.first_at-next.ensures ∙ c.in-Finished.is)
+    along_next c.loop-made.invariant (sym (behind_first c.args.bytes.now c.loop-made.used c.first_of.ensures) ∙ c.in-Some.is)
     (omega (arith, along_length c.loop-made.invariant))
 
 pub shape_of-characters : goal.shape_of-characters

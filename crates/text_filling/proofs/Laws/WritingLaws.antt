@@ -1,14 +1,14 @@
 -- Laws of `specs/Putting`: texts put one behind the other.
-use Prim.Native.Nat.{ℕ, zero, suc, ◌+◌, ◌≤◌, ◌<◌, min}
+use Prim.Native.Nat.{ℕ, suc, ◌+◌, ◌-◌, ◌≤◌, ◌<◌, min}
 use mathlib.Core.Bool.{true, false}
-use mathlib.Core.List.{List, [], ◌∷◌, ◌++◌}
+use mathlib.Core.List.{List, [], ◌∷◌, ◌++◌, append_assoc}
 use mathlib.Core.Path.{◌≡◌, refl, sym, ap, ◌∙◌}
 use native.Mathlib.Nat.{add-zero}
 use native.Mathlib.Numerals.{add-one}
 use native.Mathlib.Omega.{arith}
 use lib.Dec.{leb, eqb}
-use lib.ListN.{length, get_or, take, drop, set, length-set, length-append, drop_of_length-le}
-use lib.Seq.{sets, sets-eq, length-sets, length-take-le, take_at, set_out, drop-cons, get_or-drop, drop-drop}
+use lib.ListN.{length, get_or, take, drop, set, length-append, drop_of_length-le, take-append-drop}
+use lib.Seq.{sets, sets-eq, length-sets, length-take-le, take_at, take_all, set_out, drop-cons, get_or-drop, drop-drop}
 use borrow.Author.Tests.{leb-true, leb-false}
 use Rattle.text_filling.specs.Decimals.{decimal}
 use Rattle.text_filling.specs.Holes.{filled_with}
@@ -65,9 +65,33 @@ four room v w x y = two room v (three (rw (writes_length v) room) w x y)
 pub nothing : {b : List ℕ} {at : ℕ} → at ≤ 18446744073709551615 → PutAt [] b at at b
 nothing {b} {at} h = record { holds = refl; count = omega (arith, add-zero at) }
 
--- one byte, where there is room and where there is none
-pub one_past : {b : List ℕ} {at r : ℕ} (x : ℕ) → length b ≤ at → r ≡ tallied (at + 1) → PutAt (x ∷ []) b at r b
-one_past {b} {at} x h e = record { holds = sym (sets_past (x ∷ []) b at h); count = e }
+-- nothing where there is no room
+pub put_past : {b t : List ℕ} {at r : ℕ} → length b ≤ at → r ≡ tallied (at + length t) → PutAt t b at r b
+put_past {b} {t} {at} h e = record { holds = sym (sets_past t b at h); count = e }
+
+-- and else what has room, copied at once
+pub put_cut : {b t c s : List ℕ} {at k n r : ℕ} → at < length b → k ≡ min (length t) (length b - at) → n ≡ k → s ≡ take k t
+    → c ≡ take at b ++ (s ++ drop n (drop at b)) → r ≡ tallied (at + length t) → PutAt t b at r c
+put_cut {b} {t} {c} {s} {at} {k} {n} {r} h ek en es ec er = record { holds = ec ∙ sym (first ∙ there); count = er }
+  where
+    few : length (take k t) ≡ k
+    few = length-take-le k t (omega arith)
+
+    there : sets b at (take k t) ≡ take at b ++ (s ++ drop n (drop at b))
+    there =
+        sets-eq (take k t) b at (omega (arith, few))
+        ∙ rw (few, es, en, drop-drop k at b) (append_assoc (take at b) (take k t) (drop (at + k) b))
+
+    first : sets b at t ≡ sets b at (take k t)
+    first = go (leb (length t) k) refl
+      where
+        go : (all : _) → leb (length t) k ≡ all → sets b at t ≡ sets b at (take k t)
+        go true e = rw (take_all k t (leb-true (length t) k e)) refl
+        go false e =
+            let g : k < length t = leb-false (length t) k e in
+            let past : length (sets b at (take k t)) ≤ at + k = rw length-sets (omega arith) in
+            ap (sets b at) (sym (take-append-drop k t)) ∙ sym (sets_join (take k t) (drop k t) b at)
+            ∙ rw few (sets_past (drop k t) (sets b at (take k t)) (at + k) past)
 
 -- A loop, or a run of calls, that puts a text: what is left of it gives the whole.
 pub record Left (text before : List ℕ) (at : ℕ) (rest : List ℕ) (next : ℕ) (out : List ℕ) : Type 0 where

@@ -1,36 +1,30 @@
 -- `text_filling::fill` meets its contract: what is left of the text, with the numbers that are left, gives the whole.
-use borrow.Author.Tests.{eq-eqb, ne_eqb}
-use Prim.Native.Nat.{◌-◌}
-use native.Mathlib.Omega.{arith}
-use borrow.Author.Rules.{rules}
-use lib.ListN.{drop}
+use Rattle.std.proofs.Common.{drop, arith, eq-eqb, ne_eqb, rules}
 use Rattle.text_filling.proofs.Laws.WritingLaws.{left_all, left_next, left_none, filled_with_hole, filled_with_byte, filled_with_end}
+use Rattle.text_filling.proofs.fill.Goals.{then-hole, else-hole}
 use Rattle.text_filling.proofs.fill.Goals as goal
 
-pub loop-i-init : goal.loop-i-init
-loop-i-init c = (search rules, search rules, left_all (search rules) (search rules))
+pub loop-byte-init : goal.loop-byte-init
+loop-byte-init c = (search rules, left_all (search rules) (search rules))
 
-pub loop-i-preserved-then-hole : goal.loop-i-preserved-then-hole
-loop-i-preserved-then-hole c =
+pub loop-byte-preserved : goal.loop-byte-preserved
+loop-byte-preserved c =
     let a = c.args in
-    let inv = c.loop-i.invariant in
-    let next = filled_with_hole a.template.now a.numbers.now c.loop-i.i c.loop-i.used (omega arith)
-    (eq-eqb _ _ c.if-hole.true) c.number_or_none-n.ensures in
-    (omega arith, omega arith, left_next inv.2 next c.put_number-next.ensures)
-
-pub loop-i-preserved : goal.loop-i-preserved
-loop-i-preserved c =
-    let a = c.args in
-    let inv = c.loop-i.invariant in
-    let next = filled_with_byte a.template.now a.numbers.now c.loop-i.i c.loop-i.used (omega arith)
-    (ne_eqb _ _ c.if-hole.false) in
-    (omega arith, omega arith, left_next inv.2 next c.put_byte-next.ensures)
-
-pub shape_of-out : goal.shape_of-out
-shape_of-out c = c.loop-i.invariant.2.same
+    let i = c.loop-byte.byte-index in
+    let inv = c.loop-byte.invariant in
+    let test = c.loop-byte-test.true in
+    elim c.if-hole.branch [
+      | then-hole w ↦
+          let hole = filled_with_hole a.template.now a.numbers.now i c.loop-byte.used test (eq-eqb _ _ w.if-hole.true)
+          w.number_or_none-n.ensures in
+          rw (w.out-is, w.next-is, w.used-is) (omega arith, left_next inv.1 hole w.put_number-next.ensures)
+      | else-hole w ↦
+          let byte = filled_with_byte a.template.now a.numbers.now i c.loop-byte.used test (ne_eqb _ _ w.if-hole.false) in
+          rw (w.out-is, w.next-is, w.used-is) (omega arith, left_next inv.1 byte w.put_byte-next.ensures)
+    ]
 
 pub returns : goal.returns
 returns c =
     let a = c.args in
-    let none = filled_with_end a.template.now (drop c.loop-i.used a.numbers.now) c.loop-i.i c.loop-i-test.false in
-    left_none (rw none at c.loop-i.invariant.2)
+    let none = filled_with_end a.template.now (drop c.loop-byte.used a.numbers.now) c.loop-byte.byte-index c.loop-byte-test.false in
+    left_none (rw none at c.loop-byte.invariant.1)

@@ -1,25 +1,16 @@
--- `text_filling::put` meets its contract: what is left gives the whole.
-use Prim.Native.Nat.{◌-◌}
-use native.Mathlib.Omega.{arith}
-use native.Mathlib.Numerals.{add-one}
-use borrow.Author.Rules.{rules}
-use lib.ListN.{drop_of_length-le}
-use lib.Seq.{drop-cons}
-use Rattle.text_filling.proofs.Laws.WritingLaws.{left_all, left_next, left_none}
+-- `text_filling::put` meets its contract: no room, room for all, or for a part.
+use Rattle.std.proofs.Common.{length, sym, refl, ◌∙◌, arith}
+use lib.Seq.{take-length}
+use Rattle.text_filling.proofs.Laws.WritingLaws.{put_past, put_cut}
 use Rattle.text_filling.proofs.put.Goals as goal
 
-pub loop-i-init : goal.loop-i-init
-loop-i-init c = left_all (search rules) (search rules)
+pub returns-then-out-at : goal.returns-then-out-at
+returns-then-out-at c = put_past c.if-out-at.true c.saturating_add.ensures
 
-pub loop-i-preserved : goal.loop-i-preserved
-loop-i-preserved c =
-    let bytes = c.args.bytes.now in
-    left_next c.loop-i.invariant (rw (add-one, drop-cons bytes c.loop-i.i 0 (omega arith))) c.put_byte-next.ensures
-
-pub shape_of-out : goal.shape_of-out
-shape_of-out c = c.loop-i.invariant.same
+pub returns-then-bytes-room : goal.returns-then-bytes-room
+returns-then-bytes-room c =
+    let t = c.args.bytes.now in
+    put_cut {k = length t} c.if-out-at.false (omega arith) (omega arith) (c.copy_from_slice.ensures.after ∙ sym (take-length t)) refl (omega arith)
 
 pub returns : goal.returns
-returns c =
-    let none = drop_of_length-le c.args.bytes.now c.loop-i-test.false in
-    left_none (rw none at c.loop-i.invariant)
+returns c = put_cut c.if-out-at.false (omega arith) refl c.copy_from_slice-2.ensures.after refl c.saturating_add-2.ensures

@@ -5,4 +5,4 @@ use Rattle.text_stretches.proofs.put_between.Goals as goal
 
 pub returns : goal.returns
 returns c =
-    three (search rules) c.put_text-opened.ensures c.put_decimal-told.ensures c.put_text.ensures
+    three (search rules) c.put-opened.ensures c.put_decimal-told.ensures c.put.ensures

@@ -54,10 +54,11 @@ module _ {s : List ℕ} {n left i : ℕ} where
   unfolding rows_from
   skipped_here g e = (g.inside, rw e at g.so)
 
-  pub skipped_all : Skipped s n left i → length s ≤ i → (i ≤ length s) × (drop i s ≡ rows_from n s)
+  pub skipped_all : Skipped s n left i → length s ≤ i → (length s ≤ length s) × (drop (length s) s ≡ rows_from n s)
   skipped_all g h =
+      let end : i ≡ length s = omega (arith, g.inside) in
       let none : drop i s ≡ [] = drop_of_length-le s h in
-      (g.inside, none ∙ sym (ap (rows_from left) none ∙ rows_none left) ∙ g.so)
+      (omega arith, ap (λ (k : ℕ). drop k s) (sym end) ∙ none ∙ sym (ap (rows_from left) none ∙ rows_none left) ∙ g.so)
 
 -- A loop that looks for the end of the first row: what was passed stands in front of it.
 pub record Passed (s : List ℕ) (i : ℕ) : Type 0 where
@@ -93,10 +94,11 @@ module _ {s : List ℕ} {i : ℕ} where
       let ends : first_row (drop i s) ≡ [] = ap first_row (drop-cons s i 0 h) ∙ row_ends (get_or s i 0) (drop (suc i) s) e in
       (g.inside, sym (ap (λ (l : List ℕ). take i s ++ l) ends ∙ append-nil (take i s)) ∙ g.so)
 
-  pub passed_all : Passed s i → length s ≤ i → (i ≤ length s) × (take i s ≡ first_row s)
+  pub passed_all : Passed s i → length s ≤ i → (length s ≤ length s) × (take (length s) s ≡ first_row s)
   passed_all g h =
+      let end : i ≡ length s = omega (arith, g.inside) in
       let ends : first_row (drop i s) ≡ [] = ap first_row (drop_of_length-le s h) ∙ row_none in
-      (g.inside, sym (ap (λ (l : List ℕ). take i s ++ l) ends ∙ append-nil (take i s)) ∙ g.so)
+      (omega arith, ap (λ (k : ℕ). take k s) (sym end) ∙ sym (ap (λ (l : List ℕ). take i s ++ l) ends ∙ append-nil (take i s)) ∙ g.so)
 
 -- the text from a place on, as the code cuts it
 abbrev pub cut : List ℕ → ℕ → List ℕ

@@ -2,7 +2,7 @@
 use Prim.Native.Nat.{ℕ, zero, suc, ◌+◌, ◌≤◌, ◌<◌, zero-le}
 use mathlib.Core.Bool.{true, false}
 use mathlib.Core.List.{List, [], ◌∷◌, ◌++◌}
-use mathlib.Core.Path.{◌≡◌, refl, ap, ◌∙◌}
+use mathlib.Core.Path.{◌≡◌, refl, sym, ap, ◌∙◌}
 use native.Mathlib.Numerals.{add-one}
 use native.Mathlib.Omega.{arith}
 use borrow.Author.Tests.{ltb-false}
@@ -62,9 +62,9 @@ module _ {words out : List ℕ} {i : ℕ} {after : List ℕ} where
     so = copied_one g (get_or words i 0) (get_or-append words (0 ∷ []) 0 i h);
   }
 
-  pub copied_all : Copied words out i after → length words ≤ i → Says (reads words) out (length words) (set after i 0)
+  pub copied_all : Copied words out i after → length words ≤ i → Says (reads words) out (length words) (set after (length words) 0)
   copied_all g h =
       let all : i ≡ length words = omega (arith, g.inside) in
       let last : get_or (zero_ended words) i 0 ≡ 0 = rw all (get_or-append_seam words 0 [] 0) in
       let whole : i + 1 ≡ length (zero_ended words) = omega (arith, all, size_ended words) in
-      says_all words out g.room (copied_one g 0 last ∙ rw (whole, take_all (length (zero_ended words)) (zero_ended words) (omega arith)))
+      says_all words out g.room (ap (λ (k : ℕ). set after k 0) (sym all) ∙ copied_one g 0 last ∙ rw (whole, take_all (length (zero_ended words)) (zero_ended words) (omega arith)))

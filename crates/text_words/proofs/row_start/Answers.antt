@@ -1,9 +1,8 @@
 -- `text_words::row_start` meets its contract: the loop skips rows.
-use Prim.Native.Nat.{◌-◌, ◌<◌}
-use mathlib.Core.Logic.{⊎_elim}
+use Prim.Native.Nat.{◌<◌}
 use native.Mathlib.Omega.{arith}
 use Rattle.text_words.proofs.Laws.Rows.{skipped_none, skipped_here, skipped_feed, skipped_on, skipped_all}
-use Rattle.text_words.proofs.row_start.Goals.{then-words-i-eq10, else-words-i-eq10}
+use Rattle.text_words.proofs.row_start.Goals.{then-b-eq10, else-b-eq10}
 use Rattle.text_words.proofs.row_start.Goals as goal
 
 pub loop-i-init : goal.loop-i-init
@@ -17,7 +16,7 @@ loop-i-preserved c =
     let inv = c.loop-i.invariant in
     let inside = c.loop-i-test.true in
     let more : 0 < c.loop-i.left = omega arith in
-    elim c.if-words-i-eq10.branch [ then-words-i-eq10 w ↦ rw w.left-is (skipped_feed inv inside more w.if-words-i-eq10.true) | else-words-i-eq10 w ↦ rw w.left-is (skipped_on inv inside more w.if-words-i-eq10.false) ]
+    elim c.if-b-eq10.branch [ then-b-eq10 w ↦ rw w.left-is (skipped_feed inv inside more w.if-b-eq10.true) | else-b-eq10 w ↦ rw w.left-is (skipped_on inv inside more w.if-b-eq10.false) ]
 
 pub returns : goal.returns
 returns c = skipped_all c.loop-i.invariant (omega arith)

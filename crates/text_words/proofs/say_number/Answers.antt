@@ -10,4 +10,4 @@ pub returns : goal.returns
 returns c =
     let none : text_of c.args.number ≡ refusal 100 = no_words c.args.number
     (omega arith) in
-    record { answer = rw none; holds = rw none }
+    record { answer = rw none c.told.ensures; holds = rw none }

@@ -14,7 +14,7 @@ located c = record { from = c.row_start-from.ensures.1; inside = c.row_size-size
 
 pub returns-then-none : goal.returns-then-none
 returns-then-none c =
-    row_missing (located (goal.at.returns-then-none c).After-row_size-size) c.args.out.now (eq-eqb _ _ c.if-none.true)
+    rw c.told.ensures (row_missing (located (goal.at.returns-then-none c).After-row_size-size) c.args.out.now (eq-eqb _ _ c.if-none.true))
 
 pub slice_bounds-say-end : goal.slice_bounds-say-end
 slice_bounds-say-end c = sym (size_in (located (goal.at.slice_bounds-say-end c).After-row_size-size))

@@ -1,10 +1,6 @@
 -- `base_characters::line::gather` meets its contract: one loop looks at each character for range, parity and sum.
-use Rattle.std.proofs.Common.{◌-◌, length, take}
 use Rattle.base_characters.proofs.Laws.WalkLaws.{Walk}
 use Rattle.base_characters.proofs.line.gather.Given as goal
 
 abbrev pub invariant-loop-i : goal.invariant-loop-i
-invariant-loop-i l = Walk (take (length l.initial.out) l.line) l.initial.out 0 l.i l.flags l.sum l.out
-
-abbrev pub decreases-loop-i : goal.decreases-loop-i
-decreases-loop-i l = length l.line - l.i
+invariant-loop-i l = Walk l.seen l.initial.out 0 l.i l.flags l.sum l.out

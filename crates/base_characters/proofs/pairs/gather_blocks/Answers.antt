@@ -1,7 +1,6 @@
 -- `base_characters::pairs::gather_blocks` meets its contract: one loop looks at each character for range, parity and sum.
-use Rattle.std.proofs.Common.{◌-◌, ◌≤◌, length, take, sym, ◌∙◌, arith, length-take-le, get_or-take}
+use Rattle.std.proofs.Common.{◌≤◌, length, take, sym, ◌∙◌, arith, length-take-le, get_or-take}
 use Rattle.base_characters.specs.Characters.{chars}
-use Rattle.base_lent.proofs.Laws.Copying.{copied_length}
 use Rattle.base_characters.proofs.Laws.PairLaws.{length_characters}
 use Rattle.base_characters.proofs.Laws.WalkLaws.{walk_none, walk_first, walk_parted, walk_stored}
 use Rattle.base_characters.proofs.pairs.gather_blocks.Goals as goal
@@ -10,28 +9,8 @@ pub loop-i-init : goal.loop-i-init
 loop-i-init c =
     let a = c.args in
     let l = chars a.bytes.now in
-    walk_none (omega (
-      arith,
-      c.requires.0,
-      c.requires.1,
-      length_characters a.bytes.now,
-      length-take-le a.whole l
-          (omega (arith, c.requires.0, length_characters a.bytes.now)),
-    ))
-
-pub pair_at-c-requires : goal.pair_at-c-requires
-pair_at-c-requires c =
-    omega (arith, c.loop-i-test.true, c.requires.0)
-
-pub bounds-out-i : goal.bounds-out-i
-bounds-out-i c =
-    omega (arith, c.loop-i-test.true, c.requires.1, copied_length c.loop-i.invariant.stored)
-
-pub overflow_add-i : goal.overflow_add-i
-overflow_add-i c = omega (arith, c.loop-i-test.true)
-
-pub loop-i-smaller : goal.loop-i-smaller
-loop-i-smaller c = omega (arith, c.loop-i-test.true)
+    let to : a.whole ≤ length l = omega (arith, c.requires.0, length_characters a.bytes.now) in
+    walk_none (omega (arith, c.requires.1, length-take-le a.whole l to))
 
 pub loop-i-preserved : goal.loop-i-preserved
 loop-i-preserved c =
@@ -39,12 +18,8 @@ loop-i-preserved c =
     let l = chars a.bytes.now in
     let most : a.whole ≤ length l = omega (arith, c.requires.0, length_characters a.bytes.now) in
     let i = c.loop-i.i in
-    rw c.wrapping_add_u16-sum.ensures.value
     (walk_first c.loop-i.invariant (omega (arith, c.loop-i-test.true, length-take-le a.whole l most))
     (c.pair_at-c.ensures ∙ sym (get_or-take a.whole l i 0 c.loop-i-test.true)) c.folded-flags.ensures)
-
-pub shape_of-out : goal.shape_of-out
-shape_of-out c = copied_length c.loop-i.invariant.stored
 
 pub returns : goal.returns
 returns c =

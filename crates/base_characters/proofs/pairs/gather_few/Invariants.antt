@@ -5,7 +5,4 @@ use Rattle.base_characters.proofs.Laws.WalkLaws.{Walk}
 use Rattle.base_characters.proofs.pairs.gather_few.Given as goal
 
 abbrev pub invariant-loop-i : goal.invariant-loop-i
-invariant-loop-i l = Walk (drop l.from (take l.count (chars l.bytes))) l.initial.out l.from l.i l.flags l.sum l.out
-
-abbrev pub decreases-loop-i : goal.decreases-loop-i
-decreases-loop-i l = l.count - l.from - l.i
+invariant-loop-i l = Walk (drop l.from (take l.count (chars l.bytes))) l.initial.out l.from (l.i - l.from) l.flags l.sum l.out

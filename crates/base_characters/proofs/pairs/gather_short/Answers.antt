@@ -1,5 +1,5 @@
 -- `base_characters::pairs::gather_short` meets its contract: both parts together are all.
-use Rattle.std.proofs.Common.{◌-◌, ◌*◌, ◌/◌, ◌≤◌, length, ◌∙◌, arith}
+use Rattle.std.proofs.Common.{◌*◌, ◌/◌, ◌≤◌, length, ◌∙◌, arith}
 use Rattle.base_characters.specs.Characters.{chars}
 use Rattle.base_characters.proofs.Laws.PairLaws.{length_characters}
 use Rattle.base_characters.proofs.Laws.PartLaws.{parts_told, parts_on}

@@ -1,11 +1,8 @@
 -- `base_characters::pairs::soundness_of` meets its contract, as the walk over characters does.
-use Rattle.std.proofs.Common.{◌-◌, ◌/◌, ◌≤◌, length, take}
+use Rattle.std.proofs.Common.{take}
 use Rattle.base_characters.specs.Characters.{chars}
 use Rattle.base_characters.specs.Gathering.{Flagged}
 use Rattle.base_characters.proofs.pairs.soundness_of.Given as goal
 
 abbrev pub invariant-loop-i : goal.invariant-loop-i
-invariant-loop-i l = (l.i ≤ length l.bytes / 2) × Flagged (take l.i (chars l.bytes)) l.flags
-
-abbrev pub decreases-loop-i : goal.decreases-loop-i
-decreases-loop-i l = length l.bytes / 2 - l.i
+invariant-loop-i l = Flagged (take l.i (chars l.bytes)) l.flags

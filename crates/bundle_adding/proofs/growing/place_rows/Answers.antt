@@ -12,7 +12,7 @@ overflow_add-at c = omega (arith, c.struct_known-1.given)
 pub loop-i-preserved : goal.loop-i-preserved
 loop-i-preserved c =
     placing_next c.loop-i.invariant c.loop-i-test.true c.unchecked_row-row.ensures (omega (arith, c.struct_known-1.given))
-    c.row_bytes-moved.ensures c.lay.ensures c.lay.auto.to
+    c.row_bytes-moved.ensures c.lay_each.ensures c.lay_each.auto.to
 
 pub returns : goal.returns
 returns c = placing_all c.loop-i.invariant c.loop-i-test.false

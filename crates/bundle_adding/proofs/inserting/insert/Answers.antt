@@ -2,18 +2,18 @@
 use Prim.Native.Nat.{◌≤◌}
 use mathlib.Core.Bool.{Bool}
 use mathlib.Core.Path.{sym, ◌∙◌}
-use borrow.Author.Tests.{ltb-false}
+use Rattle.std.proofs.Common.{rules}
 use lib.ListN.{length, take}
 use lib.Seq.{length-take-le}
-use Rattle.base_rules.specs.Answers.{reads, refusal}
 use Rattle.bundle_check.specs.Bundles.{check_of}
-use Rattle.bundle_check.proofs.Laws.Shown.{shown_checked_same}
+use Rattle.base_rules.proofs.Laws.AnswerLaws.{shown_ok}
 use Rattle.bundle_check.specs.Records.{Recorded}
 use Rattle.bundle_adding.specs.Adding.{new_record}
+use Rattle.bundle_adding.specs.Inserting.{try_of}
 use Rattle.bundle_rows.specs.Fields.{wrong_field}
-use Rattle.bundle_adding.proofs.Laws.Trying.{try_past, try_refused, inserts_refused}
+use Rattle.bundle_adding.proofs.Laws.Trying.{try_past, inserts_refused}
 use borrow.Author.Tests.{le-ltb, lt-ltb}
-use Rattle.bundle_adding.proofs.inserting.insert.Goals.{Else-past, Start}
+use Rattle.bundle_adding.proofs.inserting.insert.Goals.{Else-buffer-filled, Start}
 use Rattle.bundle_adding.proofs.inserting.insert.Goals as goal
 
 abbrev row : Start → Recorded
@@ -22,30 +22,23 @@ row c = new_record c.args.position c.args.direction c.args.time c.args.body.now
 abbrev wrong : Start → Bool
 wrong c = wrong_field c.args.position c.args.direction (length c.args.body.now)
 
-inside : (c : Else-past) → c.args.filled ≤ length c.args.buffer.now
-inside c = ltb-false (length c.args.buffer.now) c.args.filled (le-ltb _ _ c.if-past.false)
+inside : (c : Else-buffer-filled) → c.args.filled ≤ length c.args.buffer.now
+inside c = c.if-buffer-filled.false
 
-pub returns-then-past : goal.returns-then-past
-returns-then-past c =
-    inserts_refused (try_past (wrong (goal.at.returns-then-past c).Start) c.args.buffer.now c.args.filled (row (goal.at.returns-then-past c).Start) (lt-ltb _ _ c.if-past.true))
+pub returns-then-buffer-filled : goal.returns-then-buffer-filled
+returns-then-buffer-filled c =
+    inserts_refused (try_past (wrong (goal.at.returns-then-buffer-filled c).Start) c.args.buffer.now c.args.filled (row (goal.at.returns-then-buffer-filled c).Start) (lt-ltb _ _ c.if-buffer-filled.true))
 
 pub slice_bounds-check-end-2 : goal.slice_bounds-check-end-2
 slice_bounds-check-end-2 c =
-    sym (length-take-le c.args.filled c.args.buffer.now (inside (goal.at.slice_bounds-check-end-2 c).Else-past))
+    sym (length-take-le c.args.filled c.args.buffer.now (inside (goal.at.slice_bounds-check-end-2 c).Else-buffer-filled))
 
 pub insert_row-requires : goal.insert_row-requires
 insert_row-requires c =
     let a = c.args in
-    let n = c.in-Rows.count in (
-      inside (goal.at.insert_row-requires c).Else-past,
-      shown_checked_same (check_of (take a.filled a.buffer.now)) (reads n)
-          (sym c.check.ensures ∙ c.in-Rows.is),
-    )
+    let n = c.in_ok-count.count in
+    (inside (goal.at.insert_row-requires c).Else-buffer-filled, shown_ok (check_of (take a.filled a.buffer.now)) n (sym c.check.ensures ∙ c.in_ok-count.was))
 
-pub returns-in-Refused : goal.returns-in-Refused
-returns-in-Refused c =
-    let a = c.args in
-    let n = c.in-Refused.number in
-    inserts_refused (try_refused (wrong (goal.at.returns-in-Refused c).Start) a.buffer.now a.filled (row (goal.at.returns-in-Refused c).Start) n (inside (goal.at.returns-in-Refused c).Else-past)
-    (shown_checked_same (check_of (take a.filled a.buffer.now)) (refusal n)
-    (sym c.check.ensures ∙ c.in-Refused.is)))
+pub returns-in_err-count : goal.returns-in_err-count
+unfolding try_of
+returns-in_err-count c = search (rules, le-ltb _ _ c.if-buffer-filled.false)

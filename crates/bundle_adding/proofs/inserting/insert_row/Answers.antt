@@ -21,11 +21,11 @@ use Rattle.bundle_adding.proofs.inserting.insert_row.Goals as goal
 
 -- what is to be put in
 abbrev row : Start → Recorded
-row c = new_record c.args.position c.args.direction c.args.time c.args.body.now
+row c = new_record c.args.row.position c.args.row.direction c.args.row.time c.args.body.now
 
 -- 34 as it was tried
 abbrev wrong : Start → Bool
-wrong c = wrong_field c.args.position c.args.direction (length c.args.body.now)
+wrong c = wrong_field c.args.row.position c.args.row.direction (length c.args.body.now)
 
 pub returns-then-wrong : goal.returns-then-wrong
 returns-then-wrong c =
@@ -62,7 +62,7 @@ put_in-requires c =
     let left = room_left a.buffer.now a.count (grown a.filled (row (goal.at.put_in-requires c).Start)) c.if-full.false in (
       c.requires.1,
       left.0,
-      omega (arith, c.place_behind-place.ensures, place_inside a.time (records_of (take a.filled a.buffer.now)) a.count),
+      omega (arith, c.place_behind-place.ensures, place_inside a.row.time (records_of (take a.filled a.buffer.now)) a.count),
       left.1,
       left.2,
     )
@@ -76,4 +76,4 @@ returns c =
     c.if-full.false)
     (c.put_in.ensures
     ∙ ap (λ (p : ℕ). laid a.buffer.now 0 (bundle_of (put_at p (row (goal.at.returns c).Start) ks)))
-    (c.place_behind-place.ensures ∙ ap (place_behind a.time ks) (count_held (take a.filled a.buffer.now) a.count c.requires.1)))
+    (c.place_behind-place.ensures ∙ ap (place_behind a.row.time ks) (count_held (take a.filled a.buffer.now) a.count c.requires.1)))

@@ -13,7 +13,7 @@ use Rattle.bundle_adding.proofs.inserting.put_in.Goals.{Start}
 use Rattle.bundle_adding.proofs.inserting.put_in.Goals as goal
 
 abbrev row : Start → Recorded
-row c = new_record c.args.position c.args.direction c.args.time c.args.body.now
+row c = new_record c.args.row.position c.args.row.direction c.args.row.time c.args.body.now
 
 inside : (c : Start) → c.args.filled ≤ length c.args.buffer.now
 inside c = omega (arith, c.requires.3)

@@ -11,6 +11,6 @@ returns-then-place-count c =
 
 pub returns : goal.returns
 returns c =
-    ap (λ (r : Row). r.offset) c.unchecked_row-row.ensures
+    ap (λ (r : Row). r.offset) c.unchecked_row.ensures
     ∙ end_row c.args.bundle.now c.args.count c.args.place c.requires.0
     (omega (arith, c.requires.1, c.if-place-count.false))

@@ -4,6 +4,3 @@ use Rattle.bundle_adding.proofs.placing.place_behind.Given as goal
 
 abbrev pub invariant-loop-place : goal.invariant-loop-place
 invariant-loop-place l = Looking l.bundle l.count l.time l.place
-
-abbrev pub decreases-loop-place : goal.decreases-loop-place
-decreases-loop-place l = l.place

@@ -1,5 +1,4 @@
 -- `bundle_columns::making::put_list` meets its contract: so many numbers of the list are laid.
-use Prim.Native.Nat.{◌-◌}
 use native.Mathlib.Omega.{arith}
 use Rattle.base_lent.proofs.Laws.PieceLaws.{pieced_length, pieced_room, pieced_all}
 use Rattle.bundle_columns.proofs.Laws.Fields.{length_list, list_none, list_next}

@@ -1,5 +1,4 @@
 -- `bundle_columns::scanning::pass_blocks` meets its contract: the loop passes over blocks without the position.
-use Prim.Native.Nat.{◌-◌}
 use mathlib.Core.Path.{sym, ◌∙◌}
 use Rattle.bundle_columns.proofs.Laws.Scanning.{passed_none, passed_block}
 use Rattle.bundle_columns.proofs.scanning.pass_blocks.Goals as goal

@@ -1,41 +1,28 @@
 -- `bundle_columns::writing::contents_of` meets its contract: each way out by the law of that answer.
 use native.Mathlib.Omega.{arith}
-use borrow.Author.Tests.{ltb-false}
-use Rattle.bundle_columns.proofs.Laws.Looking.{Taken, taken, not_taken}
-use Rattle.bundle_columns.proofs.Laws.Turning.{wrote_refused, wrote_short, wrote}
-use borrow.Author.Tests.{le-ltb, lt-ltb}
-use Rattle.bundle_columns.proofs.writing.contents_of.Goals.{In-Rows}
+use borrow.Author.Tests.{le-ltb}
+use Rattle.bundle_columns.proofs.Laws.Looking.{Taken, taken}
+use Rattle.bundle_columns.proofs.Laws.Turning.{wrote}
+use Rattle.bundle_columns.proofs.writing.contents_of.Goals.{In_ok-count}
 use Rattle.bundle_columns.proofs.writing.contents_of.Goals as goal
 
 -- the count as it was read
-counted : (c : In-Rows) → Taken c.args.columns.now c.in-Rows.count
-counted c =
-    taken c.args.columns.now c.count_in.ensures c.in-Rows.is
+counted : (c : In_ok-count) → Taken c.args.columns.now c.in_ok-count.count
+counted c = taken c.args.columns.now c.count_in.ensures c.in_ok-count.was
 
-pub overflow_mul-short : goal.overflow_mul-short
-overflow_mul-short c = omega (arith, (counted (goal.at.overflow_mul-short c).In-Rows).few)
+pub overflow_mul-count : goal.overflow_mul-count
+overflow_mul-count c = omega (arith, (counted (goal.at.overflow_mul-count c).In_ok-count).few)
 
-pub overflow_add-short : goal.overflow_add-short
-overflow_add-short c = omega (arith, (counted (goal.at.overflow_add-short c).In-Rows).few)
-
-pub returns-then-short : goal.returns-then-short
-returns-then-short c =
-    let a = c.args in
-    wrote_short a.columns.now a.out.now c.in-Rows.count (counted (goal.at.returns-then-short c).In-Rows) (lt-ltb _ _ c.if-short.true)
+pub overflow_add-count : goal.overflow_add-count
+overflow_add-count c = omega (arith, (counted (goal.at.overflow_add-count c).In_ok-count).few)
 
 pub put_rows-requires : goal.put_rows-requires
 put_rows-requires c =
-    let t = counted (goal.at.put_rows-requires c).In-Rows in
-    (t.size, t.few, omega (arith, ltb-false, (le-ltb _ _ c.if-short.false), c.put_number.auto.out))
+    let t = counted (goal.at.put_rows-requires c).In_ok-count in
+    (t.size, t.few, omega (arith, c.if-out-count.false, c.put_number.auto.out))
 
-pub returns-else-short : goal.returns-else-short
-returns-else-short c =
+pub returns : goal.returns
+returns c =
     let a = c.args in
-    wrote a.columns.now a.out.now c.in-Rows.count (counted (goal.at.returns-else-short c).In-Rows) (le-ltb _ _ c.if-short.false) c.put_number.ensures
+    wrote a.columns.now a.out.now c.in_ok-count.count (counted (goal.at.returns c).In_ok-count) (le-ltb _ _ c.if-out-count.false) c.put_number.ensures
     c.put_rows.ensures
-
-pub returns-in-Refused : goal.returns-in-Refused
-returns-in-Refused c =
-    let a = c.args in
-    wrote_refused a.columns.now a.out.now c.in-Refused.number
-    (not_taken a.columns.now c.count_in.ensures c.in-Refused.is)

@@ -1,5 +1,4 @@
 -- `bundle_columns::writing::put_rows` meets its contract: so many rows are laid.
-use Prim.Native.Nat.{◌-◌}
 use Rattle.base_lent.proofs.Laws.PieceLaws.{pieced_length}
 use Rattle.bundle_columns.specs.Record.{columns_in}
 use Rattle.bundle_columns.proofs.Laws.Turning.{rows_none, rows_next, rows_all}

@@ -1,7 +1,6 @@
 -- `bundle_joining::position::choose` meets its contract: measured, and written where there is room.
 use mathlib.Core.Path.{ap}
 use native.Mathlib.Omega.{arith}
-use borrow.Author.Tests.{ltb-false}
 use Rattle.bundle_joining.specs.declared.choosing.Size.{Size}
 use Rattle.bundle_joining.proofs.Laws.Choosing.{own_length, own_bounded}
 use Rattle.bundle_joining.proofs.Laws.ChoosingShown.{choosing-short, choosing-done}
@@ -20,11 +19,11 @@ pub overflow_add-filled-2 : goal.overflow_add-filled-2
 overflow_add-filled-2 c =
     omega (arith, own_bounded c.args.position c.args.bundle.now c.args.count c.requires.0 c.measure-size.ensures)
 
-pub returns-then-short : goal.returns-then-short
-returns-then-short c =
+pub returns-then-out-filled : goal.returns-then-out-filled
+returns-then-out-filled c =
     let a = c.args in
     choosing-short a.bundle.now a.position a.out.now a.count c.requires.0 c.requires.1
-    (own_length a.position a.bundle.now a.count c.requires.0 c.measure-size.ensures) (lt-ltb _ _ c.if-short.true)
+    (own_length a.position a.bundle.now a.count c.requires.0 c.measure-size.ensures) (lt-ltb _ _ c.if-out-filled.true)
 
 pub write_rows-requires : goal.write_rows-requires
 write_rows-requires c =
@@ -32,12 +31,12 @@ write_rows-requires c =
     let q = c.measure-size.ensures in (
       c.requires.0,
       ap (λ (s : Size). s.rows) q,
-      rw (own_length a.position a.bundle.now a.count c.requires.0 q) (ltb-false _ _ (le-ltb _ _ c.if-short.false)),
+      rw (own_length a.position a.bundle.now a.count c.requires.0 q) (c.if-out-filled.false),
     )
 
 pub returns : goal.returns
 returns c =
     let a = c.args in
     choosing-done a.bundle.now a.position a.out.now a.count c.requires.0 c.requires.1
-    (own_length a.position a.bundle.now a.count c.requires.0 c.measure-size.ensures) (le-ltb _ _ c.if-short.false)
+    (own_length a.position a.bundle.now a.count c.requires.0 c.measure-size.ensures) (le-ltb _ _ c.if-out-filled.false)
     c.write_rows.ensures

@@ -1,8 +1,5 @@
 -- `bundle_sweep::drawing::draw_rows` meets its contract: each row that is left moves up.
-use Prim.Native.Nat.{◌-◌}
-use mathlib.Core.Logic.{⊎_elim}
 use native.Mathlib.Omega.{arith}
-use borrow.Author.Tests.{not-true, not-false}
 use Rattle.bundle_sweep.proofs.Laws.Drawing.{drawing_none, drawing_length, drawing_few, drawing_whole}
 use Rattle.bundle_sweep.proofs.Laws.Drawing.{drawing-inside, drawing-gone, drawing-next, drawing_all}
 use Rattle.bundle_sweep.proofs.drawing.draw_rows.Goals.{then-not-gone, else-not-gone}

@@ -1,5 +1,4 @@
 -- `bundle_sweep::placing::place_bodies` meets its contract: body by body, and row by row.
-use Prim.Native.Nat.{◌-◌}
 use native.Mathlib.Omega.{arith}
 use Rattle.bundle_sweep.proofs.Laws.Placing.{placing_none, placing_length, placing_near, placing-room, placing_next, placing_all}
 use Rattle.bundle_sweep.proofs.placing.place_bodies.Goals as goal

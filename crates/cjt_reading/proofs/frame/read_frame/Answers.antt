@@ -2,7 +2,7 @@
 use Rattle.std.proofs.Common.{sym, ap, ◌∙◌, arith}
 use Rattle.cjt_rules.specs.declared.CjtRequest.{CjtRequest}
 use Rattle.cjt_rules.specs.declared.CjtTelegram.TheVariants as telegrams
-use Rattle.cjt_rules.specs.declared.CjtReading.TheVariants as readings
+use Rattle.std.specs.Prelude.{Ok}
 use Rattle.cjt_rules.specs.CjtLines.{read_cjt_frame}
 use Rattle.cjt_reading.proofs.Laws.FrameLaws.{frame_least}
 use borrow.Author.Tests.{eq-eqb, ne_eqb}
@@ -67,7 +67,7 @@ returns-then-asks c =
       sym c.wrong_mark-mark.ensures ∙ c.if-mark.false,
       ← c.byte_at-asks.ensures,
       (eq-eqb _ _ c.if-asks.true),
-    ) (ap (λ (q : CjtRequest). readings.Read (telegrams.Request q)) c.request_of-request.ensures)
+    ) (ap (λ (q : CjtRequest). Ok (telegrams.Request q)) c.request_of-request.ensures)
 
 pub read_listed-requires : goal.read_listed-requires
 read_listed-requires c =

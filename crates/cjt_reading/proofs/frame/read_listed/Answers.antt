@@ -3,7 +3,7 @@ use Rattle.std.proofs.Common.{◌≡◌, ℕ, ◌<◌, true, false, drop, sym, a
 use Rattle.base_rules.specs.Lists.{at}
 use Rattle.cjt_rules.specs.declared.CjtAnswer.{CjtAnswer}
 use Rattle.cjt_rules.specs.declared.CjtTelegram.TheVariants as telegrams
-use Rattle.cjt_rules.specs.declared.CjtReading.TheVariants as readings
+use Rattle.std.specs.Prelude.{Ok}
 use Rattle.cjt_rules.specs.CjtLines.{wrong_listed, tells_with}
 use Rattle.cjt_rules.specs.CjtUnits.{wrong_units}
 use Rattle.cjt_reading.proofs.Laws.PartLaws.{read_part}
@@ -56,4 +56,4 @@ returns c =
     c.wrong_listed-wrong.ensures
     ∙ c.if-wrong.false in
     let units : wrong_units (tells_with s) ≡ false = ap wrong_units (sym answer) ∙ sym c.wrong_units-units.ensures ∙ c.if-units.false in
-    rw (right, units) (ap (λ (a : CjtAnswer). readings.Read (telegrams.Answer a)) answer)
+    rw (right, units) (ap (λ (a : CjtAnswer). Ok (telegrams.Answer a)) answer)

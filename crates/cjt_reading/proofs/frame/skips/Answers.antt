@@ -1,5 +1,4 @@
 -- `cjt_reading::frame::skips` meets its contract: what is left to be skipped is what there was.
-use Rattle.std.proofs.Common.{◌-◌}
 use Rattle.cjt_reading.proofs.Laws.SkipLaws.{skipping_none, skipping_next, skipping_other, skipping_all}
 use Rattle.cjt_reading.proofs.frame.skips.Goals as goal
 

@@ -6,7 +6,7 @@ pub returns : goal.returns
 unfolding packed
 returns c =
     rw (
-      c.packed_seven-y.ensures,
+      c.packed_digits.ensures,
       c.two_digits-month.ensures,
       c.two_digits-day.ensures,
       c.two_digits-hour.ensures,

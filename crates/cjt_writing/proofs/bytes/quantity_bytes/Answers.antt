@@ -4,4 +4,4 @@ use Rattle.cjt_writing.proofs.bytes.quantity_bytes.Goals as goal
 
 pub returns : goal.returns
 unfolding packed
-returns c = rw c.packed_seven-b.ensures
+returns c = rw c.packed_digits.ensures

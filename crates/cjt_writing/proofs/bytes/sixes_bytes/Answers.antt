@@ -4,4 +4,4 @@ use Rattle.cjt_writing.proofs.bytes.sixes_bytes.Goals as goal
 
 pub returns : goal.returns
 unfolding packed
-returns c = rw (c.packed_seven-h.ensures, c.packed_seven-o.ensures, c.packed_seven-i.ensures)
+returns c = rw (c.packed_digits-h.ensures, c.packed_digits-o.ensures, c.packed_digits-i.ensures)

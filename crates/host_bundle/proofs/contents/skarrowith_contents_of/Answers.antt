@@ -3,13 +3,12 @@ use Rattle.bundle_columns.specs.Shown.{columns_into}
 use Rattle.host_bundle.proofs.Laws.Contents.{turns_done, turns_refused}
 use Rattle.host_bundle.proofs.contents.skarrowith_contents_of.Goals as goal
 
-pub returns-in-Rows : goal.returns-in-Rows
-returns-in-Rows c =
+pub returns-in-Ok : goal.returns-in-Ok
+returns-in-Ok c =
     let a = c.args in
-    turns_done (columns_into a.bundle.now a.contents.now) c.columns_of.ensures c.in-Rows.is
+    turns_done (columns_into a.bundle.now a.contents.now) c.columns_of.ensures c.in-Ok.is
 
-pub returns-in-Refused : goal.returns-in-Refused
-returns-in-Refused c =
+pub returns-in-Err : goal.returns-in-Err
+returns-in-Err c =
     let a = c.args in
-    turns_refused (columns_into a.bundle.now a.contents.now) c.columns_of.ensures
-    c.in-Refused.is
+    rw c.told.ensures (turns_refused (columns_into a.bundle.now a.contents.now) c.columns_of.ensures c.in-Err.is)

@@ -7,13 +7,13 @@ use Rattle.host_bundle.specs.Rows.{row_record}
 use Rattle.host_bundle.proofs.Laws.Rows.{found_row}
 use Rattle.host_bundle.proofs.contents.skarrowith_contents_row.Goals as goal
 
-pub returns-in-Rows : goal.returns-in-Rows
-returns-in-Rows c =
+pub returns-in-Ok : goal.returns-in-Ok
+returns-in-Ok c =
     let a = c.args in
-    rw (taken a.contents.now c.count_in.ensures c.in-Rows.is).from
-    (rw (c.row-found.ensures, found_row) at c.put_row.ensures)
+    rw (taken a.contents.now c.count_in.ensures c.in-Ok.is).from
+    (rw (c.row.ensures, found_row) at c.put_row.ensures)
 
-pub returns-in-Refused : goal.returns-in-Refused
-returns-in-Refused c =
+pub returns-in-Err : goal.returns-in-Err
+returns-in-Err c =
     let a = c.args in
-    rw (not_taken a.contents.now c.count_in.ensures c.in-Refused.is) (leaves_all row_record a.out.now done refl)
+    rw (not_taken a.contents.now c.count_in.ensures c.in-Err.is, c.told.ensures) (leaves_all row_record a.out.now done refl)

@@ -3,17 +3,17 @@ use Rattle.host_bundle.proofs.Laws.Salvaging.{salvage_short, salvage_number, sal
 use borrow.Author.Tests.{le-ltb, lt-ltb}
 use Rattle.host_bundle.proofs.salvaging.skarrowith_bundle_salvage.Goals as goal
 
-pub returns-then-short : goal.returns-then-short
-returns-then-short c =
-    let a = c.args in salvage_short a.damaged.now a.out.now a.told.now (lt-ltb _ _ c.if-short.true)
+pub returns-then-told-lt32 : goal.returns-then-told-lt32
+returns-then-told-lt32 c =
+    let a = c.args in rw c.told.ensures (salvage_short a.damaged.now a.out.now a.told.now (lt-ltb _ _ c.if-told-lt32.true))
 
-pub returns-in-Told : goal.returns-in-Told
-returns-in-Told c =
+pub returns-in-Ok : goal.returns-in-Ok
+returns-in-Ok c =
     let a = c.args in
-    salvage_value a.damaged.now a.out.now a.told.now (le-ltb _ _ c.if-short.false) c.salvage.ensures c.in-Told.is
+    salvage_value a.damaged.now a.out.now a.told.now (le-ltb _ _ c.if-told-lt32.false) c.salvage.ensures c.in-Ok.is
     c.put_record.ensures
 
-pub returns-in-Refused : goal.returns-in-Refused
-returns-in-Refused c =
+pub returns-in-Err : goal.returns-in-Err
+returns-in-Err c =
     let a = c.args in
-    salvage_number a.damaged.now a.out.now a.told.now (le-ltb _ _ c.if-short.false) c.salvage.ensures c.in-Refused.is
+    rw c.told-in-Err.ensures (salvage_number a.damaged.now a.out.now a.told.now (le-ltb _ _ c.if-told-lt32.false) c.salvage.ensures c.in-Err.is)

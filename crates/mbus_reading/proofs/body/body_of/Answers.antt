@@ -10,10 +10,7 @@ slice_bounds-wrong_header-end c = sym (length-take-le 12 c.args.part.now c.requi
 
 pub returns-then-wrong_header : goal.returns-then-wrong_header
 returns-then-wrong_header c =
-    rw (
-      sym (head_wrong c.args.part.now) ∙ sym c.wrong_header.ensures ∙ c.if-wrong_header.true,
-      c.blank_entry-blank.ensures,
-    )
+    rw (sym (head_wrong c.args.part.now) ∙ sym c.wrong_header.ensures ∙ c.if-wrong_header.true)
 
 pub returns : goal.returns
 returns c =

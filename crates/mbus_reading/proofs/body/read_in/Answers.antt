@@ -3,7 +3,9 @@ use Prim.Native.Nat.{◌-◌}
 use native.Mathlib.Omega.{arith}
 use lib.ListN.{length, drop, length-take, length-drop}
 use mathlib.Core.Path.{sym, ap, ◌∙◌}
-use Rattle.mbus_rules.specs.Telegrams.{shown}
+use Rattle.base_rules.specs.Answers.{reads}
+use Rattle.base_rules.specs.Shown.{shown}
+use Rattle.mbus_rules.specs.declared.Telegram.{Telegram}
 use Rattle.mbus_shape.proofs.Laws.LeftLaws.{left_by}
 use Rattle.mbus_reading.proofs.body.read_in.Goals as goal
 
@@ -42,7 +44,7 @@ returns-in-Data c =
 
 pub returns-in-Refused : goal.returns-in-Refused
 returns-in-Refused c =
-    c.refused.ensures ∙ ap shown
+    ap shown
     (sym
     (left_by c.args.bytes.now c.args.sum
     c.shape_of-shape.ensures
@@ -50,14 +52,14 @@ returns-in-Refused c =
 
 pub returns-in-Ack : goal.returns-in-Ack
 returns-in-Ack c =
-    c.plain.ensures ∙ ap shown
+    ap (λ (t : Telegram). shown (reads t)) c.bare.ensures ∙ ap shown
     (sym
     (left_by c.args.bytes.now c.args.sum
     c.shape_of-shape.ensures c.in-Ack.is))
 
 pub returns-in-Asks : goal.returns-in-Asks
 returns-in-Asks c =
-    c.asked.ensures ∙ ap shown
+    ap (λ (t : Telegram). shown (reads t)) c.asked.ensures ∙ ap shown
     (sym
     (left_by c.args.bytes.now c.args.sum
     c.shape_of-shape.ensures

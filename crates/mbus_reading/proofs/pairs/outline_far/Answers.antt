@@ -12,8 +12,8 @@ pub returns : goal.returns
 returns c =
     let b = c.args.bytes.now in
     let s = chars b in
-    rw c.far_of-number.ensures
+    rw c.far_of-refused.ensures
     (ap outlined
     (sym
-    (far_line s (omega (arith, length_characters b, c.requires)) c.soundness_of-sound.ensures
+    (far_line s (omega (arith, length_characters b, c.requires)) c.soundness_of.ensures
     (ap byte_of c.character_at-first.ensures ∙ sym (at_bytes s 0)))))

@@ -1,44 +1,45 @@
 -- `mbus_reading::pairs::outline_many` meets its contract, as the outline of a line of characters does.
-use Prim.Native.Nat.{ℕ}
+use Prim.Native.Nat.{ℕ, ◌≤◌, ◌<◌}
 use native.Mathlib.Omega.{arith}
 use mathlib.Core.Path.{sym, ap, ◌∙◌}
-use lib.ListN.{take, length-replicate}
+use lib.ListN.{take, length, length-replicate}
 use Rattle.base_characters.specs.Characters.{chars}
 use Rattle.mbus_rules.specs.Outlines.{outlined}
 use Rattle.base_characters.proofs.Laws.PairLaws.{length_characters}
-use Rattle.mbus_reading.specs.Taking.{TakenBytes}
-use Rattle.mbus_reading.proofs.Laws.TakingLaws.{taken_some, taken_as, cut_count, taken_frame}
+use Rattle.mbus_reading.proofs.Laws.TakingLaws.{taken_err, taken_ok, cut_count, taken_frame}
 use Rattle.mbus_reading.proofs.pairs.outline_many.Goals.{After-gather-taken}
 use Rattle.mbus_reading.proofs.pairs.outline_many.Goals as goal
 
--- the line is taken in
-taken : (c : After-gather-taken)
-    → TakenBytes (chars c.args.bytes.now) c.gather-taken.new.out c.gather-taken.result.outcome
-    c.gather-taken.result.sum
-taken c =
-    let b = c.args.bytes.now in
-    let w = c.write_apart in
-    let size = length_characters b in
-    taken_some (chars b) w.new.places c.gather-taken.new.out
-    (omega (arith, size, w.auto, length-replicate {A = ℕ} 261 0, c.requires.1)) c.gather-taken.ensures.0
-    c.gather-taken.ensures.1 (omega (arith, size, c.requires.0))
+-- there is a character, and there are places enough
+some : (c : After-gather-taken) → 0 < length (chars c.args.bytes.now)
+some c = let size = length_characters c.args.bytes.now in omega (arith, size, c.requires.0)
 
-pub returns-in-Refused : goal.returns-in-Refused
-returns-in-Refused c =
-    let g = c.gather-taken in
-    ap outlined (sym (taken_as _ g.new.out g.result.sum c.in-Refused.is (taken (goal.at.returns-in-Refused c).After-gather-taken)))
+room : (c : After-gather-taken) → length (chars c.args.bytes.now) ≤ length c.write_apart.new.places
+room c =
+    let size = length_characters c.args.bytes.now in
+    omega (arith, size, c.write_apart.auto, length-replicate {A = ℕ} 261 0, c.requires.1)
 
 pub slice_bounds-outline_in-end : goal.slice_bounds-outline_in-end
 slice_bounds-outline_in-end c =
     let b = c.args.bytes.now in
     let g = c.gather-taken in
     let size = length_characters b in
-    let t = taken_as (chars b) g.new.out g.result.sum c.in_default.is (taken (goal.at.slice_bounds-outline_in-end c).After-gather-taken) in
+    let at = (goal.at.slice_bounds-outline_in-end c).After-gather-taken in
+    let t = taken_ok (chars b) c.write_apart.new.places g.new.out (room at) g.ensures.0 g.ensures.1 (some at) c.in-Ok.is in
     cut_count (chars b) g.new.out (sym size) (ap (λ (n : ℕ). take n g.new.out) (sym size) ∙ t.1)
 
-pub returns : goal.returns
-returns c =
+pub returns-in-Ok : goal.returns-in-Ok
+returns-in-Ok c =
     let b = c.args.bytes.now in
     let g = c.gather-taken in
-    let t = taken_as (chars b) g.new.out g.result.sum c.in_default.is (taken (goal.at.returns c).After-gather-taken) in
+    let at = (goal.at.returns-in-Ok c).After-gather-taken in
+    let t = taken_ok (chars b) c.write_apart.new.places g.new.out (room at) g.ensures.0 g.ensures.1 (some at) c.in-Ok.is in
     c.outline_in.ensures ∙ ap outlined (taken_frame (chars b) g.new.out g.result.sum (sym (length_characters b)) t)
+
+pub returns-in-Err : goal.returns-in-Err
+returns-in-Err c =
+    let b = c.args.bytes.now in
+    let g = c.gather-taken in
+    let at = (goal.at.returns-in-Err c).After-gather-taken in
+    ap outlined
+    (sym (taken_err (chars b) c.write_apart.new.places g.new.out (room at) g.ensures.0 g.ensures.1 (some at) c.in-Err.is))

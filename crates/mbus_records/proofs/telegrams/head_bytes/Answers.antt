@@ -5,4 +5,4 @@ use Rattle.mbus_records.proofs.telegrams.head_bytes.Goals as goal
 pub returns : goal.returns
 unfolding bytes_of
 returns c =
-    rw (c.bytes_of-m.ensures, c.bytes_of-n.ensures, c.kind_number-kind.ensures)
+    rw (c.bytes_of-m.ensures, c.bytes_of-n.ensures, c.kind_number.ensures)

@@ -12,5 +12,5 @@ unfolding telegram_bytes
 returns c =
     let t = c.args.t in
     record_made (replicate 136 0) (telegram_head t) (t.count ∷ []) (entries_bytes t.entries) (search rules)
-    c.head_bytes-head.ensures refl
-    c.entries_bytes-entries.ensures c.put_record.ensures
+    c.head_bytes.ensures refl
+    c.entries_bytes.ensures c.put_record.ensures

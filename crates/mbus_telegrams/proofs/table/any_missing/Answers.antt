@@ -18,7 +18,7 @@ loop-i-init c = gathered_none
 pub bounds-marks-quantity : goal.bounds-marks-quantity
 bounds-marks-quantity c =
     let made = c.rows-rows in
-    rw made.ensures (ltb-true _ 8 (all_at (λ (r : UnitRow). ltb r.2 8) table c.loop-i.i _ refl (omega arith)))
+    rw made.ensures (ltb-true _ 8 (all_at (λ (r : UnitRow). ltb r.quantity 8) table c.loop-i.i _ refl (omega arith)))
 
 pub loop-i-preserved : goal.loop-i-preserved
 loop-i-preserved c =

@@ -8,7 +8,7 @@ use Rattle.base_rules.proofs.Laws.ListLaws.{Gathered}
 use Rattle.mbus_telegrams.proofs.table.any_missing.Given as goal
 
 abbrev pub invariant-loop-i : goal.invariant-loop-i
-invariant-loop-i l = Gathered (λ (r : UnitRow). r.6 && not (get_or l.marks r.2 false)) l.rows l.i l.missing
+invariant-loop-i l = Gathered (λ (r : UnitRow). r.required && not (get_or l.marks r.quantity false)) l.rows l.i l.missing
 
 abbrev pub decreases-loop-i : goal.decreases-loop-i
 decreases-loop-i l = length table - l.i

@@ -1,6 +1,6 @@
 -- `mbus_telegrams::table::row_of` meets its contract: what is left of the rows has the one.
 use Prim.Native.Nat.{◌-◌}
-use mathlib.Core.Path.{refl}
+use mathlib.Core.Path.{refl, ◌∙◌}
 use native.Mathlib.Omega.{arith}
 use Rattle.mbus_rules.specs.Quantities.{no_row, has_unit}
 use Rattle.mbus_rules.proofs.Laws.RowLaws.{row_here, row_next, row_past}
@@ -19,4 +19,4 @@ loop-i-preserved c =
 
 pub returns : goal.returns
 returns c =
-    row_past (has_unit c.args.unit) no_row c.rows-rows.ensures {i = c.loop-i.i} c.loop-i.invariant (omega arith)
+    c.unit_row.ensures ∙ row_past (has_unit c.args.unit) no_row c.rows-rows.ensures {i = c.loop-i.i} c.loop-i.invariant (omega arith)

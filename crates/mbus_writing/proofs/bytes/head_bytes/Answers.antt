@@ -4,10 +4,4 @@ use Rattle.mbus_writing.proofs.bytes.head_bytes.Goals as goal
 
 pub returns : goal.returns
 unfolding packed
-returns c =
-    rw (
-      c.two_digits-first.ensures,
-      c.two_digits-second.ensures,
-      c.two_digits-third.ensures,
-      c.two_digits-fourth.ensures,
-    )
+returns c = rw c.packed_digits.ensures

@@ -20,6 +20,6 @@ close-requires c =
 pub returns : goal.returns
 returns c =
     data_laid c.requires c.put_entries-end.ensures
-    c.head_bytes-head.ensures
+    c.head_bytes.ensures
     c.lay.ensures
     c.close.ensures

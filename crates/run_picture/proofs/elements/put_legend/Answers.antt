@@ -4,4 +4,4 @@ use Rattle.run_picture.proofs.elements.put_legend.Goals as goal
 
 pub returns : goal.returns
 unfolding legend_text
-returns c = c.put_text.ensures
+returns c = c.put.ensures

@@ -6,7 +6,7 @@ use Rattle.bundle_check.specs.Walks.{end_of}
 use Rattle.run_counting.proofs.Laws.Walking.{length_records}
 use native.Mathlib.Omega.{arith}
 use mathlib.Core.Path.{◌≡◌, refl, sym, ◌∙◌}
-use Prim.Native.Nat.{◌-◌, zero-le}
+use Prim.Native.Nat.{zero-le}
 use Rattle.run_picture.proofs.pace.paces_of.Goals as goal
 
 pub loop-i-init : goal.loop-i-init

@@ -4,7 +4,6 @@ use Rattle.run_picture.proofs.Laws.TimingLaws.{cut_past, cut_on, cut_all}
 use Rattle.run_picture.proofs.Laws.Rows.{rest_rows, no_rows}
 use native.Mathlib.Omega.{arith}
 use mathlib.Core.Path.{refl}
-use Prim.Native.Nat.{◌-◌}
 use borrow.Author.Tests.{le-ltb, lt-ltb}
 use Rattle.run_picture.proofs.pace.reach.Goals as goal
 

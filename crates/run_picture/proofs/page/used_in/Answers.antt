@@ -3,7 +3,7 @@ use Rattle.run_picture.proofs.Laws.PageLaws.{using_none, using_next, using_all}
 use Rattle.run_picture.proofs.Laws.Rows.{rest_rows, no_rows, near_position}
 use Rattle.bundle_check.specs.Records.{records_of}
 use native.Mathlib.Omega.{arith}
-use Prim.Native.Nat.{◌-◌, zero-le}
+use Prim.Native.Nat.{zero-le}
 use Rattle.run_picture.proofs.page.used_in.Goals as goal
 
 pub loop-i-init : goal.loop-i-init

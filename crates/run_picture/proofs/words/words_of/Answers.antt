@@ -1,5 +1,5 @@
 -- `run_picture::words::words_of` meets its contract: a row more each time.
-use Prim.Native.Nat.{◌-◌, zero-le}
+use Prim.Native.Nat.{zero-le}
 use mathlib.Core.Path.{◌≡◌, refl}
 use native.Mathlib.Omega.{arith}
 use Rattle.bundle_check.proofs.Laws.BodyLaws.{few_rows}

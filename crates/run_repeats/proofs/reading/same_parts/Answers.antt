@@ -1,18 +1,12 @@
 -- `run_repeats::reading::same_parts` meets its contract.
-use borrow.Author.Tests.{not-true, not-false}
 use mathlib.Core.Path.{sym, ◌∙◌}
 use Rattle.run_repeats.specs.Repeats.{same_parts}
-use mathlib.Core.Path.{ap}
-use mathlib.Core.Bool.{not}
 use Rattle.run_repeats.proofs.reading.same_parts.Goals as goal
 
-pub returns-then-not-meter : goal.returns-then-not-meter
+pub returns-then-is_same : goal.returns-then-is_same
 unfolding same_parts
-returns-then-not-meter c =
-    let a = c.args in
-    rw (sym c.is_same-meter.ensures ∙ not-true _ (ap not c.if-not-meter.true))
+returns-then-is_same c = rw (sym c.is_same.ensures ∙ c.if-is_same.true) c.is_same-then-is_same.ensures
 
-pub returns : goal.returns
+pub returns-else-is_same : goal.returns-else-is_same
 unfolding same_parts
-returns c =
-    rw (sym c.is_same-meter.ensures ∙ not-false _ (ap not c.if-not-meter.false)) c.is_same.ensures
+returns-else-is_same c = rw (sym c.is_same.ensures ∙ c.if-is_same.false) c.if-is_same.false

@@ -1,35 +1,39 @@
--- `run_replay::figures::entry_with` meets its contract: what is left has the entry.
-use Prim.Native.Nat.{ℕ, ◌-◌}
-use mathlib.Core.Path.{◌≡◌, refl, sym, ap, ◌∙◌}
-use native.Mathlib.Omega.{arith}
+-- `run_replay::figures::entry_with` meets its contract: the first entry that has the quantity, or none that has it.
 use borrow.Author.Rules.{rules}
+use borrow.Author.Tests.{tests}
+use Rattle.std.proofs.Common.{◌≡◌, ◌∙◌, ℕ, true, false, sym}
+use Rattle.std.specs.Option.{MatchOption}
+use Rattle.std.specs.List.{AllWithin, HoldsAt}
 use lib.Dec.{eqb}
 use lib.ListN.{length}
-use Rattle.run_replay.proofs.Laws.Telling.{entry_here, entry_next, entry_none}
-use borrow.Author.Tests.{eq-eqb, ne_eqb}
+use Prim.Native.Nat.{◌<◌}
+use denote.Ref.{Bor}
+use Rattle.std.proofs.lemmas.Iterator.{first_from_find, YieldsList-from_slice}
+use Rattle.std.proofs.lemmas.Option.{MatchOption-at_some, MatchOption-at_none}
+use Rattle.mbus_rules.specs.declared.Entry.{Entry}
+use Rattle.mbus_rules.specs.Quantities.{quantity_of}
+use Rattle.run_replay.proofs.Laws.Telling.{entry_first, entry_none}
+use Rattle.run_replay.proofs.figures.entry_with.Goals.{After-find}
 use Rattle.run_replay.proofs.figures.entry_with.Goals as goal
 
-pub loop-i-init : goal.loop-i-init
-loop-i-init c = refl
+abbrev has : ℕ → Entry → Type 0
+has q e = eqb (quantity_of e.unit) q ≡ true
 
-pub returns-then-has : goal.returns-then-has
-returns-then-has c =
-    let a = c.args in
-    let i = c.loop-i.i in
-    let seven : length a.entries ≡ 7 = search rules in
-    let has = ap (λ (q : ℕ). eqb q a.quantity) (sym c.quantity_of.ensures) ∙ (eq-eqb _ _ c.if-has.true) in
-    sym (entry_here a.quantity a.entries i _ (omega arith) has) ∙ c.loop-i.invariant
+abbrev lacks : ℕ → Entry → Type 0
+lacks q e = eqb (quantity_of e.unit) q ≡ false
 
-pub loop-i-preserved : goal.loop-i-preserved
-loop-i-preserved c =
-    let a = c.args in
-    let i = c.loop-i.i in
-    let seven : length a.entries ≡ 7 = search rules in
-    let lacks = ap (λ (q : ℕ). eqb q a.quantity) (sym c.quantity_of.ensures) ∙ (ne_eqb _ _ c.if-has.false) in
-    entry_next a.quantity a.entries i _ (omega arith) lacks ∙ c.loop-i.invariant
+found : (c : After-find) → MatchOption c.find.result (AllWithin (lacks c.args.quantity) c.args.entries.now 0 (length c.args.entries.now))
+    (λ (x : Bor Entry). has c.args.quantity x.now × (i : ℕ) × (i < length c.args.entries.now) × HoldsAt (λ y. y ≡ x.now) c.args.entries.now i × AllWithin (lacks c.args.quantity) c.args.entries.now 0 i)
+found c =
+    let q = c.args.quantity in
+    first_from_find _ _ c.find.result (has q) (lacks q) c.find.ensures.ran (YieldsList-from_slice c.args.entries.now cc)
+    (λ x k p. search (rules, tests)) (λ x k p. search (rules, tests))
 
-pub returns : goal.returns
-returns c =
-    let a = c.args in
-    let seven : length a.entries ≡ 7 = search rules in
-    c.blank_entry.ensures ∙ sym (entry_none a.quantity a.entries c.loop-i.i (omega arith)) ∙ c.loop-i.invariant
+pub returns-in-Some : goal.returns-in-Some
+returns-in-Some c =
+    let f = MatchOption-at_some _ _ _ c.in-Some.is (found (goal.at.returns-in-Some c).After-find) in
+    sym (entry_first c.args.quantity c.args.entries.now f.1 c.in-Some.e.now f.2 f.4 (f.3 c.in-Some.e.now) f.0)
+
+pub returns-in-None : goal.returns-in-None
+returns-in-None c =
+    c.blank_entry.ensures ∙ sym (entry_none c.args.quantity c.args.entries.now (MatchOption-at_none _ _ c.in-None.is (found (goal.at.returns-in-None c).After-find)))

@@ -1,12 +1,14 @@
 -- `run_replay::figures::figures_at` meets its contract.
 use Prim.Native.Nat.{ℕ}
 use mathlib.Core.List.{List}
-use mathlib.Core.Path.{sym, ap, ◌∙◌}
+use mathlib.Core.Path.{sym, ap, ap₂, ◌∙◌}
 use native.Mathlib.Omega.{arith}
 use lib.Seq.{length-take-le}
-use Rattle.mbus_rules.specs.declared.Reading.{Reading}
+use Rattle.std.specs.Result.{result_unwrap_or}
+use Rattle.mbus_rules.specs.declared.Telegram.{Telegram}
 use Rattle.mbus_rules.specs.Lines.{read_line}
-use Rattle.mbus_rules.specs.Telegrams.{shown}
+use Rattle.base_rules.specs.Shown.{shown}
+use Rattle.mbus_rules.proofs.Laws.Outlines.{telegram_shown}
 use Rattle.bundle_rows.proofs.Laws.CharacterLaws.{characters_few, puts_taken}
 use Rattle.run_replay.specs.Figures.{told_by}
 use Rattle.run_replay.specs.Shown.{shown_told}
@@ -25,5 +27,7 @@ slice_bounds-read_line-end c =
 pub returns : goal.returns
 returns c =
     c.told_by.ensures
-    ∙ ap (λ (x : Reading). shown_told (told_by x.telegram))
-    (c.read_line-reading.ensures ∙ ap (λ (l : List ℕ). shown (read_line l)) (puts_taken c.unchecked_characters-count.ensures))
+    ∙ ap (λ (x : Telegram). shown_told (told_by x))
+    (c.unwrap_or.ensures
+    ∙ ap₂ result_unwrap_or (c.read_line-read.ensures ∙ ap (λ (l : List ℕ). shown (read_line l)) (puts_taken c.unchecked_characters-count.ensures)) c.bare.ensures
+    ∙ telegram_shown (read_line _))

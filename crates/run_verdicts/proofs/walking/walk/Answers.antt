@@ -15,8 +15,8 @@ pub judge_in-judged-requires : goal.judge_in-judged-requires
 judge_in-judged-requires c =
     rw c.row_from-row.ensures (c.requires.inside c.loop-i.i c.loop-i-test.true)
 
-pub bounds-rulings-i : goal.bounds-rulings-i
-bounds-rulings-i c =
+pub bounds-verdicts-i : goal.bounds-verdicts-i
+bounds-verdicts-i c =
     omega (arith, c.loop-i.invariant.few)
 
 pub bounds-slots-position-in-loop-i : goal.bounds-slots-position-in-loop-i

@@ -1,5 +1,0 @@
--- `Clock::late` meets its contract.
-use Rattle.bench_clock.proofs.Clock.late.Goals as goal
-
-pub returns : goal.returns
-returns c = rw c.since.ensures

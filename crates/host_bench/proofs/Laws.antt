@@ -1,3 +1,0 @@
--- What follows from the definitions, invariants of loops among it.
-pub mod CallLaws
-pub mod Resistances

@@ -1,2 +1,0 @@
--- What follows from the definitions.
-pub mod CallLaws
