@@ -4,7 +4,7 @@
 ghost use Rattle.std.specs.Prelude.{◌≡◌};
 ghost use Rattle.base_calendar.specs.Months.{days_in};
 
-// The days of a month, by the Gregorian calendar.
+// The days of a month, by the Gregorian calendar. (A match: its numbers are days and no kinds, and months of one length share an arm.)
 pub fn days_of(year: u16, month: u8) -> u8
     ensures { result ≡ days_in year month }
 {

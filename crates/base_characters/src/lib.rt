@@ -15,7 +15,8 @@ pub mod carrying;
 pub mod line;
 pub mod pairs;
 
-// What one walk over characters gathers: 2 or 3, and the sum of their bytes, modulo 256, which is there on a refusal too.
+// What one walk over characters gathers: 2 or 3, and the sum of their bytes, modulo 256. (No Result of the sum: `gather`
+// promises the sum beside a refusal too.)
 #[derive(Clone, Copy)]
 pub struct Gathering {
     pub outcome: Result<(), Refusal>,

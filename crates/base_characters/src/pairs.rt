@@ -55,7 +55,8 @@ pub fn soundness_of(bytes: &[u8]) -> Result<(), Refusal>
 }
 
 // The first characters, which the back end takes many at a time where their count is that of whole blocks. The characters are summed
-// whole, since what stands above a byte changes nothing modulo 256.
+// whole, since what stands above a byte changes nothing modulo 256. (Here and below by the place: it is that of two bytes and of one, so an
+// iterator over either slice would have to be counted beside it.)
 fn gather_blocks(bytes: &[u8], whole: usize, out: &mut [u8]) -> Part
     requires { (whole ≤ length bytes.now / 2) × (whole ≤ length out.old) }
     ensures { Parted (take whole (chars bytes.now)) result.flags result.sum × (out.new
@@ -72,7 +73,8 @@ fn gather_blocks(bytes: &[u8], whole: usize, out: &mut [u8]) -> Part
     Part { flags, sum }
 }
 
-// Few characters from a place on, one by one.
+// Few characters from a place on, one by one. (Here and below bytes, count and out stay three parameters with their facts: they are the steps
+// of `gather` alone, which makes the count, and a struct of them would be made there just to be taken apart in each step.)
 fn gather_few(bytes: &[u8], from: usize, count: usize, out: &mut [u8]) -> Part
     requires { (from ≤ count) × (count ≤ length bytes.now / 2) × (count ≤ length out.old) }
     ensures { Parted (drop from (take count (chars bytes.now))) result.flags result.sum × (out.new

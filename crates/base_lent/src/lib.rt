@@ -15,8 +15,8 @@ pub fn is_same(s: &[u8], t: &[u8]) -> bool
         return false;
     }
     let mut alike = true;
-    for i in 0..s.len() {
-        alike = alike & (s[i] == t[i]);
+    for (i, &byte) in s.iter().enumerate() {
+        alike = alike & (byte == t[i]);
     }
     alike
 }
@@ -45,8 +45,8 @@ pub fn lay_each(to: &mut [u8], at: usize, from: &[u8])
     if is_past(to.len(), at, from.len()) {
         return;
     }
-    for i in 0..from.len() {
-        to[at + i] = from[i];
+    for (i, &byte) in from.iter().enumerate() {
+        to[at + i] = byte;
     }
 }
 

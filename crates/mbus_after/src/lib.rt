@@ -59,7 +59,7 @@ fn find_from(capture: &[u16], place: usize) -> Result<Spot, Refusal>
 }
 
 // The lowest place at which an accepted line begins whose first character began at or after t. Places whose time is before t are passed
-// over unread, and no place is searched twice.
+// over unread, and no place is searched twice. (The next place is behind what was found, so no iterator has the steps.)
 pub fn find_line_after(capture: &[u16], times: &[u64], t: u64) -> Result<TimedSpot, Refusal>
     ensures { result ≡ shown (find_after t capture.now times.now) }
 {

@@ -3,14 +3,20 @@ use crate::say::{say, say_one, say_reading};
 use crate::word::Word;
 use std::io;
 
-// A line so far: the word that is being read, how many there are before it, and whether those are
-// a case. A note is answered by itself, as it comes.
+// What a line is so far. A note is answered by itself, as it comes.
+#[derive(Clone, Copy, PartialEq, Eq)]
+pub enum Sort {
+    Case,
+    BadCase,
+    Note,
+}
+
+// A line so far: the word that is being read, how many there are before it, and what those are.
 #[derive(Clone, Copy)]
 pub struct Line {
     pub word: Word,
     pub count: usize,
-    pub is_case: bool,
-    pub is_note: bool,
+    pub sort: Sort,
 }
 
 // The first of the words is the case's name, and the others are the characters of its line.
@@ -30,14 +36,13 @@ impl Line {
         Line {
             word,
             count: 0,
-            is_case: true,
-            is_note: false,
+            sort: Sort::Case,
         }
     }
 
     pub(crate) fn is_empty(self) -> bool {
         let word = self.word;
-        (self.count == 0) & (word.count == 0) & !self.is_note
+        (self.count == 0) & (word.count == 0) & (self.sort != Sort::Note)
     }
 
     // The word ends here and goes among the words, where there is a place for it.
@@ -48,16 +53,20 @@ impl Line {
         if 4096 <= count {
             return Line {
                 word: next,
-                is_case: false,
+                sort: Sort::BadCase,
                 ..self
             };
         }
-        words[count] = (word.value % 65536) as u16;
+        words[count] = word.value.unwrap_or(0);
+        let sort = if word.is_right(count) {
+            self.sort
+        } else {
+            Sort::BadCase
+        };
         Line {
             word: next,
             count: count + 1,
-            is_case: self.is_case & word.is_right(count),
-            ..self
+            sort,
         }
     }
 
@@ -78,11 +87,10 @@ impl Line {
             self.answer(to, words)?;
             return Ok(Line::new());
         }
-        let is_note = self.is_note | (self.is_empty() & (b == b'#'));
-        if is_note {
+        if self.sort == Sort::Note || self.is_empty() && b == b'#' {
             say_one(to, b)?;
             return Ok(Line {
-                is_note: true,
+                sort: Sort::Note,
                 ..self
             });
         }
@@ -90,11 +98,13 @@ impl Line {
     }
 
     pub(crate) fn answer(self, to: io::Stdout, words: &mut [u16; 4096]) -> io::Result<()> {
-        let whole = self.end_word(words);
-        if whole.is_case {
-            answer_case(to, words, whole.count)?;
-        } else if !whole.is_note {
-            say(to, b"bad case")?;
+        if self.sort != Sort::Note {
+            let whole = self.end_word(words);
+            if whole.sort == Sort::Case {
+                answer_case(to, words, whole.count)?;
+            } else {
+                say(to, b"bad case")?;
+            }
         }
         say(to, b"\n")
     }

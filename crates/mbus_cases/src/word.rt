@@ -1,85 +1,65 @@
 // A word of a case, taken a byte at a time.
 
-// The digits or letters so far, and the number that the digits spell. Where the word is bad the
-// number is larger than any that a case may have.
+// The digits or letters so far, the base of the digits, and the number that they spell, or none where the word is bad: no character has a
+// larger one.
 #[derive(Clone, Copy)]
 pub struct Word {
-    pub is_decimal: bool,
+    pub base: u16,
     pub count: usize,
-    pub value: u32,
+    pub value: Option<u16>,
 }
 
-const BAD: u32 = 0x1_0000;
-
-// What is no digit: more than any base.
-const NONE: u8 = 255;
-
-fn digit_of(b: u8) -> u8 {
+fn digit_of(b: u8) -> Option<u16> {
     match b {
-        b'0'..=b'9' => b - b'0',
-        b'A'..=b'F' => b - b'A' + 10,
-        _ => NONE,
+        b'0'..=b'9' => Some((b - b'0') as u16),
+        b'A'..=b'F' => Some((b - b'A') as u16 + 10),
+        _ => None,
     }
 }
 
 // The one name that is known.
 const NAME: [u8; 4] = *b"read";
 
-// One digit or letter more, if it is right. No word has over 20 of them.
-fn longer(is_decimal: bool, count: usize, value: u32, is_right: bool) -> Word {
-    let next = if is_right { value } else { BAD };
-    if 20 <= count {
-        return Word {
-            is_decimal,
-            count,
-            value: BAD,
-        };
-    }
-    Word {
-        is_decimal,
-        count: count + 1,
-        value: next,
-    }
-}
-
 impl Word {
     pub(crate) fn new() -> Word {
         Word {
-            is_decimal: false,
+            base: 16,
             count: 0,
-            value: 0,
+            value: Some(0),
+        }
+    }
+
+    // The number with one digit more. A number has 16 digits at most, and a decimal one 20.
+    fn spelled(self, b: u8) -> Option<u16> {
+        let most = if self.base == 10 { 20 } else { 16 };
+        let digit = digit_of(b)?;
+        if self.base <= digit || most <= self.count {
+            return None;
+        }
+        self.value?.checked_mul(self.base)?.checked_add(digit)
+    }
+
+    // One digit or letter more, and what it makes of the value. No word counts over 20 of them.
+    fn longer(self, value: Option<u16>) -> Word {
+        Word {
+            count: 20.min(self.count.saturating_add(1)),
+            value,
+            ..self
         }
     }
 
     fn with_digit(self, b: u8) -> Word {
-        let value = self.value;
-        let count = self.count;
-        let digit = digit_of(b);
-        if BAD <= value {
-            return self;
+        if b == b'+' && self.count == 0 && self.base == 16 {
+            return Word { base: 10, ..self };
         }
-        if self.is_decimal {
-            return longer(true, count, value * 10 + digit as u32, digit < 10);
-        }
-        if (b == b'+') & (count == 0) {
-            return Word {
-                is_decimal: true,
-                ..self
-            };
-        }
-        longer(
-            false,
-            count,
-            value * 16 + digit as u32,
-            (digit < 16) & (count < 16),
-        )
+        self.longer(self.spelled(b))
     }
 
     // One byte more of the word that stands at a place: the first is a name, the others are numbers.
     pub(crate) fn with(self, b: u8, place: usize) -> Word {
         if place == 0 {
-            let is_right = (self.value < BAD) & (NAME.get(self.count) == Some(&b));
-            return longer(false, self.count, 0, is_right);
+            let is_right = NAME.get(self.count) == Some(&b);
+            return self.longer(if is_right { self.value } else { None });
         }
         self.with_digit(b)
     }
@@ -88,6 +68,6 @@ impl Word {
     pub(crate) fn is_right(self, place: usize) -> bool {
         let is_name = (place == 0) & (self.count == 4);
         let is_number = (0 < place) & (0 < self.count);
-        (self.value < BAD) & (is_name | is_number)
+        self.value.is_some() & (is_name | is_number)
     }
 }

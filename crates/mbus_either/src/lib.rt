@@ -24,7 +24,8 @@ pub struct LiveLine {
     pub spot: Spot,
 }
 
-// What was found, and the stretch of the caller's own capture that it is; an empty one where it is refused.
+// What was found, and the stretch of the caller's own capture that it is; an empty one where it is refused. (No Result of both: HandsEither
+// promises the stretch on a refusal too.)
 #[derive(Clone, Copy)]
 pub struct Either<'a> {
     pub stretch: &'a [u16],

@@ -15,14 +15,14 @@ use mbus_rules::Entry;
 use mbus_telegrams::blank_entry;
 use mbus_telegrams::table::any_missing;
 
-// Entries that were read, and how many they are. The places past the count are blank.
+// Entries that were read, and how many they are. The places past the count are blank. (There is no heap, and a line has seven at most.)
 #[derive(Clone, Copy)]
 pub struct Entries {
     pub count: usize,
     pub entries: [Entry; 7],
 }
 
-// All entries of the rest, from the left.
+// All entries of the rest, from the left. (An entry says how many bytes it has, so no iterator knows where the next begins.)
 pub fn read_entries(rest: &[u8]) -> Result<Entries, Refusal>
     ensures { result ≡ shown (within listed (read_entries 0 rest.now [])) }
 {

@@ -7,7 +7,8 @@ use crate::digits::mark_of;
 use base_numbers::number_at;
 use base_numbers::signed::{count_of, is_below_zero, size_of};
 
-// What the bytes hold in binary: the highest bit is set, and the number that they are.
+// What the bytes hold in binary: the highest bit is set, and the number that they are. (No Option: the number is there in both cases, and the
+// bit stands beside it as the sign does in `Signed`.)
 #[derive(Clone, Copy)]
 pub struct Coded {
     pub falls: bool,
@@ -25,7 +26,8 @@ fn most_of(width: usize) -> u64
     (mark / 15 - 1) * 16 + 15
 }
 
-// A word of bytes that hold at most so much, as one of eight bytes: where the highest bit is set, so is each above it.
+// A word of bytes that hold at most so much, as one of eight bytes: where the highest bit is set, so is each above it. (Whether it is set is
+// handed in: `coded_of` answers it too, and two functions would each be one arm.)
 fn extended(word: u64, most: u64, falls: bool) -> u64
     requires { word ≤ most }
     ensures { result ≡ cond falls (word + (2 ^ 64 - 1 - most)) word }

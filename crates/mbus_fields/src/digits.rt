@@ -22,7 +22,8 @@ pub struct Wide {
     pub word: u64,
 }
 
-// The value of so many bytes that stands behind structure and unit, if it is not past the end.
+// The value of so many bytes that stands behind structure and unit, if it is not past the end. (That a width is 8 at most is asked here, below
+// and in two other crates, each for its own widths: a type of widths would be made of a number in each just for one call.)
 fn wide_at(rest: &[u8], width: usize) -> Option<Wide>
     requires { width ≤ 8 }
     ensures { result ≡ wide_by width rest.now }
@@ -60,7 +61,8 @@ pub fn digits_at(structure: u8, rest: &[u8]) -> Option<Wide>
     None
 }
 
-// F in the highest place of so many bytes, at most eight, and 1 of none, which no word of none reaches.
+// F in the highest place of so many bytes, at most eight, and 1 of none, which no word of none reaches. (A table of numbers, as `limit_of` of
+// mbus_writable is one of others: they share no row, so one function for both would be handed the whole table.)
 #[tactic(auto, unfolding(crate::specs::Fields::mark_of))]
 pub(crate) fn mark_of(width: usize) -> u64
     ensures { result ≡ mark_of (min width 8) }
@@ -93,7 +95,7 @@ fn negated(size: u64) -> i64
     -(size as i64)
 }
 
-// Digits with a sign: minus zero is none.
+// Digits with a sign: minus zero is none. (Whether there is a sign is kept in the value, as the definition has it, so it is no switch alone.)
 fn sign_on(falls: bool, size: Packed) -> Signed
     requires { size.count < 2 ^ 63 }
     ensures { result ≡ sign_on falls size }

@@ -15,7 +15,8 @@ use mbus_rules::{Kind, Outline, Request, Telegram};
 use mbus_shape::shape_of;
 use mbus_telegrams::bare;
 
-// 10 to 16, of what stands behind CI: the entries, or the number of a refusal.
+// 10 to 16, of what stands behind CI: the entries, or the number of a refusal. (That the twelve bytes of a header are there is asked by three
+// functions, of which two hand it on to this one; a struct of header and rest would be made by those two just to be taken apart here.)
 fn body_of(part: &[u8]) -> Result<Entries, Refusal>
     requires { 12 ≤ length part.now }
     ensures { result ≡ shown (within listed (body_of part.now)) }

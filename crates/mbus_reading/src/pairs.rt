@@ -18,13 +18,12 @@ use mbus_shape::brief_shape;
 const FEW: usize = 5;
 
 // Takes in few characters: their bytes go into the first places, up to the first that is not sound. Behind an odd one only the range is
-// still to be told.
+// still to be told. (By the place, which is that of two bytes and of one.)
 fn take_few(bytes: &[u8], out: &mut [u8]) -> Result<(), Refusal>
     requires { (0 < length bytes.now / 2) × (length bytes.now / 2 ≤ length out.old) }
     ensures { TakenFew (chars bytes.now) out.new result }
 {
-    let mut i = 0;
-    while i < bytes.len() / 2 {
+    for i in 0..bytes.len() / 2 {
         let c = character_at(bytes, i);
         if 511 < c {
             return Err(Refusal::WRONG_CHARACTER);
@@ -39,7 +38,6 @@ fn take_few(bytes: &[u8], out: &mut [u8]) -> Result<(), Refusal>
         }
         let b = (c % 256) as u8;
         out[i] = b;
-        i += 1;
     }
     Ok(())
 }

@@ -17,6 +17,7 @@ use mbus_telegrams::kinds::{kind_in, kind_number};
 // The bytes of a telegram's record.
 pub const SIZE: usize = 136;
 
+// The number of a value's sort. (A match: the cases hold values, so `as` does not tell their number.)
 fn sort_of(value: Value) -> u8
     ensures { result ≡ sort_of value }
 {

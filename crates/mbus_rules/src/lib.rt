@@ -61,7 +61,8 @@ pub struct Header {
 }
 
 // A row of the table of quantities: its first and last unit byte; the quantity and its unit; the power of ten, which is what the unit byte
-// leaves by the divisor, less the other number; whether a telegram must have the quantity, and whether it may be below zero.
+// leaves by the divisor, less the other number; whether a telegram must have the quantity, and whether it may be below zero: two columns of
+// the table that do not depend on each other, and so two flags.
 #[derive(Clone, Copy)]
 pub struct UnitRow {
     pub first: u8,
@@ -74,7 +75,8 @@ pub struct UnitRow {
     pub may_fall: bool,
 }
 
-// A row of the structures: the structure byte, the bytes of a value, and whether they are packed digits or binary.
+// A row of the structures: the structure byte, the bytes of a value, and whether they are packed digits or binary. (Two flags and no enum: an
+// unknown structure is neither, and `is_packed` and `is_binary` read one each.)
 #[derive(Clone, Copy)]
 pub struct StructureRow {
     pub structure: u8,
@@ -83,7 +85,8 @@ pub struct StructureRow {
     pub binary: bool,
 }
 
-// A telegram. What its kind does not use is zero, and so are the entry places past the count.
+// A telegram. What its kind does not use is zero, and so are the entry places past the count. (There is no heap, and a line has seven entries
+// at most.)
 #[derive(Clone, Copy)]
 pub struct Telegram {
     pub kind: Kind,
@@ -103,6 +106,7 @@ pub enum Request {
 }
 
 // A reading as the two ends of an exchange look at it: a refused line, an ack, a request, or data from an address.
+// (No Result: a refused line is one of the things that an exchange hears, and the rules of both ends and their theorems go by the four cases.)
 #[derive(Clone, Copy, PartialEq, Eq)]
 pub enum Outline {
     Refused(u16),

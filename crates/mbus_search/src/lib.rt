@@ -44,12 +44,7 @@ fn is_accepted(bytes: &[u8], sum: u8) -> bool
     ensures { result ≡ accepts (frame_by sum read_body bytes.now) }
 {
     let outline = outline_in(bytes, sum);
-    match outline {
-        Outline::Refused(_) => false,
-        Outline::Ack => true,
-        Outline::Asks(_) => true,
-        Outline::Data(_) => true,
-    }
+    !matches!(outline, Outline::Refused(_))
 }
 
 // The lowest place at which an accepted line begins. At each place the one length that can be is walked over, character by character:
@@ -69,6 +64,7 @@ pub fn find_line(capture: &[u16]) -> Result<Spot, Refusal>
             let ended = is_ended(rest, length);
             if ended {
                 let mut sum: u8 = 0;
+                // by the place, which says where the byte goes and when the line ends
                 for i in 0..length {
                     let c = rest[i];
                     if (511 < c) | counts_odd(c) {

@@ -10,12 +10,14 @@ ghost use Rattle.mbus_shape.specs.Shapes.{shape_long, shape_body, end_wrong, sum
 ghost use Rattle.mbus_shape.specs.Counts.{ShortCount, LongCount};
 
 use base_numbers::byte_at;
+use base_rules::Refusal;
 use mbus_rules::{Outline, Request};
 use mbus_telegrams::{NO_METHOD, is_method};
 
 pub mod first;
 
-// The first bytes of an ack, of the short form and of the long form, and the last byte of both forms.
+// The first bytes of an ack, of the short form and of the long form, and the last byte of both forms: bytes of a line and no enum, since
+// they are compared with whatever byte stands there.
 pub const ACK: u8 = 0xE5;
 
 pub const SHORT: u8 = 0x10;
@@ -24,7 +26,7 @@ pub const LONG: u8 = 0x68;
 
 pub const END: u8 = 0x16;
 
-// What 68, 68 and 16 of the long form add to the sum of all bytes.
+// What 68, 68 and 16 of the long form add to the sum of all bytes: a number.
 const FRAME: u8 = 0xE6;
 
 // 4: the first byte is not E5, 10 or 68.
@@ -100,7 +102,7 @@ fn short_shape(control: u8, address: u8) -> Outline
     if control == 0x5B {
         return Outline::Asks(Request::Read(address));
     }
-    Outline::Refused(9)
+    Outline::Refused(Refusal::WRONG_FORM.0)
 }
 
 // 9 of the long form: C, A, CI and S or what follows.
@@ -118,7 +120,7 @@ fn long_shape(field: &[u8]) -> Outline
     if is_data(field) {
         return Outline::Data(address);
     }
-    Outline::Refused(9)
+    Outline::Refused(Refusal::WRONG_FORM.0)
 }
 
 // After 10, with the right count: 7 to 9.
@@ -127,12 +129,12 @@ fn short_form(bytes: &[u8]) -> Outline
     ensures { result ≡ outlined (read_frame shape_body bytes.now) }
 {
     if wrong_end(bytes) {
-        return Outline::Refused(7);
+        return Outline::Refused(Refusal::WRONG_END.0);
     }
     let control = byte_at(bytes, 1);
     let address = byte_at(bytes, 2);
     if wrong_sum(bytes, control.wrapping_add(address)) {
-        return Outline::Refused(8);
+        return Outline::Refused(Refusal::WRONG_CHECKSUM.0);
     }
     short_shape(control, address)
 }
@@ -146,13 +148,13 @@ fn long_form(bytes: &[u8], sum: u8) -> Outline
     let third = byte_at(bytes, 2);
     let fourth = byte_at(bytes, 3);
     if (second != third) | (fourth != LONG) {
-        return Outline::Refused(6);
+        return Outline::Refused(Refusal::WRONG_LENGTHS.0);
     }
     if wrong_end(bytes) {
-        return Outline::Refused(7);
+        return Outline::Refused(Refusal::WRONG_END.0);
     }
     if wrong_whole(bytes, sum) {
-        return Outline::Refused(8);
+        return Outline::Refused(Refusal::WRONG_CHECKSUM.0);
     }
     let last = bytes.len() - 2;
     long_shape(&bytes[4..last])
@@ -165,20 +167,20 @@ pub fn brief_shape(bytes: &[u8]) -> Outline
     let count = bytes.len();
     let first = byte_at(bytes, 0);
     if first == LONG {
-        return Outline::Refused(5);
+        return Outline::Refused(Refusal::WRONG_COUNT.0);
     }
     if first == ACK {
         return if count == 1 {
             Outline::Ack
         } else {
-            Outline::Refused(5)
+            Outline::Refused(Refusal::WRONG_COUNT.0)
         };
     }
     if first != SHORT {
-        return Outline::Refused(4);
+        return Outline::Refused(Refusal::WRONG_FIRST_BYTE.0);
     }
     if count != 5 {
-        return Outline::Refused(5);
+        return Outline::Refused(Refusal::WRONG_COUNT.0);
     }
     short_form(bytes)
 }
@@ -192,7 +194,7 @@ pub fn shape_of(bytes: &[u8], sum: u8) -> Outline
         return brief_shape(bytes);
     }
     if wrong_length(bytes) {
-        return Outline::Refused(5);
+        return Outline::Refused(Refusal::WRONG_COUNT.0);
     }
     long_form(bytes, sum)
 }

@@ -11,10 +11,11 @@ use mbus_rules::{Decimal, Entry, Header, Kind, Telegram, Value};
 pub mod kinds;
 pub mod table;
 
-// The address that asks every meter.
+// The address that asks every meter: a byte, as each other address.
 pub const BROADCAST: u8 = 0xFE;
 
-// The three methods of an enter, and what stands in their place in a leave.
+// The three methods of an enter, and what stands in their place in a leave. (Bytes and no enum: a telegram keeps the byte that came, and C is
+// told it.)
 pub const START_STOP: u8 = 0x90;
 
 pub const SIMULATED_FLOW: u8 = 0x91;
@@ -41,7 +42,8 @@ pub fn blank_entry() -> Entry
     }
 }
 
-// A telegram without header and entries.
+// A telegram without header and entries. (Its three fields come one by one: who asks has two of them as constants, and a struct of the three
+// would be made just to be taken apart here.)
 pub fn bare(kind: Kind, address: u8, method: u8) -> Telegram
     ensures { result ≡ bare kind address method }
 {

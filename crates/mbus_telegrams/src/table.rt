@@ -38,14 +38,15 @@ const CUBIC_METRE_AN_HOUR: u8 = 5;
 
 const DEGREE: u8 = 6;
 
-// The low bits that a power of ten is taken from, by what leaves them: three, two or none.
+// The low bits that a power of ten is taken from, by what leaves them: three, two or none. They are divisors, so numbers.
 const N: u8 = 8;
 
 const M: u8 = 4;
 
 const NONE: u8 = 1;
 
-// The unit byte of a time, and the structure that it goes with alone.
+// The unit byte of a time, and the structure that it goes with alone. (Here and below bytes and no enums: they stand in lines and records, where
+// any other byte may stand too, and are compared with what stands there.)
 pub const UNIT_OF_TIME: u8 = 0x6D;
 
 pub const POINT_IN_TIME: u8 = 0x06;
@@ -75,7 +76,8 @@ pub const EIGHT_BYTES: u8 = 0x07;
 // How many rows the table of quantities has.
 const ROWS: usize = 8;
 
-// A row of the table: first and last unit byte, quantity, unit, power of ten, whether it must be there, whether it may be below zero.
+// A row of the table: first and last unit byte, quantity, unit, power of ten, whether it must be there, whether it may be below zero. (The last
+// two are columns of the table, and do not pick what is done.)
 fn unit_row(
     first: u8,
     last: u8,
@@ -152,7 +154,7 @@ pub fn any_missing(marks: [bool; 8]) -> bool
 // How many rows the structures have.
 const STRUCTURES: usize = 10;
 
-// A row of the structures: the byte, the bytes of a value, whether they are packed digits, whether binary.
+// A row of the structures: the byte, the bytes of a value, whether they are packed digits, whether binary: two columns too.
 fn structure_row(structure: u8, width: usize, packed: bool, binary: bool) -> StructureRow
     ensures { result ≡ structure_row structure width packed binary }
 {

@@ -65,7 +65,7 @@ fn used_body(t: Telegram) -> bool
     used_header(t.header) | (0 < t.count) | any_used(&t.entries)
 }
 
-// One more than the greatest number that so many bytes have digits for.
+// One more than the greatest number that so many bytes have digits for. (A table of numbers, as `mark_of` of mbus_fields is one of others.)
 fn limit_of(width: usize) -> u64
     requires { width ≤ 8 }
     ensures { result ≡ 100 ^ width }

@@ -21,7 +21,7 @@ pub struct Unmarked {
     pub made: usize,
 }
 
-// The byte by which a mark begins.
+// The byte by which a mark begins, and a byte of a character too, so no enum.
 const MARK: u8 = 0xFF;
 
 // The character of a byte that came with right parity. A count of bits, whose parity the processor has, is the cheapest for one byte.
@@ -84,7 +84,8 @@ fn first_of(bytes: &[u8]) -> Option<Whole>
     })
 }
 
-// Makes characters of marked bytes, as many as there are places or whole characters in the bytes.
+// Makes characters of marked bytes, as many as there are places or whole characters in the bytes. (By number: how many are made is answered
+// where the bytes end, and an iterator over the places would be counted beside it.)
 pub fn unmark(bytes: &[u8], characters: &mut [u16]) -> Unmarked
     ensures { Unmarks bytes.now characters.old characters.new result }
 {

@@ -7,13 +7,14 @@ ghost use Rattle.text_filling.specs.Decimals.{decimal};
 ghost use Rattle.text_filling.specs.Holes.{filled_with};
 ghost use Rattle.text_filling.specs.Putting.{PutAt};
 
-// The decimal digits of a number, in the last places.
+// The decimal digits of a number, in the last places of an array, since there is no heap for as many as they are.
 #[derive(Clone, Copy)]
 struct Digits {
     bytes: [u8; 20],
     start: usize,
 }
 
+// The digits of a number. (The loop goes along the number itself, whose digits no iterator knows.)
 fn digits_of(n: u64) -> Digits
     ensures { (result.start ≤ 19) × (length result.bytes ≡ 20) × (drop result.start result.bytes ≡ decimal n) }
 {

@@ -8,7 +8,7 @@ ghost use Rattle.text_stretches.specs.Between.{between, pair_between};
 
 use text_filling::{put, put_number};
 
-// How many digits a number has.
+// How many digits a number has. (The loop goes along the number itself.)
 fn width_of(n: u64) -> usize
     ensures { result ≡ length (decimal n) }
 {
@@ -22,7 +22,7 @@ fn width_of(n: u64) -> usize
 }
 
 // Puts a number in decimal from a place on, as `put_number` does; where there is no room its digits are only counted, since spelling them
-// is dearer at run time.
+// is dearer at run time. (Here and below out and at stay two parameters, as in text_filling: PutAt tells them apart.)
 fn put_decimal(out: &mut [u8], at: usize, n: u64) -> usize
     ensures { PutAt (decimal n) out.old at result out.new }
 {

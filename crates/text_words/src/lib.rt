@@ -48,10 +48,8 @@ fn say(out: &mut [u8], words: &[u8]) -> u32
         return Refusal::TOO_FEW_PLACES.told();
     }
     // (No copy_from_slice: the call that it becomes takes stack, which the loop does not.)
-    let mut i = 0;
-    while i < words.len() {
-        out[i] = words[i];
-        i += 1;
+    for (i, &byte) in words.iter().enumerate() {
+        out[i] = byte;
     }
     out[words.len()] = 0;
     words.len() as u32

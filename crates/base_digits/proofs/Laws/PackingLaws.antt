@@ -1,5 +1,5 @@
 -- Digits put into bytes one after the other: what is put so far, and the digits that are left.
-use Rattle.std.proofs.Common.{◌≡◌, ℕ, zero, suc, ◌+◌, ◌-◌, ◌*◌, ◌/◌, ◌%◌, ◌<◌, ◌≤◌, List, [], ◌∷◌, ◌++◌, length, take, set, replicate, sym, refl, ap, ◌∙◌, append_assoc, append-nil, arith, length-set, take-suc-set, take_all}
+use Rattle.std.proofs.Common.{◌≡◌, ℕ, suc, ◌+◌, ◌-◌, ◌*◌, ◌/◌, ◌%◌, ◌<◌, ◌≤◌, List, [], ◌∷◌, ◌++◌, length, take, set, replicate, sym, ap, ◌∙◌, append_assoc, append-nil, arith, length-set, take-suc-set, take_all}
 use native.Mathlib.Numerals.{add-one}
 use lib.ListN.{length-replicate}
 use Rattle.base_digits.specs.Digits.{packed}

@@ -1,15 +1,13 @@
 -- Laws of `specs/Wholes`: the ways out of the functions.
-use Prim.Native.Nat.{ℕ, ◌<◌}
-use mathlib.Core.Bool.{Bool, true, false, cond, ◌&&◌, ◌||◌}
+use Prim.Native.Nat.{ℕ}
+use mathlib.Core.Bool.{Bool, true, false, cond, ◌&&◌}
 use mathlib.Core.List.{List, map}
-use mathlib.Core.Path.{◌≡◌, refl, sym, ap, ◌∙◌}
-use native.Mathlib.Omega.{arith}
-use borrow.Author.Tests.{eq-eqb, ne_eqb}
+use mathlib.Core.Path.{◌≡◌}
+use borrow.Author.Tests.{ne_eqb}
 use lib.Dec.{eqb, ltb}
-use lib.ListN.{length, take, length-map}
-use lib.Seq.{take_all}
-use Rattle.base_rules.specs.Lists.{at, any}
-use Rattle.base_characters.specs.Characters.{over, odd, byte_of}
+use lib.ListN.{length, length-map}
+use Rattle.base_rules.specs.Lists.{at}
+use Rattle.base_characters.specs.Characters.{byte_of}
 use Rattle.mbus_length.specs.declared.HowLong.TheVariants.{Known, NotYet, NoLine}
 use Rattle.mbus_shape.specs.First.{left_by}
 use Rattle.mbus_length.specs.Lengths.{unsound_in, lacks_count, line_length}

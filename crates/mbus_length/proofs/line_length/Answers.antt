@@ -1,5 +1,5 @@
 -- `mbus_length::line_length` meets its contract: each way out by its law.
-use Rattle.std.proofs.Common.{◌≡◌, Bool, true, false, ◌&&◌, eqb, ltb, length, sym, ◌∙◌, eq-eqb, ne_eqb, lt-ltb, le-ltb}
+use Rattle.std.proofs.Common.{◌≡◌, true, false, ◌&&◌, eqb, ltb, length, sym, ◌∙◌, eq-eqb, ne_eqb, lt-ltb, le-ltb}
 use Rattle.mbus_length.proofs.Laws.Wholes.{whole_none, whole_refused, whole-unsound, whole-lacking}
 use Rattle.mbus_length.proofs.line_length.Goals.{Joined-else-start-eq-LONG, else-start-eq-LONG-via-then-start-eq-LONG+else-first-lt2, else-start-eq-LONG-via-else-start-eq-LONG}
 use Rattle.mbus_length.proofs.line_length.Goals as goal

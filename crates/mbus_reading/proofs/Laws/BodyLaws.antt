@@ -1,5 +1,5 @@
 -- The data telegram, by what became of its header and entries.
-use Prim.Native.Nat.{ℕ, ◌-◌, ◌<◌}
+use Prim.Native.Nat.{ℕ, ◌<◌}
 use mathlib.Core.Bool.{Bool, true, false}
 use mathlib.Core.List.{List, []}
 use mathlib.Core.Path.{◌≡◌, refl, sym, ap, ap₂, ◌∙◌}
@@ -14,7 +14,7 @@ use Rattle.mbus_rules.specs.declared.Entry.{Entry}
 use Rattle.mbus_rules.specs.declared.Header.{Header}
 use Rattle.mbus_rules.specs.declared.Telegram.{Telegram}
 use Rattle.base_rules.specs.Lists.{at}
-use Rattle.base_rules.specs.Answers.{Answer, reads, refusal, refuse, within}
+use Rattle.base_rules.specs.Answers.{reads, refusal, refuse, within}
 use Rattle.mbus_rules.specs.Headers.{header_of, wrong_header}
 use Rattle.mbus_rules.specs.Entries.{read_entries}
 use Rattle.base_rules.specs.Shown.{shown}

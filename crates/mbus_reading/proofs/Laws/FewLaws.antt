@@ -1,5 +1,5 @@
 -- Few characters that come as bytes, walked over up to the first that is not sound.
-use Prim.Native.Nat.{ℕ, ◌+◌, ◌*◌, ◌/◌, ◌%◌, ◌≤◌, ◌<◌}
+use Prim.Native.Nat.{ℕ, ◌+◌, ◌*◌, ◌/◌, ◌≤◌, ◌<◌}
 use mathlib.Core.Bool.{Bool, true, false, cond}
 use mathlib.Core.List.{List, map}
 use mathlib.Core.Path.{◌≡◌, refl, sym, ap, ◌∙◌}
@@ -10,7 +10,7 @@ use lib.Seq.{take_at}
 use Rattle.std.specs.Prelude.{Ok}
 use Rattle.mbus_rules.specs.declared.Telegram.{Telegram}
 use Rattle.mbus_rules.specs.declared.Outline.{Outline}
-use Rattle.base_rules.specs.Lists.{at, any, total}
+use Rattle.base_rules.specs.Lists.{at, any}
 use Rattle.base_rules.proofs.Laws.ListLaws.{Gathered, gathered_none}
 use Rattle.base_characters.proofs.Laws.CharacterLaws.{at_bytes}
 use Rattle.base_characters.specs.Characters.{over, odd, byte_of, chars}

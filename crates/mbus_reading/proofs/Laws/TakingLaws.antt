@@ -1,5 +1,5 @@
 -- What is known of a line once its characters are taken in.
-use Prim.Native.Nat.{ℕ, ◌+◌, ◌%◌, ◌≤◌, ◌<◌}
+use Prim.Native.Nat.{ℕ, ◌+◌, ◌≤◌, ◌<◌}
 use mathlib.Core.Bool.{Bool, true, false, cond, not, ◌||◌, or-true}
 use mathlib.Core.List.{List, [], ◌∷◌, map}
 use mathlib.Core.Path.{◌≡◌, refl, sym, ap, subst, ◌∙◌}
@@ -11,7 +11,7 @@ use Rattle.std.specs.Prelude.{Result, Ok, Err}
 use Rattle.base_rules.specs.declared.refusals.Refusal.{Refusal}
 use Rattle.base_rules.specs.Shown.{shown}
 use Rattle.mbus_rules.specs.declared.Telegram.{Telegram}
-use Rattle.base_rules.specs.Lists.{at, any, total}
+use Rattle.base_rules.specs.Lists.{at, any}
 use Rattle.base_characters.proofs.Laws.CharacterLaws.{at_bytes}
 use Rattle.base_rules.proofs.Laws.Tests.{by_test}
 use Rattle.base_characters.specs.Characters.{over, odd, byte_of}

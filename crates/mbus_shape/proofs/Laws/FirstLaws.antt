@@ -1,7 +1,6 @@
 -- Laws of `specs/First`: how many bytes a line has by a beginning of them and by all.
-use Rattle.std.proofs.Common.{◌≡◌, ℕ, ◌+◌, ◌<◌, ◌≤◌, Bool, true, false, cond, not, ◌&&◌, ◌||◌, eqb, ltb, List, [], ◌∷◌, map, length, take, sym, refl, ap, ◌∙◌, ap₂, true≢false, arith, length-take-le, get_or-take, ltb-false, ltb-true, lt-ltb, eq-eqb, eqb-true}
+use Rattle.std.proofs.Common.{◌≡◌, ℕ, ◌+◌, ◌<◌, ◌≤◌, Bool, true, false, cond, not, ◌&&◌, ◌||◌, eqb, ltb, List, [], ◌∷◌, map, length, take, sym, ◌∙◌, ap₂, true≢false, arith, length-take-le, get_or-take, ltb-false, ltb-true, lt-ltb, eq-eqb, eqb-true}
 use mathlib.Core.Bool.{or-true, and-false, and-eq-true_iff}
-use borrow.Author.Tests.{eqb-false}
 use lib.ListN.{get_or-eq_default}
 use Rattle.base_rules.specs.Lists.{at}
 use Rattle.base_characters.specs.Characters.{byte_of}

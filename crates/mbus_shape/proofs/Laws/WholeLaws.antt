@@ -1,10 +1,10 @@
 -- The sum of all bytes tells 8 of the long form.
-use Rattle.std.proofs.Common.{◌≡◌, ℕ, zero, suc, ◌+◌, ◌-◌, ◌%◌, ◌<◌, ◌≤◌, Bool, true, false, cond, not, ◌||◌, eqb, ltb, List, [], ◌∷◌, map, length, take, drop, sym, refl, ap, ◌∙◌, arith, ltb-false, eq-eqb, ne_eqb, eqb-true}
+use Rattle.std.proofs.Common.{◌≡◌, ℕ, suc, ◌+◌, ◌-◌, ◌%◌, ◌<◌, ◌≤◌, Bool, true, false, cond, not, eqb, ltb, List, [], ◌∷◌, map, length, take, drop, sym, refl, ap, ◌∙◌, arith, ltb-false, eq-eqb, ne_eqb, eqb-true}
 use borrow.Author.Tests.{eqb-false}
 use Rattle.base_rules.specs.Lists.{at, total}
 use Rattle.base_characters.specs.Characters.{byte_of}
 use Rattle.base_rules.specs.Answers.{Answer, refuse}
-use Rattle.mbus_rules.specs.Lines.{field, is_long, wrong_start, wrong_count, wrong_lengths, wrong_end, wrong_sum, read_frame}
+use Rattle.mbus_rules.specs.Lines.{is_long, wrong_start, wrong_count, wrong_lengths, wrong_end, wrong_sum, read_frame}
 use Rattle.base_characters.proofs.Laws.Closing.{last_two}
 use Rattle.base_characters.proofs.Laws.CharacterLaws.{at_bytes}
 use Rattle.base_rules.proofs.Laws.Tests.{by_test, neither, not_different}

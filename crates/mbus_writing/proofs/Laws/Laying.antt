@@ -20,8 +20,8 @@ use Rattle.mbus_rules.specs.declared.Kind.{Kind}
 use Rattle.mbus_rules.specs.declared.Kind.TheVariants.{Data}
 use Rattle.mbus_rules.specs.declared.Entry.{Entry}
 use Rattle.mbus_rules.specs.declared.Telegram.{Telegram}
-use Rattle.base_rules.specs.Lists.{at, any, total}
-use Rattle.base_rules.proofs.Laws.Tests.{below, none_at}
+use Rattle.base_rules.specs.Lists.{at, total}
+use Rattle.base_rules.proofs.Laws.Tests.{none_at}
 use Rattle.base_digits.specs.Digits.{packed}
 use Rattle.mbus_rules.specs.Entries.{may_fall}
 use Rattle.mbus_rules.specs.Signs.{marked, signed_bytes, fits_signed}

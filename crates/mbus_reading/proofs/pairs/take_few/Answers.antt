@@ -1,5 +1,5 @@
 -- `mbus_reading::pairs::take_few` meets its contract: it leaves at the first character that is not sound.
-use Prim.Native.Nat.{ℕ, ◌-◌, ◌*◌}
+use Prim.Native.Nat.{ℕ, ◌*◌}
 use native.Mathlib.Omega.{arith}
 use mathlib.Core.Path.{sym, ap, ◌∙◌}
 use borrow.Author.Tests.{lt-ltb, le-ltb}
@@ -60,9 +60,6 @@ pub bounds-out-i : goal.bounds-out-i
 bounds-out-i c =
     let n = copied_length c.loop-i.invariant.stored in omega
     (arith, c.requires.1)
-
-pub overflow_add-i : goal.overflow_add-i
-overflow_add-i c = omega arith
 
 pub loop-i-smaller : goal.loop-i-smaller
 loop-i-smaller c = omega arith

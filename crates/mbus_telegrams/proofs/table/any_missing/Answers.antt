@@ -1,5 +1,4 @@
 -- `mbus_telegrams::table::any_missing` meets its contract: what is missing so far, or by the rows that are left.
-use Prim.Native.Nat.{◌-◌}
 use mathlib.Core.Path.{◌≡◌, refl, ap, ◌∙◌}
 use native.Mathlib.Omega.{arith}
 use borrow.Author.Tests.{ltb-true}

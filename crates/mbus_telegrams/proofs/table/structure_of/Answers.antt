@@ -1,5 +1,4 @@
 -- `mbus_telegrams::table::structure_of` meets its contract: what is left of the rows has the one.
-use Prim.Native.Nat.{◌-◌}
 use mathlib.Core.Path.{refl, ◌∙◌}
 use native.Mathlib.Omega.{arith}
 use Rattle.mbus_rules.specs.Quantities.{no_structure, has_structure}
