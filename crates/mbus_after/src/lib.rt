@@ -1,7 +1,7 @@
 // The first accepted line of a capture that began at or after a time.
 #![tactic(auto)]
 
-ghost use Rattle.std.specs.Prelude.{◌≡◌, ◌+◌, drop};
+ghost use Rattle.std.specs.Prelude.{◌≡◌, ◌+◌, ◌≤◌, length, drop};
 ghost use Rattle.base_rules.specs.Shown.{shown};
 ghost use Rattle.mbus_after.specs.After.{early_first, began_since, find_from, find_after};
 
@@ -17,7 +17,7 @@ pub struct TimedSpot {
 
 // How many of the first times are before t.
 fn early_first(times: &[u64], t: u64) -> usize
-    ensures { result ≡ early_first t times.now }
+    ensures { (result ≤ length times.now) × (result ≡ early_first t times.now) }
 {
     for (i, &time) in times.iter().enumerate() {
         if t <= time {
