@@ -1,6 +1,6 @@
 // The tables of quantities and structures: their rows, and what is looked up in them. A new unit byte is a row here and one in specs.
 ghost use Rattle.std.specs.Prelude.{◌≡◌, get_or, false};
-ghost use Rattle.mbus_rules.specs.Quantities.{table, unit_row, row_of, structures, structure_row, structure_of};
+ghost use Rattle.mbus_rules.specs.Quantities.{table, row_of, structures, structure_of};
 ghost use Rattle.mbus_rules.specs.Entries.{lacking};
 
 use mbus_rules::{StructureRow, UnitRow};
@@ -76,30 +76,21 @@ pub const EIGHT_BYTES: u8 = 0x07;
 // How many rows the table of quantities has.
 const ROWS: usize = 8;
 
-// A row of the table: first and last unit byte, quantity, unit, power of ten, whether it must be there, whether it may be below zero. (The last
-// two are columns of the table, and do not pick what is done.)
-fn unit_row(
-    first: u8,
-    last: u8,
-    quantity: u8,
-    unit: u8,
-    divisor: u8,
-    less: u8,
-    required: bool,
-    may_fall: bool,
-) -> UnitRow
-    ensures { result ≡ unit_row first last quantity unit divisor less required may_fall }
-{
-    UnitRow {
-        first,
-        last,
-        quantity,
-        unit,
-        divisor,
-        less,
-        required,
-        may_fall,
-    }
+// A row of the table: first and last unit byte, quantity, unit, power of ten, whether it must be there, whether it may be below zero. (A macro:
+// by a function the back end makes one number of a row's fields and takes them apart again, which is dearer.)
+macro_rules! unit_row {
+    ($first:expr, $last:expr, $quantity:expr, $unit:expr, $divisor:expr, $less:expr, $required:expr, $may_fall:expr) => {
+        UnitRow {
+            first: $first,
+            last: $last,
+            quantity: $quantity,
+            unit: $unit,
+            divisor: $divisor,
+            less: $less,
+            required: $required,
+            may_fall: $may_fall,
+        }
+    };
 }
 
 // The table.
@@ -107,14 +98,14 @@ fn rows() -> [UnitRow; ROWS]
     ensures { result ≡ table }
 {
     [
-        unit_row(0x00, 0x07, ENERGY, WATT_HOUR, N, 3, true, false),
-        unit_row(0x08, 0x0F, ENERGY, JOULE, N, 0, true, false),
-        unit_row(0x10, 0x17, VOLUME, CUBIC_METRE, N, 6, true, false),
-        unit_row(0x28, 0x2F, POWER, WATT, N, 3, false, false),
-        unit_row(0x38, 0x3F, FLOW, CUBIC_METRE_AN_HOUR, N, 6, false, true),
-        unit_row(0x58, 0x5B, INLET, DEGREE, M, 3, true, true),
-        unit_row(0x5C, 0x5F, OUTLET, DEGREE, M, 3, true, true),
-        unit_row(0x6D, 0x6D, TIME, NO_UNIT, NONE, 0, true, false),
+        unit_row!(0x00, 0x07, ENERGY, WATT_HOUR, N, 3, true, false),
+        unit_row!(0x08, 0x0F, ENERGY, JOULE, N, 0, true, false),
+        unit_row!(0x10, 0x17, VOLUME, CUBIC_METRE, N, 6, true, false),
+        unit_row!(0x28, 0x2F, POWER, WATT, N, 3, false, false),
+        unit_row!(0x38, 0x3F, FLOW, CUBIC_METRE_AN_HOUR, N, 6, false, true),
+        unit_row!(0x58, 0x5B, INLET, DEGREE, M, 3, true, true),
+        unit_row!(0x5C, 0x5F, OUTLET, DEGREE, M, 3, true, true),
+        unit_row!(0x6D, 0x6D, TIME, NO_UNIT, NONE, 0, true, false),
     ]
 }
 
@@ -132,7 +123,7 @@ pub fn row_of(unit: u8) -> UnitRow
         }
         i += 1;
     }
-    unit_row(0, 0, UNKNOWN, NO_UNIT, NONE, 0, false, false)
+    unit_row!(0, 0, UNKNOWN, NO_UNIT, NONE, 0, false, false)
 }
 
 // A required quantity is not marked.
@@ -154,16 +145,16 @@ pub fn any_missing(marks: [bool; 8]) -> bool
 // How many rows the structures have.
 const STRUCTURES: usize = 10;
 
-// A row of the structures: the byte, the bytes of a value, whether they are packed digits, whether binary: two columns too.
-fn structure_row(structure: u8, width: usize, packed: bool, binary: bool) -> StructureRow
-    ensures { result ≡ structure_row structure width packed binary }
-{
-    StructureRow {
-        structure,
-        width,
-        packed,
-        binary,
-    }
+// A row of the structures: the byte, the bytes of a value, whether they are packed digits, whether binary.
+macro_rules! structure_row {
+    ($structure:expr, $width:expr, $packed:expr, $binary:expr) => {
+        StructureRow {
+            structure: $structure,
+            width: $width,
+            packed: $packed,
+            binary: $binary,
+        }
+    };
 }
 
 // The structures.
@@ -171,16 +162,16 @@ fn structures() -> [StructureRow; STRUCTURES]
     ensures { result ≡ structures }
 {
     [
-        structure_row(FOUR_DIGITS, 2, true, false),
-        structure_row(SIX_DIGITS, 3, true, false),
-        structure_row(EIGHT_DIGITS, 4, true, false),
-        structure_row(TWELVE_DIGITS, 6, true, false),
-        structure_row(ONE_BYTE, 1, false, true),
-        structure_row(TWO_BYTES, 2, false, true),
-        structure_row(THREE_BYTES, 3, false, true),
-        structure_row(FOUR_BYTES, 4, false, true),
-        structure_row(SIX_BYTES, 6, false, true),
-        structure_row(EIGHT_BYTES, 8, false, true),
+        structure_row!(FOUR_DIGITS, 2, true, false),
+        structure_row!(SIX_DIGITS, 3, true, false),
+        structure_row!(EIGHT_DIGITS, 4, true, false),
+        structure_row!(TWELVE_DIGITS, 6, true, false),
+        structure_row!(ONE_BYTE, 1, false, true),
+        structure_row!(TWO_BYTES, 2, false, true),
+        structure_row!(THREE_BYTES, 3, false, true),
+        structure_row!(FOUR_BYTES, 4, false, true),
+        structure_row!(SIX_BYTES, 6, false, true),
+        structure_row!(EIGHT_BYTES, 8, false, true),
     ]
 }
 
@@ -198,5 +189,5 @@ pub fn structure_of(structure: u8) -> StructureRow
         }
         i += 1;
     }
-    structure_row(0, 0, false, false)
+    structure_row!(0, 0, false, false)
 }

@@ -1,5 +1,5 @@
 -- `mbus_telegrams::table::row_of` meets its contract: what is left of the rows has the one.
-use mathlib.Core.Path.{refl, ◌∙◌}
+use mathlib.Core.Path.{refl}
 use native.Mathlib.Omega.{arith}
 use Rattle.mbus_rules.specs.Quantities.{no_row, has_unit}
 use Rattle.mbus_rules.proofs.Laws.RowLaws.{row_here, row_next, row_past}
@@ -18,4 +18,4 @@ loop-i-preserved c =
 
 pub returns : goal.returns
 returns c =
-    c.unit_row.ensures ∙ row_past (has_unit c.args.unit) no_row c.rows-rows.ensures {i = c.loop-i.i} c.loop-i.invariant (omega arith)
+    row_past (has_unit c.args.unit) no_row c.rows-rows.ensures {i = c.loop-i.i} c.loop-i.invariant (omega arith)

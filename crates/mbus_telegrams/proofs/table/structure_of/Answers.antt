@@ -1,5 +1,5 @@
 -- `mbus_telegrams::table::structure_of` meets its contract: what is left of the rows has the one.
-use mathlib.Core.Path.{refl, ◌∙◌}
+use mathlib.Core.Path.{refl}
 use native.Mathlib.Omega.{arith}
 use Rattle.mbus_rules.specs.Quantities.{no_structure, has_structure}
 use Rattle.mbus_rules.proofs.Laws.RowLaws.{row_here, row_next, row_past}
@@ -19,5 +19,4 @@ loop-i-preserved c =
 
 pub returns : goal.returns
 returns c =
-    c.structure_row.ensures ∙ row_past (has_structure c.args.structure) no_structure c.structures-rows.ensures {i = c.loop-i.i} c.loop-i.invariant
-    (omega arith)
+    row_past (has_structure c.args.structure) no_structure c.structures-rows.ensures {i = c.loop-i.i} c.loop-i.invariant (omega arith)
