@@ -55,7 +55,7 @@ pub fn find_line(capture: &[u16]) -> Result<Spot, Refusal>
     let mut found = Err(Refusal::NO_LINE);
     let mut bytes = [0u8; MOST];
     let mut place: usize = 0;
-    // by hand: a `for` over the places is dearer for each of them
+    // (By hand, and so is the walk below: a `for` over either is dearer for each place.)
     'places: while place < capture.len() {
         let rest = &capture[place..];
         let length = left_by(rest);
@@ -64,8 +64,8 @@ pub fn find_line(capture: &[u16]) -> Result<Spot, Refusal>
             let ended = is_ended(rest, length);
             if ended {
                 let mut sum: u8 = 0;
-                // by the place, which says where the byte goes and when the line ends
-                for i in 0..length {
+                let mut i: usize = 0;
+                while i != length {
                     let c = rest[i];
                     if (511 < c) | counts_odd(c) {
                         break;
@@ -73,7 +73,8 @@ pub fn find_line(capture: &[u16]) -> Result<Spot, Refusal>
                     let b = (c % 256) as u8;
                     bytes[i] = b;
                     sum = std::num::wrapping_add_u8(sum, b);
-                    if i + 1 == length {
+                    i += 1;
+                    if i == length {
                         let accepted = is_accepted(&bytes[..length], sum);
                         if accepted {
                             found = Ok(Spot { place, length });

@@ -159,6 +159,10 @@ module _ {rest : List ℕ} {length i : ℕ} {found : Result Spot Refusal} {low :
   pub walked_most : length ≤ 261
   walked_most = omega (arith, w.allowed, left_most rest)
 
+  -- not at its end
+  pub walked_on : (i ≡ length → ⊥) → i < length
+  walked_on n = omega (arith, w.inside)
+
   pub walked_places : (x : ℕ) → length ≤ ListN.length (set low i x)
   walked_places x = omega (arith, walked_most, w.gathers.places, length-set low i x)
 

@@ -7,9 +7,9 @@ use Rattle.base_rules.specs.Answers.{refusal}
 use Rattle.base_rules.specs.Shown.{refused_by}
 use Rattle.mbus_search.specs.Searching.{length_here}
 use Rattle.mbus_search.proofs.Laws.Walks.{searched_none, searched_next, searched_all, searched_hit, walked_none, walked_next}
-use Rattle.mbus_search.proofs.Laws.Walks.{walked_room, walked-refused, walked_unsound, walked-hit, walked_no, walked_open, walked_places}
+use Rattle.mbus_search.proofs.Laws.Walks.{walked_room, walked-refused, walked_unsound, walked-hit, walked_no, walked_open, walked_on, walked_places}
 use Rattle.mbus_search.proofs.Laws.Walks.{ended_inside}
-use Rattle.mbus_search.proofs.find_line.Goals.{Joined-length-gt0, then-length-gt0+then-ended+else-loop-i-test, then-length-gt0+then-ended+then-loop-i-test+then-c-counts_odd, then-length-gt0+else-ended, else-length-gt0, then-i-length+else-accepted, else-i-length}
+use Rattle.mbus_search.proofs.find_line.Goals.{Joined-length-gt0, then-length-gt0+then-ended+else-loop-i-test, then-length-gt0+then-ended+then-loop-i-test+then-c-counts_odd, then-length-gt0+else-ended, else-length-gt0}
 use Rattle.mbus_search.proofs.find_line.Goals as goal
 
 -- the four ways past a place at which no line begins
@@ -30,7 +30,7 @@ none_yet c =
       )
       | then-length-gt0+then-ended+then-loop-i-test+then-c-counts_odd w ↦ (
         w.found-is ∙ w.loop-i.invariant.nothing,
-        walked_unsound w.loop-i.invariant w.loop-i-test.true w.counts_odd.ensures w.if-c-counts_odd.true,
+        walked_unsound w.loop-i.invariant (walked_on w.loop-i.invariant w.loop-i-test.true) w.counts_odd.ensures w.if-c-counts_odd.true,
         ap ListN.length w.bytes-is ∙ w.loop-i.invariant.gathers.places,
       )
       | then-length-gt0+else-ended w ↦ (
@@ -60,7 +60,11 @@ bounds-rest-i c = omega (arith, c.loop-i.invariant.room)
 
 pub bounds-bytes-i : goal.bounds-bytes-i
 bounds-bytes-i c =
-    walked_room c.loop-i.invariant c.loop-i-test.true
+    walked_room c.loop-i.invariant (walked_on c.loop-i.invariant c.loop-i-test.true)
+
+pub overflow_add-i : goal.overflow_add-i
+overflow_add-i c =
+    omega (arith, c.loop-i.invariant.room)
 
 pub slice_bounds-bytes-end : goal.slice_bounds-bytes-end
 slice_bounds-bytes-end c =
@@ -70,15 +74,20 @@ pub slice_bounds-is_accepted-end : goal.slice_bounds-is_accepted-end
 slice_bounds-is_accepted-end c =
     sym (length-take-le _ _ (walked_places c.loop-i.invariant _))
 
+pub loop-i-preserved-else-accepted : goal.loop-i-preserved-else-accepted
+loop-i-preserved-else-accepted c =
+    rw c.wrapping_add_u8-sum.ensures.value
+    (walked-refused c.loop-i.invariant
+    (walked_on c.loop-i.invariant c.loop-i-test.true) refl
+    c.counts_odd.ensures c.if-c-counts_odd.false
+    c.if-i-length.true
+    (rw c.wrapping_add_u8-sum.ensures.value at c.is_accepted-accepted.ensures) c.if-accepted.false)
+
 pub loop-i-preserved : goal.loop-i-preserved
 loop-i-preserved c =
     rw c.wrapping_add_u8-sum.ensures.value
-    (elim c.if-i-length.branch [
-      | then-i-length+else-accepted w ↦
-          walked-refused c.loop-i.invariant c.loop-i-test.true refl c.counts_odd.ensures c.if-c-counts_odd.false w.if-i-length.true
-          (rw c.wrapping_add_u8-sum.ensures.value at w.is_accepted-accepted.ensures) w.if-accepted.false
-      | else-i-length w ↦ walked_next c.loop-i.invariant c.loop-i-test.true refl c.counts_odd.ensures c.if-c-counts_odd.false w.if-i-length.false
-    ])
+    (walked_next c.loop-i.invariant (walked_on c.loop-i.invariant c.loop-i-test.true) refl
+    c.counts_odd.ensures c.if-c-counts_odd.false c.if-i-length.false)
 
 pub places-preserved : goal.places-preserved
 places-preserved c = (
@@ -95,7 +104,7 @@ returns-then-accepted c =
     searched_hit c.places.invariant.0
     c.places-test.true _
     (walked-hit c.loop-i.invariant
-    c.loop-i-test.true refl
+    (walked_on c.loop-i.invariant c.loop-i-test.true) refl
     c.counts_odd.ensures c.if-c-counts_odd.false
     c.if-i-length.true
     (rw c.wrapping_add_u8-sum.ensures.value at c.is_accepted-accepted.ensures) c.if-accepted.true)
