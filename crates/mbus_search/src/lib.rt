@@ -54,9 +54,7 @@ pub fn find_line(capture: &[u16]) -> Result<Spot, Refusal>
 {
     let mut found = Err(Refusal::NO_LINE);
     let mut bytes = [0u8; MOST];
-    let mut place: usize = 0;
-    // (By hand, and so is the walk below: a `for` over either is dearer for each place.)
-    'places: while place < capture.len() {
+    'places: for place in 0..capture.len() {
         let rest = &capture[place..];
         let length = left_by(rest);
         // asked by itself, so that the back end leaves a place of noise at its first byte
@@ -64,6 +62,7 @@ pub fn find_line(capture: &[u16]) -> Result<Spot, Refusal>
             let ended = is_ended(rest, length);
             if ended {
                 let mut sum: u8 = 0;
+                // (counted by hand: with a `for` here each place of noise is dearer)
                 let mut i: usize = 0;
                 while i != length {
                     let c = rest[i];
@@ -84,7 +83,6 @@ pub fn find_line(capture: &[u16]) -> Result<Spot, Refusal>
                 }
             }
         }
-        place += 1;
     }
     found
 }

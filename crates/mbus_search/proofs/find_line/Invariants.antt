@@ -12,6 +12,3 @@ decreases-loop-i l = l.length - l.i
 
 abbrev pub invariant-places : goal.invariant-places
 invariant-places l = Searched l.capture l.place l.found × (ListN.length l.bytes ≡ 261)
-
-abbrev pub decreases-places : goal.decreases-places
-decreases-places l = ListN.length l.capture - l.place
