@@ -42,8 +42,7 @@ pub fn blank_entry() -> Entry
     }
 }
 
-// A telegram without header and entries. (Its three fields come one by one: who asks has two of them as constants, and a struct of the three
-// would be made just to be taken apart here.)
+// A telegram without header and entries.
 pub fn bare(kind: Kind, address: u8, method: u8) -> Telegram
     ensures { result ≡ bare kind address method }
 {

@@ -130,7 +130,9 @@ fn put_entries(entries: [Entry; 7], count: usize, bytes: &mut [u8]) -> usize
     at
 }
 
-// Closes a frame: the sum of the bytes from a place up to the end, then 16. Answers the place after them.
+// Closes a frame: the sum of the bytes from a place up to the end, then 16. Answers the place after them. (That the places are those of the
+// longest line is asked here and below: EntryFits, EntriesFit and DataFits say it of a list beside what else they ask, so an array in the type
+// would only say it a second time.)
 fn close(bytes: &mut [u8], from: usize, end: usize) -> usize
     requires { (from ≤ end) × (end + 2 ≤ longest) × (length bytes.old ≡ longest) }
     ensures { FrameClosed bytes.old bytes.new from end result }
