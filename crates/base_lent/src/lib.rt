@@ -38,7 +38,7 @@ pub fn lay(to: &mut [u8], at: usize, from: &[u8])
     to[at..at + from.len()].copy_from_slice(from);
 }
 
-// The same, a byte after the other: for a few bytes and for some thousand copy_from_slice is dearer at run time.
+// The same, a byte after the other: for twelve bytes and for some thousand copy_from_slice is dearer at run time.
 pub fn lay_each(to: &mut [u8], at: usize, from: &[u8])
     ensures { to.new ≡ copied to.old at from.now }
 {
@@ -56,6 +56,6 @@ pub fn store(bytes: &[u8], out: &mut [u8]) -> bool
         ≡ copied out.old 0 bytes.now) }
 {
     let short = out.len() < bytes.len();
-    lay_each(out, 0, bytes);
+    lay(out, 0, bytes);
     short
 }
