@@ -14,7 +14,7 @@ use mbus_telegrams::table::TWELVE_DIGITS;
 // The first count that eight digits do not hold.
 const COUNT_OVER: u32 = 100_000_000;
 
-// The unit byte for a code.
+// The unit byte for a code. (A table from bytes to bytes: of codes as an enum each caller would first have to make one from the byte.)
 fn unit_for(code: u8) -> u8
     requires { energy_code code ≡ true }
     ensures { result ≡ unit_for code }

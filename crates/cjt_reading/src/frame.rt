@@ -17,7 +17,7 @@ use base_rules::Refusal;
 use cjt_fields::{is_heat_type, wrong_units};
 use cjt_rules::{CjtAddress, CjtRequest, CjtTelegram};
 
-// A request's length byte.
+// A request's length byte. (Of no enum: it and TELLS are counts of data bytes, which wrong_frame adds to the length of the rest.)
 const ASKS: u8 = 0x03;
 
 // An answer's.
@@ -70,6 +70,7 @@ fn wrong_sum(b: &[u8], sum: u8) -> bool
 }
 
 // 82, type and address.
+// (That nine bytes are there is no struct: read_frame would make it around the slice for these three to take the slice out again.)
 fn wrong_party(b: &[u8]) -> bool
     requires { 9 ≤ length b.now }
     ensures { result ≡ wrong_party b.now }

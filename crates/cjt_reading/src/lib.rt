@@ -18,6 +18,8 @@ mod parts;
 const MOST: usize = 64;
 
 // The whole answer of reading a line: the telegram, or its refusal.
+// (read_pairs does the same with bytes: one function for both would take their count and two closures, to walk a long line and to gather a short
+// one, each with its clauses, and have more lines than the two.)
 pub fn read_line(line: &[u16]) -> Result<CjtTelegram, Refusal>
     ensures { result ≡ shown (read_cjt_line line.now) }
 {

@@ -10,6 +10,7 @@ use cjt_fields::wrong_clock;
 use cjt_rules::{CjtAnswer, CjtClock, CjtQuantity};
 
 // A digit of at most eight bytes from a place on is over nine.
+// (A width is no type of its own: each is a number in the lines that call, and would be wrapped there to be unwrapped here.)
 fn wrong_at(d: &[u8], place: usize, width: usize) -> bool
     requires { width ≤ 8 }
     ensures { result ≡ wrong_part place width d.now }

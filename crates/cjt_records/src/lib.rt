@@ -20,10 +20,7 @@ pub const SIZE: usize = 80;
 fn broadcast_byte(address: CjtAddress) -> u8
     ensures { result ≡ broadcast_byte address }
 {
-    match address {
-        CjtAddress::Meter(_) => 0,
-        CjtAddress::Broadcast => 1,
-    }
+    matches!(address, CjtAddress::Broadcast) as u8
 }
 
 fn address_number(address: CjtAddress) -> u64
@@ -140,8 +137,7 @@ fn quantity_in(b: &[u8], place: usize) -> CjtQuantity
     }
 }
 
-fn clock_in(b: &[u8]) -> CjtClock
-    requires { length b.now ≡ 80 }
+fn clock_in(b: &[u8; 80]) -> CjtClock
     ensures { result ≡ clock_in b.now }
 {
     let year = number_at(b, 72, 2) as u16;
@@ -155,8 +151,7 @@ fn clock_in(b: &[u8]) -> CjtClock
     }
 }
 
-fn address_in(b: &[u8]) -> CjtAddress
-    requires { length b.now ≡ 80 }
+fn address_in(b: &[u8; 80]) -> CjtAddress
     ensures { result ≡ address_in b.now }
 {
     let broadcast = b[3] == 1;
@@ -173,8 +168,7 @@ fn four_in(b: &[u8], place: usize) -> u32
     number_at(b, place, 4) as u32
 }
 
-fn answer_in(b: &[u8]) -> CjtAnswer
-    requires { length b.now ≡ 80 }
+fn answer_in(b: &[u8; 80]) -> CjtAnswer
     ensures { result ≡ tells_in_record b.now }
 {
     let address = number_at(b, 8, 8);
@@ -206,8 +200,7 @@ fn answer_in(b: &[u8]) -> CjtAnswer
 }
 
 // The telegram that the bytes give, whether they are its record or not.
-fn cjt_in(b: &[u8]) -> CjtTelegram
-    requires { length b.now ≡ 80 }
+fn cjt_in(b: &[u8; 80]) -> CjtTelegram
     ensures { result ≡ cjt_in b.now }
 {
     let tells = b[0] == 2;
@@ -226,9 +219,9 @@ fn cjt_in(b: &[u8]) -> CjtTelegram
 pub fn cjt_from(b: &[u8]) -> Result<CjtTelegram, Refusal>
     ensures { result ≡ shown (cjt_from b.now) }
 {
-    if b.len() != SIZE {
+    let Some(b) = b.as_array::<SIZE>() else {
         return Err(Refusal::NO_RECORD);
-    }
+    };
     let telegram = cjt_in(b);
     let again = cjt_bytes(telegram);
     let same = is_same(b, &again);

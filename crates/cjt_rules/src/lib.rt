@@ -2,6 +2,7 @@
 #![tactic(auto)]
 
 // The address that a request names: one meter, fourteen digits as a number, or every meter.
+// No Option: 02 names both, and None would read as no meter where all are asked.
 #[derive(Clone, Copy)]
 pub enum CjtAddress {
     Meter(u64),

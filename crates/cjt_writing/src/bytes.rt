@@ -30,11 +30,8 @@ fn quantities_bytes(values: [CjtQuantity; 5]) -> [u8; 25]
     ensures { result ≡ pieces bytes_of_quantity values }
 {
     let mut bytes = [0u8; 25];
-    let mut i = 0;
-    while i < 5 {
-        let b = quantity_bytes(values[i]);
-        lay(&mut bytes, 5 * i, &b);
-        i += 1;
+    for (i, &value) in values.iter().enumerate() {
+        lay(&mut bytes, 5 * i, &quantity_bytes(value));
     }
     bytes
 }
@@ -91,14 +88,16 @@ fn rest_bytes(a: CjtAnswer) -> [u8; 18]
     ]
 }
 
-// Closes a frame: the sum of all bytes, then 16.
-fn close(frame: &[u8], bytes: &mut [u8])
-    requires { length bytes.old ≡ length frame.now + 2 }
-    ensures { bytes.new ≡ closed frame.now }
+// Closes a frame of N bytes: the sum of all of them, then 16.
+fn close<const N: usize, const M: usize>(frame: &[u8; N]) -> [u8; M]
+    requires { M ≡ N + 2 }
+    ensures { result ≡ closed frame.now }
 {
     let sum = sum_of(frame);
-    lay(bytes, 0, frame);
-    lay(bytes, frame.len(), &[sum, 0x16]);
+    let mut bytes = [0u8; M];
+    lay(&mut bytes, 0, frame);
+    lay(&mut bytes, N, &[sum, 0x16]);
+    bytes
 }
 
 fn request_frame(q: CjtRequest) -> [u8; 14]
@@ -128,10 +127,7 @@ fn request_frame(q: CjtRequest) -> [u8; 14]
 pub(crate) fn request_bytes(q: CjtRequest) -> [u8; 16]
     ensures { result ≡ bytes_of_telegram (CjtTelegram.Request q) }
 {
-    let frame = request_frame(q);
-    let mut bytes = [0u8; 16];
-    close(&frame, &mut bytes);
-    bytes
+    close(&request_frame(q))
 }
 
 // The start of an answer, up to its values.
@@ -179,8 +175,5 @@ fn answer_frame(a: CjtAnswer) -> [u8; 57]
 pub(crate) fn answer_bytes(a: CjtAnswer) -> [u8; 59]
     ensures { result ≡ bytes_of_telegram (CjtTelegram.Answer a) }
 {
-    let frame = answer_frame(a);
-    let mut bytes = [0u8; 59];
-    close(&frame, &mut bytes);
-    bytes
+    close(&answer_frame(a))
 }

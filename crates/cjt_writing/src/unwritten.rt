@@ -35,7 +35,7 @@ fn unwritten_counts(a: CjtAnswer) -> bool
 }
 
 // No accepted line reads as this request.
-pub(crate) fn unwritten_request(request: CjtRequest) -> bool
+fn unwritten_request(request: CjtRequest) -> bool
     ensures { result ≡ unwritten (CjtTelegram.Request request) }
 {
     let address = request.address;
@@ -45,7 +45,7 @@ pub(crate) fn unwritten_request(request: CjtRequest) -> bool
 }
 
 // No accepted line reads as this answer.
-pub(crate) fn unwritten_answer(answer: CjtAnswer) -> bool
+fn unwritten_answer(answer: CjtAnswer) -> bool
     ensures { result ≡ unwritten (CjtTelegram.Answer answer) }
 {
     let clock = answer.clock;
@@ -54,4 +54,14 @@ pub(crate) fn unwritten_answer(answer: CjtAnswer) -> bool
     let no_time = wrong_clock(clock);
     let no_unit = wrong_units(answer);
     !known | !(answer.address < OVER_FOURTEEN) | long | no_time | no_unit
+}
+
+// No accepted line reads as this telegram.
+pub(crate) fn is_unwritten(telegram: CjtTelegram) -> bool
+    ensures { result ≡ unwritten telegram }
+{
+    match telegram {
+        CjtTelegram::Request(request) => unwritten_request(request),
+        CjtTelegram::Answer(answer) => unwritten_answer(answer),
+    }
 }

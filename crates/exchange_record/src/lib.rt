@@ -1,7 +1,7 @@
 // The record of an exchange, or of none: bytes of a fixed size, numbers low byte first.
 #![tactic(auto)]
 
-ghost use Rattle.std.specs.Prelude.{◌≡◌, length};
+ghost use Rattle.std.specs.Prelude.{◌≡◌};
 ghost use Rattle.base_rules.specs.Shown.{shown};
 ghost use Rattle.exchange_record.specs.Exchanges.{request_bytes, cause_number, state_number, cause_in, exchange_head, exchange_bytes, request_of};
 ghost use Rattle.exchange_record.specs.Exchanges.{cause_of_number, state_of, exchange_in, fails_by, stands_at, reached, exchange_from, slot_from};
@@ -16,7 +16,7 @@ use mbus_rules::Request;
 // The bytes of an exchange's record.
 pub const SIZE: usize = 24;
 
-// The numbers are those of the record alone, so that no From or discriminant stands beside the types.
+// Requests and states hold fields, so that none is cast to its number; a cause is.
 fn request_bytes(request: Request) -> [u8; 3]
     ensures { result ≡ request_bytes request }
 {
@@ -30,11 +30,7 @@ fn request_bytes(request: Request) -> [u8; 3]
 fn cause_number(cause: Cause) -> u8
     ensures { result ≡ cause_number cause }
 {
-    match cause {
-        Cause::Silent => 1,
-        Cause::Damaged => 2,
-        Cause::WrongKind => 3,
-    }
+    cause as u8
 }
 
 fn state_number(state: State) -> u8
@@ -78,6 +74,8 @@ pub fn exchange_bytes(x: Exchange) -> [u8; 24]
     bytes
 }
 
+// (Kind, address and method are bytes of the record here, and arguments of C in two functions of host_*: a struct would be made only to be
+// taken apart again.)
 fn request_of(kind: u8, address: u8, method: u8) -> Request
     ensures { result ≡ request_of kind address method }
 {
@@ -110,8 +108,7 @@ fn state_of(n: u8, cause: u8) -> State
 }
 
 // The exchange that the bytes give, whether they are its record or not.
-fn exchange_in(b: &[u8]) -> Exchange
-    requires { length b.now ≡ 24 }
+fn exchange_in(b: &[u8; 24]) -> Exchange
     ensures { result ≡ exchange_in b.now }
 {
     Exchange {
@@ -123,6 +120,7 @@ fn exchange_in(b: &[u8]) -> Exchange
     }
 }
 
+// (late is no switch, here and below: that the last step came past the window is what both rules ask of a cause or a state.)
 fn fails_by(cause: Cause, late: bool) -> bool
     ensures { result ≡ fails_by cause late }
 {
@@ -155,9 +153,9 @@ fn is_reached(x: Exchange) -> bool
 fn exchange_from(b: &[u8]) -> Result<Exchange, Refusal>
     ensures { result ≡ shown (exchange_from b.now) }
 {
-    if b.len() != SIZE {
+    let Some(b) = b.as_array::<SIZE>() else {
         return Err(Refusal::NO_RECORD);
-    }
+    };
     let x = exchange_in(b);
     let again = exchange_bytes(x);
     let same = is_same(b, &again);

@@ -11,11 +11,7 @@ use mbus_telegrams::BROADCAST;
 fn ack_fits(request: Request) -> bool
     ensures { result ≡ ack_fits request }
 {
-    match request {
-        Request::Read(_) => false,
-        Request::Enter(_, _) => true,
-        Request::Leave(_) => true,
-    }
+    !matches!(request, Request::Read(_))
 }
 
 // Data fits a read of FE or of the address that answers.
@@ -24,8 +20,7 @@ fn data_fits(request: Request, answers: u8) -> bool
 {
     match request {
         Request::Read(asked) => (asked == BROADCAST) | (asked == answers),
-        Request::Enter(_, _) => false,
-        Request::Leave(_) => false,
+        Request::Enter(_, _) | Request::Leave(_) => false,
     }
 }
 
@@ -34,9 +29,8 @@ pub fn fits(request: Request, outline: Outline) -> bool
     ensures { result ≡ fits request outline }
 {
     match outline {
-        Outline::Refused(_) => false,
+        Outline::Refused(_) | Outline::Asks(_) => false,
         Outline::Ack => ack_fits(request),
-        Outline::Asks(_) => false,
         Outline::Data(answers) => data_fits(request, answers),
     }
 }

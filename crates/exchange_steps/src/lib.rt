@@ -24,12 +24,12 @@ mod progress;
 mod requests;
 mod states;
 
-// Why a send failed: no line in time, a refused line, or an accepted line that does not fit.
+// Why a send failed: no line in time, a refused line, or an accepted line that does not fit; with the numbers of a record.
 #[derive(Clone, Copy)]
 pub enum Cause {
-    Silent,
-    Damaged,
-    WrongKind,
+    Silent = 1,
+    Damaged = 2,
+    WrongKind = 3,
 }
 
 // What an exchange waits for, or how it ended.
@@ -67,7 +67,7 @@ pub enum Slot {
 
 // What a line heard answers: the exchange as it then stands, or the number by which the step is refused; what there was is then as it was. The
 // reply is the line's telegram where the line ended the exchange well, and blank in every other case.
-// No Option: the definition heard_of says that the reply is then blank.
+// No Result of both and no Option: the definition heard_of has the blank reply beside a refused step, and beside one that goes on.
 #[derive(Clone, Copy)]
 pub struct Heard {
     pub stepped: Result<Exchange, Refusal>,
@@ -97,12 +97,12 @@ fn ends_well(stepped: Result<Exchange, Refusal>) -> bool
     }
 }
 
-// The reply of a reading: its telegram where it ended the exchange well, and the blank one where it did not.
-fn reply_of(reading: Result<Telegram, Refusal>, well: bool) -> Telegram
-    ensures { result ≡ cond well (result_unwrap_or reading blank) blank }
+// The reply of a reading: its telegram where its step ended the exchange well, and the blank one where it did not.
+fn reply_of(reading: Result<Telegram, Refusal>, stepped: Result<Exchange, Refusal>) -> Telegram
+    ensures { result ≡ cond (ends_well stepped) (result_unwrap_or reading blank) blank }
 {
     let blank = bare(Kind::Ack, 0, 0);
-    if well {
+    if ends_well(stepped) {
         return reading.unwrap_or(blank);
     }
     blank
@@ -131,6 +131,7 @@ impl Exchange {
     }
 
     // The step to the next exchange, if its time and the state allow it.
+    // (called is no switch: it is the second question, which the definition step asks, and the callers answer it by different states.)
     fn step(self, t: Clock, called: bool, next: Exchange) -> Result<Exchange, Refusal>
         ensures { result ≡ shown (step self t called next) }
     {
@@ -227,8 +228,7 @@ impl Slot {
         let reading = read_line(line);
         let outline = outlined(reading);
         let stepped = self.seen(outline, t);
-        let well = ends_well(stepped);
-        let reply = reply_of(reading, well);
+        let reply = reply_of(reading, stepped);
         Heard { stepped, reply }
     }
 

@@ -6,7 +6,7 @@ use crate::{Cause, State};
 use exchange_replies::fits;
 use mbus_rules::{Outline, Request};
 
-// The most sends of one exchange.
+// The most sends of one exchange. (A count, of no enum.)
 const MOST: u8 = 3;
 
 // What a line that does not fit fails its send as.
@@ -30,6 +30,7 @@ fn failed(sends: u8, cause: Cause) -> State
 }
 
 // The state after a line heard while waiting.
+// (silent is no switch, here and below: it is the time's answer, by which the definitions after_line and after_tick name the state.)
 pub fn after_line(request: Request, sends: u8, silent: bool, outline: Outline) -> State
     ensures { result ≡ after_line request sends silent outline }
 {

@@ -12,7 +12,7 @@ use cjt_reading::read_line;
 use cjt_records::cjt_bytes;
 use cjt_rules::{CjtKind, CjtTelegram};
 
-// The host's number of a telegram.
+// The host's number of a telegram. (Its cases hold telegrams, so that none is cast to a number.)
 fn kind_number(telegram: CjtTelegram) -> u32
     ensures { result ≡ cjt_kind_number telegram }
 {

@@ -38,6 +38,7 @@ fn say(reply: Result<Option<Telegram>, Refusal>, answer: &mut [u8])
 }
 
 // Keeps the meter in its record, unless the step was refused.
+// (No reference to 192 bytes: C lends more than those too, and each caller would split them off only for store to copy to a slice.)
 fn keep_step(step: Step, kept: &mut [u8]) -> u32
     requires { 192 ≤ length kept.old }
     ensures { Kept step kept.old kept.new result }

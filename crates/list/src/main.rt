@@ -8,6 +8,7 @@ use std::io::Read;
 use std::prelude::Print;
 
 // Reads until the places are full or the input ends, and answers how many bytes were read.
+// (read_exact refuses an input that ends before, and read_to_end needs the heap; no other method of a reader goes on until the end.)
 fn read_full(input: &mut io::Stdin, to: &mut [u8]) -> io::Result<usize>
     ensures { IfOk result (λ n. n ≤ length to.new) }
 {

@@ -1,7 +1,7 @@
 // The record of a simulated meter: bytes of a fixed size, numbers low byte first.
 #![tactic(auto)]
 
-ghost use Rattle.std.specs.Prelude.{◌≡◌, length, drop};
+ghost use Rattle.std.specs.Prelude.{◌≡◌, drop};
 ghost use Rattle.base_rules.specs.Shown.{shown};
 ghost use Rattle.mbus_rules.specs.Lines.{is_method};
 ghost use Rattle.mbus_records.specs.Telegrams.{telegram_bytes};
@@ -24,10 +24,7 @@ pub const SIZE: usize = 192;
 fn mode_number(mode: Mode) -> u8
     ensures { result ≡ mode_number mode }
 {
-    match mode {
-        Mode::Use => 0,
-        Mode::Verifying(_, _) => 1,
-    }
+    matches!(mode, Mode::Verifying(_, _)) as u8
 }
 
 fn method_of(mode: Mode) -> u8
@@ -98,8 +95,7 @@ pub fn meter_bytes(m: Meter) -> [u8; 192]
     bytes
 }
 
-fn mode_in(b: &[u8]) -> Mode
-    requires { length b.now ≡ 192 }
+fn mode_in(b: &[u8; 192]) -> Mode
     ensures { result ≡ mode_in b.now }
 {
     let verifies = b[9] == 1;
@@ -111,8 +107,7 @@ fn mode_in(b: &[u8]) -> Mode
 }
 
 // The meter that the bytes and a template give, whether they are its record or not.
-fn meter_in(b: &[u8], template: Telegram) -> Meter
-    requires { length b.now ≡ 192 }
+fn meter_in(b: &[u8; 192], template: Telegram) -> Meter
     ensures { result ≡ meter_in b.now template }
 {
     let last = number_at(b, 0, 8);
@@ -179,8 +174,8 @@ fn is_unreached(m: Meter) -> bool
 
 // The meter that the bytes and a template give, if they are its record and some history leads to it. The template's own bytes were held
 // against it when it was taken, and are not again.
-fn recalled(b: &[u8], template: Telegram) -> Result<Meter, Refusal>
-    requires { (length b.now ≡ 192) × (telegram_bytes template ≡ drop 56 b.now) }
+fn recalled(b: &[u8; 192], template: Telegram) -> Result<Meter, Refusal>
+    requires { telegram_bytes template ≡ drop 56 b.now }
     ensures { result ≡ shown (recalled b.now (meter_in b.now template)) }
 {
     let meter = meter_in(b, template);
@@ -200,9 +195,9 @@ fn recalled(b: &[u8], template: Telegram) -> Result<Meter, Refusal>
 pub fn meter_from(b: &[u8]) -> Result<Meter, Refusal>
     ensures { result ≡ shown (meter_from b.now) }
 {
-    if b.len() != SIZE {
+    let Some(b) = b.as_array::<SIZE>() else {
         return Err(Refusal::NO_RECORD);
-    }
+    };
     let template = telegram_from(&b[56..192])?;
     recalled(b, template)
 }

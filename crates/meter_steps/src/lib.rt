@@ -41,6 +41,7 @@ pub struct Meter {
 }
 
 // What a step gives: the meter as it then stands, and its answer, which is silence, a telegram, or the number of a refusal.
+// No Result of both: the definition shown_meter_step has a meter beside a refusal too, the one that there was.
 #[derive(Clone, Copy)]
 pub struct Step {
     pub meter: Meter,

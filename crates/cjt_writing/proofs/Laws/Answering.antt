@@ -2,7 +2,7 @@
 use Prim.Native.Nat.{ℕ}
 use mathlib.Core.Bool.{true, false}
 use mathlib.Core.List.{List}
-use mathlib.Core.Path.{◌≡◌, sym, subst}
+use mathlib.Core.Path.{◌≡◌, subst}
 use lib.ListN.{length}
 use Rattle.cjt_rules.specs.declared.CjtTelegram.{CjtTelegram}
 use Rattle.cjt_rules.specs.CjtWriting.{bytes_of_telegram, cjt_line_of, unwritten, write_cjt_line}
@@ -19,8 +19,3 @@ module _ (t : CjtTelegram) (before : List ℕ) where
       → Writes (carried_in bytes (length before)) before after r → Writes (write_cjt_line t (length before)) before after r
   unfolding cjt_line_of
   line_written w {bytes} {after} {r} e h = rw w (subst (λ (b : List ℕ). Writes (carried_in b (length before)) before after r) e h)
-
-  -- as the telegram is known to be
-  pub written_as : {u : CjtTelegram} → t ≡ u → {after : List ℕ} {r : Result ℕ Refusal} → Writes (write_cjt_line u (length before)) before after r
-      → Writes (write_cjt_line t (length before)) before after r
-  written_as e {after} {r} h = subst (λ (x : CjtTelegram). Writes (write_cjt_line x (length before)) before after r) (sym e) h

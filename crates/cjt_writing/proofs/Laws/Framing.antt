@@ -1,5 +1,5 @@
 -- Laws of bytes laid one part behind the other.
-use Prim.Native.Nat.{ℕ, ◌+◌, ◌*◌, ◌%◌, ◌≤◌}
+use Prim.Native.Nat.{ℕ, ◌+◌, ◌%◌}
 use mathlib.Core.List.{List, [], ◌∷◌, ◌++◌}
 use mathlib.Core.Path.{◌≡◌, refl, sym, ap, ◌∙◌}
 use native.Mathlib.Omega.{arith}
@@ -21,12 +21,12 @@ unfolding packed
 quantity_length q = refl
 
 -- a frame, then its sum and its end
-pub frame_closed : (bytes frame : List ℕ) → length bytes ≡ length frame + 2 → {sum : ℕ} {first last : List ℕ} → sum ≡ total frame % 256
-    → first ≡ copied bytes 0 frame → last ≡ copied first (length frame) (sum ∷ 0x16 ∷ []) → last ≡ closed frame
-frame_closed bytes frame h {sum} {first} e f l =
+pub frame_closed : (bytes frame : List ℕ) (n : ℕ) → length frame ≡ n → length bytes ≡ n + 2 → {sum : ℕ} {first last : List ℕ}
+    → sum ≡ total frame % 256 → first ≡ copied bytes 0 frame → last ≡ copied first n (sum ∷ 0x16 ∷ []) → last ≡ closed frame
+frame_closed bytes frame n s h {sum} {first} e f l =
     let end : List ℕ = total frame % 256 ∷ 0x16 ∷ [] in
-    l ∙ ap (λ (n : ℕ). copied first (length frame) (n ∷ 0x16 ∷ [])) e ∙ ap (λ (b : List ℕ). copied b (length frame) end) f
-    ∙ copied_on bytes frame end (length frame) refl (omega arith)
+    l ∙ ap (λ (k : ℕ). copied first n (k ∷ 0x16 ∷ [])) e ∙ ap (λ (b : List ℕ). copied b n end) f
+    ∙ copied_on bytes frame end n s (omega arith)
     ∙ copied_full bytes (frame ++ end) (omega (arith, length-append frame end))
 
 -- three parts that fill all places

@@ -48,13 +48,13 @@ module _ (x : Exchange) (t : Clock) {called silent : Bool} {state : State} {next
   line_parts outline q = moved_parts (q ∙ ap (λ (b : Bool). after_line x.request x.sends b outline) p)
 
 -- the whole answer for a line heard: the step, and the reply
-pub heard_parts : (b : Slot) (reading : Answer Telegram) (t : Clock) {s : Result Exchange Refusal} {well : Bool} {r : Telegram}
-    → s ≡ answers.shown (heard_on b (outlined reading) t) → ends_well s ≡ well → r ≡ cond well (telegram_read reading) blank
+pub heard_parts : (b : Slot) (reading : Answer Telegram) (t : Clock) {s : Result Exchange Refusal} {r : Telegram}
+    → s ≡ answers.shown (heard_on b (outlined reading) t) → r ≡ cond (ends_well s) (telegram_read reading) blank
     → ◌≡◌ {A = Heard} (record { stepped = s; reply = r }) (heard_of b reading t)
-heard_parts b reading t e w q =
+heard_parts b reading t e q =
     λ i. record {
       stepped = e i;
-      reply = (q ∙ ap (λ (c : Bool). cond c (telegram_read reading) blank) (sym w ∙ ap ends_well e)) i;
+      reply = (q ∙ ap (λ (u : Result Exchange Refusal). cond (ends_well u) (telegram_read reading) blank) e) i;
     }
 
 -- a resend is asked for only before the third send

@@ -11,7 +11,7 @@ use lib.Seq.{take_all, take_at}
 use Rattle.std.specs.Prelude.{Result, Ok, Err}
 use Rattle.base_rules.specs.declared.refusals.Refusal.{Refusal}
 use Rattle.mbus_rules.specs.declared.Telegram.{Telegram}
-use Rattle.base_rules.specs.Answers.{Answer, reads, refusal, refuse, follow}
+use Rattle.base_rules.specs.Answers.{Answer, reads, refusal, follow}
 use Rattle.base_rules.specs.Shown.{shown}
 use Rattle.base_rules.proofs.Laws.AnswerLaws.{shown_ok, shown_refused}
 use Rattle.base_rules.proofs.Laws.Tests.{by_test}
@@ -24,7 +24,7 @@ use Rattle.base_lent.proofs.Laws.Copying.{copied_on, copied_full}
 use Rattle.base_numbers.specs.Numbers.{bytes_of}
 use Rattle.base_numbers.proofs.Laws.Numbers.{length_bytes}
 use Rattle.base_numbers.proofs.Laws.RecordLaws.{record_length}
-use Rattle.mbus_records.specs.Telegrams.{telegram_bytes, telegram_in, telegram_from}
+use Rattle.mbus_records.specs.Telegrams.{telegram_bytes, telegram_from}
 use Rattle.mbus_records.proofs.Laws.TelegramLaws.{telegram_size, telegram_written}
 use Rattle.meter_record.specs.MeterRecords.{meter_head, core_words, meter_front, meter_bytes, meter_in, unreached, recalled, meter_from}
 

@@ -1,7 +1,8 @@
 -- `meter_record::recalled` meets its contract.
-use lib.ListN.{drop, length-take}
+use lib.ListN.{length, drop, length-take}
 use mathlib.Core.Path.{◌≡◌, sym, ap, ◌∙◌}
 use native.Mathlib.Omega.{arith}
+use borrow.Author.Rules.{rules}
 use Rattle.meter_steps.specs.declared.Meter.{Meter}
 use Rattle.base_rules.specs.Shown.{shown}
 use Rattle.mbus_records.specs.Telegrams.{telegram_bytes}
@@ -17,11 +18,12 @@ behind : (c : After-meter_in-meter) → telegram_bytes c.meter_in-meter.result.c
 behind c =
     ap (λ (m : Meter). telegram_bytes m.core.template) c.meter_in-meter.ensures
     ∙ ap telegram_bytes (template_in c.args.b.now c.args.template)
-    ∙ c.requires.1
+    ∙ c.requires
 
 pub slice_bounds-is_same-end : goal.slice_bounds-is_same-end
 slice_bounds-is_same-end c =
-    omega (arith, c.requires.0, length-take 56 c.args.b.now)
+    let size : length c.args.b.now ≡ 192 = search rules in
+    omega (arith, length-take 56 c.args.b.now)
 
 pub returns-then-other : goal.returns-then-other
 returns-then-other c =

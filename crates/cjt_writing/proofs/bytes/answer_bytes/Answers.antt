@@ -6,5 +6,4 @@ use Rattle.cjt_writing.proofs.bytes.answer_bytes.Goals as goal
 
 pub returns : goal.returns
 unfolding packed
-returns c =
-    c.close.ensures ∙ ap closed c.answer_frame-frame.ensures
+returns c = c.close.ensures ∙ ap closed c.answer_frame.ensures

@@ -1,6 +1,7 @@
 -- `cjt_writing::bytes::quantities_bytes` meets its contract: the values so far lie one behind the other.
-use Prim.Native.Nat.{◌-◌}
-use mathlib.Core.Path.{refl, sym, ◌∙◌}
+use mathlib.Core.Path.{◌≡◌, refl, sym, ◌∙◌}
+use native.Mathlib.Omega.{arith}
+use lib.ListN.{length}
 use native.Mathlib.Nat.{zero-add}
 use borrow.Author.Rules.{rules}
 use Rattle.base_lent.proofs.Laws.PieceLaws.{pieced_none, pieced_length, pieced_next, pieced_full}
@@ -8,16 +9,15 @@ use Rattle.cjt_writing.proofs.Laws.Framing.{quantity_length}
 use Rattle.cjt_writing.proofs.bytes.quantities_bytes.Goals as goal
 
 pub loop-i-init : goal.loop-i-init
-loop-i-init c = (pieced_none quantity_length (search rules), search rules)
+loop-i-init c = pieced_none quantity_length (search rules)
 
 pub slice_bounds-lay-end : goal.slice_bounds-lay-end
-slice_bounds-lay-end c =
-    sym (pieced_length c.loop-i.invariant.0)
+slice_bounds-lay-end c = sym (pieced_length c.loop-i.invariant)
 
 pub loop-i-preserved : goal.loop-i-preserved
 loop-i-preserved c =
-    let inv = c.loop-i.invariant in
-    (pieced_next inv.0 (search rules) _ c.quantity_bytes-b.ensures (c.lay.ensures ∙ sym (rw zero-add)), inv.1)
+    let five : length c.args.values ≡ 5 = search rules in
+    pieced_next c.loop-i.invariant (omega arith) _ c.quantity_bytes.ensures (c.lay.ensures ∙ sym (rw zero-add))
 
 pub returns : goal.returns
-returns c = let inv = c.loop-i.invariant in pieced_full inv.0 (search rules) refl (search rules)
+returns c = pieced_full c.loop-i.invariant (search rules) refl (search rules)

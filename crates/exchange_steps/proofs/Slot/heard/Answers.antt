@@ -1,5 +1,5 @@
 -- `Slot::heard` meets its contract: reading, outline, step and reply put together.
-use mathlib.Core.Path.{◌≡◌, sym, ap, ◌∙◌}
+use mathlib.Core.Path.{◌≡◌, ap, ◌∙◌}
 use mathlib.Core.Bool.{cond}
 use Rattle.std.specs.Prelude.{Result}
 use Rattle.std.specs.Result.{result_unwrap_or}
@@ -11,7 +11,7 @@ use Rattle.mbus_rules.specs.declared.Outline.{Outline}
 use Rattle.mbus_rules.specs.Outlines.{outlined, outline_in}
 use Rattle.mbus_rules.proofs.Laws.Outlines.{outline_shown, telegram_shown}
 use Rattle.base_rules.specs.Shown.{shown}
-use Rattle.exchange_steps.specs.Steps.{heard_on}
+use Rattle.exchange_steps.specs.Steps.{heard_on, ends_well}
 use Rattle.exchange_steps.proofs.Laws.Steps.{heard_parts}
 use Rattle.exchange_steps.proofs.Slot.heard.Goals.{After-seen-stepped}
 use Rattle.exchange_steps.proofs.Slot.heard.Goals as goal
@@ -29,6 +29,6 @@ step_is c =
 pub returns : goal.returns
 returns c =
     let a = c.args in
-    heard_parts a.self (read_line a.line.now) a.t (step_is (goal.at.returns c).After-seen-stepped) (sym c.ends_well-well.ensures)
-    (c.reply_of-reply.ensures ∙ ap (λ (r : Result Telegram Refusal). cond c.ends_well-well.result (result_unwrap_or r blank) blank)
-    c.read_line-reading.ensures ∙ ap (λ (t : Telegram). cond c.ends_well-well.result t blank) (telegram_shown (read_line a.line.now)))
+    heard_parts a.self (read_line a.line.now) a.t (step_is (goal.at.returns c).After-seen-stepped)
+    (c.reply_of-reply.ensures ∙ ap (λ (r : Result Telegram Refusal). cond (ends_well c.seen-stepped.result) (result_unwrap_or r blank) blank)
+    c.read_line-reading.ensures ∙ ap (λ (t : Telegram). cond (ends_well c.seen-stepped.result) t blank) (telegram_shown (read_line a.line.now)))
