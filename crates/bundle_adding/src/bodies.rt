@@ -4,7 +4,7 @@ ghost use Rattle.bundle_adding.specs.Writing.{shifted_by, bodies_moved};
 
 use base_lent::lay;
 
-// What stands from one place up to another moves up by so many.
+// What stands from one place up to another moves up by so many. A Range of the two places would ask for their order all the same.
 pub(crate) fn move_up(buffer: &mut [u8], from: usize, to: usize, by: usize)
     requires { (from ≤ to) × (to + by ≤ length buffer.old) }
     ensures { buffer.new ≡ shifted_by by from to buffer.old }

@@ -8,7 +8,8 @@ use base_lent::{lay, lay_each};
 use base_numbers::put_number;
 use bundle_rows::{Row, row_bytes, unchecked_row};
 
-// Each row gets the offset that its body has, the first body at a place and each next one behind it.
+// Each row gets the offset that its body has, the first body at a place and each next one behind it. The buffer is no accepted bundle here,
+// and a struct of buffer and count that knows the rows to be there would be made from the two and taken apart again for each step.
 pub(crate) fn place_rows(buffer: &mut [u8], count: usize, first: usize)
     requires { (count ≤ most_rows) × (first_offset count ≤ length buffer.old) × (first ≤ most_bytes) }
     ensures { buffer.new ≡ rows_placed count first buffer.old }

@@ -11,8 +11,9 @@ use crate::bodies::move_bodies;
 use crate::growing::grow_contents;
 use base_characters::pairs::any_over;
 use base_rules::Refusal;
+use bundle_check::accepted::Accepted;
 use bundle_check::{MOST_BYTES, check};
-use bundle_rows::{MOST_ROWS, Row, unchecked_row, wrong_field};
+use bundle_rows::{MOST_ROWS, Row, wrong_field};
 
 mod bodies;
 mod growing;
@@ -20,7 +21,7 @@ pub mod inserting;
 mod opening;
 mod placing;
 
-// What is said of a row that is to be put in, beside its body.
+// What is said of a row that is to be put in, beside its body. `add` and `insert` take it field by field, as C hands it over.
 #[derive(Clone, Copy)]
 pub(crate) struct NewRow {
     pub(crate) position: u8,
@@ -29,18 +30,17 @@ pub(crate) struct NewRow {
 }
 
 // The time of the last row, 0 where there is none.
-fn last_time(bundle: &[u8], count: usize) -> u32
-    requires { check_of bundle.now ≡ reads count }
-    ensures { result ≡ last_time (contents_of bundle.now) }
+fn last_time(bundle: Accepted) -> u32
+    ensures { result ≡ last_time (contents_of bundle.entry.bytes.now) }
 {
-    if count == 0 {
+    if bundle.count == 0 {
         return 0;
     }
-    let last = unchecked_row(bundle, count - 1);
-    last.time
+    bundle.row(bundle.count - 1).time
 }
 
 // The row and its body are put in where there is room for them. The bodies move first: the new row takes the place of the first one.
+// The buffer is lent to be changed: a struct of buffer, filled and count would be taken apart before the first byte moves, and its fact with it.
 fn insert(buffer: &mut [u8], filled: usize, count: usize, row: NewRow, body: &[u8])
     requires { (check_of (take filled buffer.old) ≡ reads count) × (filled + 12 + length body.now ≤ length buffer.old)
         × (filled + 12 + length body.now ≤ most_bytes) }
@@ -74,7 +74,8 @@ fn add_row(
     requires { (filled ≤ length buffer.old) × (check_of (take filled buffer.old) ≡ reads count) }
     ensures { Adds buffer.old filled (new_record row.position row.direction row.time body.now) result buffer.new }
 {
-    let last = last_time(&buffer[..filled], count);
+    let old = &buffer[..filled];
+    let last = last_time(Accepted { bytes: old, count });
     let field = wrong_field(row.position, row.direction, body.len());
     let wrong = field | (row.time < last);
     if wrong {

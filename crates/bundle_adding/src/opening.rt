@@ -18,7 +18,8 @@ pub(crate) fn open_bodies(buffer: &mut [u8], from: usize, at: usize, to: usize, 
     move_bodies(buffer, from, at, body);
 }
 
-// A row stands among the others, and those behind it move by 12.
+// A row stands among the others, and those behind it move by 12. That its place is not past the count is asked once more by each function on
+// the way, since the place is a number of its own.
 fn open_row(buffer: &mut [u8], count: usize, place: usize, row: Row)
     requires { (count ≤ most_rows) × (place ≤ count) × (first_offset count + 12 ≤ length buffer.old) }
     ensures { buffer.new ≡ row_opened count place row buffer.old }

@@ -20,7 +20,7 @@ mod walk;
 // The most bytes of a bundle.
 pub const MOST_BYTES: usize = 65_536;
 
-// The number of rows, or the lowest of 34 to 37 that applies to them and their bodies.
+// The number of rows, or the lowest of 34 to 37 that applies to them and their bodies. It takes no Accepted, which it is to find out.
 fn check_rows(bundle: &[u8], count: usize) -> Result<usize, Refusal>
     requires { (count ≤ most_rows) × (first_offset count ≤ length bundle.now) }
     ensures { result ≡ shown (check_rows count bundle.now) }

@@ -25,7 +25,8 @@ pub fn place_of(row: Row) -> BodyPlace
     }
 }
 
-// The fields of row i, counted from 0.
+// The fields of row i, counted from 0. `bundle_columns::row` is not one with it: a trait for what counts and reads the rows would be longer
+// than these six lines.
 pub fn row(bundle: &[u8], i: usize) -> Result<Row, Refusal>
     ensures { result ≡ shown (row_at bundle.now i) }
 {

@@ -5,7 +5,8 @@ ghost use Rattle.bundle_check.specs.Walking.{walk_of};
 
 use bundle_rows::{unchecked_row, wrong_field};
 
-// Whether 34 applies, whether 35 does, and where the last body ends.
+// Whether 34 applies, whether 35 does, and where the last body ends. Both are looked for in one walk to its end, since 34 anywhere comes
+// before 35: a Result would stop at the first 35.
 #[derive(Clone, Copy)]
 pub(crate) struct Walk {
     pub(crate) field: bool,

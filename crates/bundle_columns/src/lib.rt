@@ -60,7 +60,8 @@ pub(crate) fn kept_row(columns: &[u8], i: usize) -> Row
     }
 }
 
-// The fields of row i, counted from 0.
+// The fields of row i, counted from 0. It is not one with `bundle_check::rows::row`: a trait for what counts and reads the rows would be longer
+// than these six lines.
 pub fn row(columns: &[u8], i: usize) -> Result<Row, Refusal>
     ensures { result ≡ shown (row_kept columns.now i) }
 {

@@ -44,12 +44,12 @@ fn first_place(positions: &[u8], position: u8, from: usize) -> usize
     requires { from ≤ length positions.now }
     ensures { result ≡ from + in_front (is_position position) (drop from positions.now) }
 {
-    for i in from..positions.len() {
-        if positions[i] == position {
-            return i;
-        }
-    }
-    positions.len()
+    let rest = &positions[from..];
+    let passed = rest
+        .iter()
+        .position(|own| *own == position)
+        .unwrap_or(rest.len());
+    from + passed
 }
 
 // The first place from a given one on at which the position stands, or 39.

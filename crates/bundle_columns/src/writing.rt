@@ -12,7 +12,7 @@ use base_numbers::put_number;
 use base_rules::Refusal;
 use bundle_rows::row_bytes;
 
-// So many rows of the lists, one behind the other, behind the count.
+// So many rows of the lists, one behind the other, behind the count. The lists are no bundle, so that no Accepted counts them.
 fn put_rows(columns: &[u8], count: usize, out: &mut [u8])
     requires { (length columns.now ≡ columns_size) × (count ≤ most_rows) × (first_offset count ≤ length out.old) }
     ensures { out.new ≡ laid out.old 2 (bytes_of_rows (kept_from (columns_in columns.now) 0 count)) }

@@ -1,13 +1,11 @@
 // The rows of two bundles by time, as one bundle in a third buffer.
 #![tactic(auto)]
 
-ghost use Rattle.std.specs.Prelude.{◌≡◌};
-ghost use Rattle.base_rules.specs.Answers.{reads};
-ghost use Rattle.bundle_check.specs.Bundles.{check_of};
 ghost use Rattle.bundle_joining.specs.JoinShown.{Joins};
 
 use crate::joining::write_rows;
 use base_rules::Refusal;
+use bundle_check::accepted::Accepted;
 use bundle_check::{MOST_BYTES, check};
 use bundle_rows::MOST_ROWS;
 
@@ -17,17 +15,16 @@ pub mod position;
 mod writing;
 
 // Both bundles have been accepted: their rows go into one where they fit there and in the buffer.
-fn join_rows(a: &[u8], in_a: usize, b: &[u8], in_b: usize, out: &mut [u8]) -> Result<usize, Refusal>
-    requires { (check_of a.now ≡ reads in_a) × (check_of b.now ≡ reads in_b) }
-    ensures { Joins a.now b.now out.old result out.new }
+fn join_rows(a: Accepted, b: Accepted, out: &mut [u8]) -> Result<usize, Refusal>
+    ensures { Joins a.entry.bytes.now b.entry.bytes.now out.old result out.new }
 {
-    let rows = in_a + in_b;
-    let filled = a.len() + b.len() - 2;
+    let rows = a.count + b.count;
+    let filled = a.bytes.len() + b.bytes.len() - 2;
     let full = (MOST_ROWS < rows) | (MOST_BYTES < filled) | (out.len() < filled);
     if full {
         return Err(Refusal::BUNDLE_FULL);
     }
-    write_rows(a, in_a, b, in_b, out);
+    write_rows(a, b, out);
     Ok(filled)
 }
 
@@ -38,5 +35,13 @@ pub fn join(a: &[u8], b: &[u8], out: &mut [u8]) -> Result<usize, Refusal>
 {
     let in_a = check(a)?;
     let in_b = check(b)?;
-    join_rows(a, in_a, b, in_b, out)
+    let first = Accepted {
+        bytes: a,
+        count: in_a,
+    };
+    let second = Accepted {
+        bytes: b,
+        count: in_b,
+    };
+    join_rows(first, second, out)
 }

@@ -1,27 +1,26 @@
 // The rows of one position as a bundle of their own, in a second buffer.
 ghost use Rattle.std.specs.Prelude.{false, ◌≡◌};
-ghost use Rattle.base_rules.specs.Answers.{reads};
 ghost use Rattle.bundle_rows.specs.Fields.{wrong_position};
-ghost use Rattle.bundle_check.specs.Bundles.{check_of};
 ghost use Rattle.bundle_joining.specs.ChoosingShown.{Chooses};
 
 use crate::choosing::{measure, write_rows};
 use base_rules::Refusal;
+use bundle_check::accepted::Accepted;
 use bundle_check::check;
 use bundle_rows::wrong_position;
 
 // The rows are measured first: only then is it known where the first body goes, and whether there is room.
-fn choose(bundle: &[u8], count: usize, position: u8, out: &mut [u8]) -> Result<usize, Refusal>
-    requires { (check_of bundle.now ≡ reads count) × (wrong_position position ≡ false) }
-    ensures { Chooses bundle.now position out.old result out.new }
+fn choose(bundle: Accepted, position: u8, out: &mut [u8]) -> Result<usize, Refusal>
+    requires { wrong_position position ≡ false }
+    ensures { Chooses bundle.entry.bytes.now position out.old result out.new }
 {
-    let size = measure(bundle, count, position);
+    let size = measure(bundle, position);
     let rows = size.rows;
     let filled = 2 + 12 * rows + size.bytes;
     if out.len() < filled {
         return Err(Refusal::BUNDLE_FULL);
     }
-    write_rows(bundle, count, position, rows, out);
+    write_rows(bundle, position, rows, out);
     Ok(filled)
 }
 
@@ -34,5 +33,9 @@ pub fn of_position(bundle: &[u8], position: u8, out: &mut [u8]) -> Result<usize,
     if wrong_position(position) {
         return Err(Refusal::BUNDLE_WRONG_ROW);
     }
-    choose(bundle, count, position, out)
+    let accepted = Accepted {
+        bytes: bundle,
+        count,
+    };
+    choose(accepted, position, out)
 }

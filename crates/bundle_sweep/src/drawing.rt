@@ -18,7 +18,7 @@ fn is_gone(position: u8, own: u8, body: &[u8]) -> bool
     wake | ((position != 0) & (own == position))
 }
 
-// Row i goes, whose body lies in the bundle.
+// Row i goes, whose body lies in the bundle. This is all that is left of an accepted bundle while rows are drawn together.
 fn goes_at(bundle: &[u8], i: usize, position: u8) -> bool
     requires { (unchecked_row bundle.now i).offset + (unchecked_row bundle.now i).length ≤ length bundle.now }
     ensures { result ≡ row_goes position bundle.now (unchecked_row bundle.now i) }
@@ -29,7 +29,8 @@ fn goes_at(bundle: &[u8], i: usize, position: u8) -> bool
     is_gone(position, row.position, &bundle[at..end])
 }
 
-// Each row that is left moves up to the one before it, with the offset that it has; answers how many there are.
+// Each row that is left moves up to the one before it, with the offset that it has; answers how many there are. It takes no
+// Accepted: the bundle is lent to be changed, and is none from the first row that moves.
 pub(crate) fn draw_rows(bundle: &mut [u8], count: usize, position: u8) -> usize
     requires { check_of bundle.old ≡ reads count }
     ensures { Drawn position bundle.old result bundle.new }

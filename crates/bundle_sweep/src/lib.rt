@@ -18,7 +18,7 @@ mod drawing;
 mod moving;
 mod placing;
 
-// The last position of a bench.
+// The last position of a bench: a limit, and no kind.
 const LAST_POSITION: u8 = 48;
 
 // The rows are drawn together first: only then is it known where the first body goes.
@@ -34,7 +34,7 @@ fn sweep_rows(bundle: &mut [u8], count: usize, position: u8) -> usize
 }
 
 // Removes the wake rows, and the rows of a position that is not 0, from the bundle that fills the first bytes of the buffer. Where it is
-// refused, the buffer stays as it was.
+// refused, the buffer stays as it was. Buffer, filled and position come from C one by one.
 pub fn sweep(buffer: &mut [u8], filled: usize, position: u8) -> Result<usize, Refusal>
     ensures { Sweeps buffer.old filled position result buffer.new }
 {

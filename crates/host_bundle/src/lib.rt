@@ -34,7 +34,7 @@ pub fn skarrowith_bundle_row(bundle: &[u8], i: usize, out: &mut [u8]) -> u32
     put_row(row(bundle, i), out)
 }
 
-// 0, the row added and how many bytes the bundle then fills, or 256 plus 30 to 38.
+// 0, the row added and how many bytes the bundle then fills, or 256 plus 30 to 38. C hands over buffer, filled and the row's fields one by one.
 pub fn skarrowith_bundle_add(
     buffer: &mut [u8],
     filled: &mut usize,

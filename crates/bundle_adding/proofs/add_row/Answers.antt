@@ -29,8 +29,8 @@ wrong-is : (c : After-wrong_field-field)
 wrong-is c =
     rw (c.wrong_field-field.ensures, c.last_time-last.ensures)
 
-pub slice_bounds-last_time-end-2 : goal.slice_bounds-last_time-end-2
-slice_bounds-last_time-end-2 c =
+pub slice_bounds-old-end-2 : goal.slice_bounds-old-end-2
+slice_bounds-old-end-2 c =
     sym (length-take-le c.args.filled c.args.buffer.now c.requires.0)
 
 pub returns-then-wrong : goal.returns-then-wrong

@@ -5,13 +5,13 @@ use Rattle.bundle_rows.specs.declared.Row.{Row}
 use Rattle.bundle_adding.proofs.Laws.AddLaws.{last_none, last_there}
 use Rattle.bundle_adding.proofs.last_time.Goals as goal
 
-pub returns-then-count-eq0 : goal.returns-then-count-eq0
-returns-then-count-eq0 c = last_none c.args.bundle.now c.args.count c.requires c.if-count-eq0.true
+pub returns-then-bundle-eq0 : goal.returns-then-bundle-eq0
+returns-then-bundle-eq0 c = last_none c.args.bundle.bytes.now c.args.bundle.count c.args.bundle.accepted c.if-bundle-eq0.true
 
-pub overflow_sub-count : goal.overflow_sub-count
-overflow_sub-count c = omega arith
+pub overflow_sub-bundle : goal.overflow_sub-bundle
+overflow_sub-bundle c = omega arith
 
 pub returns : goal.returns
 returns c =
-    ap (λ (r : Row). r.time) c.unchecked_row-last.ensures ∙ last_there c.args.bundle.now c.args.count c.requires
-    (omega (arith, c.if-count-eq0.false))
+    ap (λ (r : Row). r.time) c.row.ensures ∙ last_there c.args.bundle.bytes.now c.args.bundle.count c.args.bundle.accepted
+    (omega (arith, c.if-bundle-eq0.false))

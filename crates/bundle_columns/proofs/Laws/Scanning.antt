@@ -4,12 +4,11 @@ use mathlib.Core.Bool.{Bool, true, false}
 use mathlib.Core.List.{List, [], ◌∷◌}
 use mathlib.Core.Path.{◌≡◌, refl, sym, ap, ◌∙◌}
 use native.Mathlib.Nat.{not-suc-le-zero}
-use native.Mathlib.Numerals.{add-one}
 use native.Mathlib.Omega.{arith}
 use borrow.Author.Tests.{le-leb}
-use lib.Dec.{leb}
-use lib.ListN.{length, get_or, take, drop, length-drop, drop_of_length-le}
-use lib.Seq.{drop-cons, drop-drop}
+use lib.Dec.{leb, eqb}
+use lib.ListN.{length, take, drop, length-drop}
+use lib.Seq.{drop-drop}
 use Rattle.base_rules.specs.Lists.{any}
 use Rattle.base_rules.specs.Answers.{reads, refusal, refuse}
 use Rattle.base_rules.proofs.Laws.Tests.{neither}
@@ -17,18 +16,6 @@ use Rattle.bundle_columns.specs.Lookups.{is_position, in_front, first_from}
 use Rattle.bundle_columns.specs.Scanning.{Passed}
 
 module _ {A : Type 0} (test : A → Bool) where
-  pub front_here : (s : List A) (i : ℕ) (d : A) → i < length s → test (get_or s i d) ≡ true → in_front test (drop i s) ≡ 0
-  unfolding in_front
-  front_here s i d h e = rw (drop-cons s i d h, e)
-
-  pub front_next : (s : List A) (i : ℕ) (d : A) → i < length s → test (get_or s i d) ≡ false → in_front test (drop i s) ≡ suc (in_front test (drop (suc i) s))
-  unfolding in_front
-  front_next s i d h e = rw (drop-cons s i d h, e)
-
-  pub front_end : (s : List A) (i : ℕ) → length s ≤ i → in_front test (drop i s) ≡ 0
-  unfolding in_front
-  front_end s i h = rw (drop_of_length-le s h)
-
   -- places without such an element are passed over
   pub front_passed : (k : ℕ) (s : List A) → k ≤ length s → any test (take k s) ≡ false → in_front test s ≡ k + in_front test (drop k s)
   unfolding in_front any
@@ -63,21 +50,6 @@ module _ {s : List ℕ} {position from : ℕ} where
     pub passed_on : {r : ℕ} → Passed s position i r → Passed s position from r
     passed_on h = record { inside = h.inside; onward = omega (arith, g.onward, h.onward); so = h.so ∙ g.so }
 
-    pub passed_one : i < length s → is_position position (get_or s i 0) ≡ false → Passed s position from (i + 1)
-    passed_one h e =
-        let next : in_front (is_position position) (drop (i + 1) s) ≡ in_front (is_position position) (drop (suc i) s) = rw (add-one i) in
-        record {
-          inside = omega arith;
-          onward = omega (arith, g.onward);
-          so = omega (arith, g.so, front_next (is_position position) s i 0 h e);
-        }
-
-    pub passed_here : i < length s → is_position position (get_or s i 0) ≡ true → i ≡ from + in_front (is_position position) (drop from s)
-    passed_here h e = omega (arith, g.so, front_here (is_position position) s i 0 h e)
-
-    pub passed_all : length s ≤ i → i ≡ from + in_front (is_position position) (drop from s)
-    passed_all h = omega (arith, g.so, front_end (is_position position) s i h)
-
 -- ---- what is answered
 module _ (s : List ℕ) (position from : ℕ) where
   pub scan_past : length s < from → refusal 39 ≡ first_from (is_position position) s from
@@ -92,3 +64,16 @@ module _ (s : List ℕ) (position from : ℕ) where
 
     pub scan_found : leb (length s) i ≡ false → reads i ≡ first_from (is_position position) s from
     scan_found h = rw (scanned, h)
+
+-- what stands in front of the first, element by element
+pub front_none : (p : ℕ) → in_front (is_position p) [] ≡ 0
+unfolding in_front
+front_none p = refl
+
+pub front_hit : (p x : ℕ) (s : List ℕ) → eqb x p ≡ true → in_front (is_position p) (x ∷ s) ≡ 0
+unfolding in_front
+front_hit p x s h = rw h
+
+pub front_miss : (p x : ℕ) (s : List ℕ) → eqb x p ≡ false → in_front (is_position p) (x ∷ s) ≡ in_front (is_position p) s + 1
+unfolding in_front
+front_miss p x s h = rw h (omega arith)

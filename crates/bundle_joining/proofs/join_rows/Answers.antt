@@ -9,32 +9,32 @@ use Rattle.bundle_joining.proofs.join_rows.Goals as goal
 pub overflow_add-rows : goal.overflow_add-rows
 overflow_add-rows c =
     let a = c.args in
-    omega (arith, few_rows a.a.now a.in_a c.requires.0, few_rows a.b.now a.in_b c.requires.1)
+    omega (arith, few_rows a.a.bytes.now a.a.count a.a.accepted, few_rows a.b.bytes.now a.b.count a.b.accepted)
 
 pub overflow_add-filled : goal.overflow_add-filled
 overflow_add-filled c =
     let a = c.args in
-    omega (arith, (accepted_sound a.a.now a.in_a c.requires.0).0.fits, (accepted_sound a.b.now a.in_b c.requires.1).0.fits)
+    omega (arith, (accepted_sound a.a.bytes.now a.a.count a.a.accepted).0.fits, (accepted_sound a.b.bytes.now a.b.count a.b.accepted).0.fits)
 
 pub overflow_sub-filled : goal.overflow_sub-filled
 overflow_sub-filled c =
     let a = c.args in
-    omega (arith, (accepted_sound a.a.now a.in_a c.requires.0).0.counted)
+    omega (arith, (accepted_sound a.a.bytes.now a.a.count a.a.accepted).0.counted)
 
 pub returns-then-full : goal.returns-then-full
 returns-then-full c =
     let a = c.args in
-    join-full a.a.now a.b.now a.out.now a.in_a c.requires.0 a.in_b c.requires.1
-    (both_filled a.a.now a.in_a a.b.now a.in_b c.requires.0 c.requires.1) c.if-full.true
+    join-full a.a.bytes.now a.b.bytes.now a.out.now a.a.count a.a.accepted a.b.count a.b.accepted
+    (both_filled a.a.bytes.now a.a.count a.b.bytes.now a.b.count a.a.accepted a.b.accepted) c.if-full.true
 
 pub write_rows-requires : goal.write_rows-requires
 write_rows-requires c =
     let a = c.args in
-    both_fit a.a.now a.in_a a.b.now a.in_b c.requires.0 c.requires.1 a.out.now
-    (both_filled a.a.now a.in_a a.b.now a.in_b c.requires.0 c.requires.1) c.if-full.false
+    both_fit a.a.bytes.now a.a.count a.b.bytes.now a.b.count a.a.accepted a.b.accepted a.out.now
+    (both_filled a.a.bytes.now a.a.count a.b.bytes.now a.b.count a.a.accepted a.b.accepted) c.if-full.false
 
 pub returns : goal.returns
 returns c =
     let a = c.args in
-    join-done a.a.now a.b.now a.out.now a.in_a c.requires.0 a.in_b c.requires.1
-    (both_filled a.a.now a.in_a a.b.now a.in_b c.requires.0 c.requires.1) c.if-full.false c.write_rows.ensures
+    join-done a.a.bytes.now a.b.bytes.now a.out.now a.a.count a.a.accepted a.b.count a.b.accepted
+    (both_filled a.a.bytes.now a.a.count a.b.bytes.now a.b.count a.a.accepted a.b.accepted) c.if-full.false c.write_rows.ensures

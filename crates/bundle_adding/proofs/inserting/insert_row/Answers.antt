@@ -52,8 +52,8 @@ returns-then-full c =
     c.requires.0 c.requires.1 (sym c.wrong_field-wrong.ensures ∙ c.if-wrong.false)
     (sym c.any_over-wide.ensures ∙ c.if-wide.false) c.if-full.true)
 
-pub slice_bounds-place_behind-end-2 : goal.slice_bounds-place_behind-end-2
-slice_bounds-place_behind-end-2 c =
+pub slice_bounds-old-end-2 : goal.slice_bounds-old-end-2
+slice_bounds-old-end-2 c =
     sym (length-take-le c.args.filled c.args.buffer.now c.requires.0)
 
 pub put_in-requires : goal.put_in-requires

@@ -21,9 +21,9 @@ inside c = omega (arith, c.requires.3)
 first : (c : Start) → first_offset c.args.count ≤ c.args.filled
 first c = old_first c.args.buffer.now c.args.filled c.args.count (inside c) c.requires.0
 
-pub slice_bounds-bodies_end-end-2 : goal.slice_bounds-bodies_end-end-2
-slice_bounds-bodies_end-end-2 c =
-    sym (length-take-le c.args.filled c.args.buffer.now (inside (goal.at.slice_bounds-bodies_end-end-2 c).Start))
+pub slice_bounds-old-end-2 : goal.slice_bounds-old-end-2
+slice_bounds-old-end-2 c =
+    sym (length-take-le c.args.filled c.args.buffer.now (inside (goal.at.slice_bounds-old-end-2 c).Start))
 
 pub open_bodies-requires : goal.open_bodies-requires
 open_bodies-requires c =

@@ -1,13 +1,10 @@
 -- `bundle_columns::making::columns_of` meets its contract: each way out by the law of that answer.
-use Prim.Native.Nat.{◌≤◌}
 use mathlib.Core.Path.{◌≡◌, sym, ◌∙◌}
 use native.Mathlib.Omega.{arith}
 use borrow.Author.Tests.{le-ltb}
 use Rattle.base_rules.specs.Answers.{reads}
 use Rattle.base_rules.proofs.Laws.AnswerLaws.{shown_ok}
-use Rattle.bundle_rows.specs.Rows.{most_rows}
 use Rattle.bundle_check.specs.Bundles.{check_of}
-use Rattle.bundle_check.proofs.Laws.BodyLaws.{few_rows}
 use Rattle.bundle_columns.proofs.Laws.Turning.{made}
 use Rattle.bundle_columns.proofs.making.columns_of.Goals.{In_ok-count}
 use Rattle.bundle_columns.proofs.making.columns_of.Goals as goal
@@ -16,15 +13,11 @@ use Rattle.bundle_columns.proofs.making.columns_of.Goals as goal
 counted : (c : In_ok-count) → check_of c.args.bundle.now ≡ reads c.in_ok-count.count
 counted c = shown_ok (check_of c.args.bundle.now) c.in_ok-count.count (sym c.check.ensures ∙ c.in_ok-count.was)
 
-few : (c : In_ok-count) → c.in_ok-count.count ≤ most_rows
-few c = few_rows c.args.bundle.now c.in_ok-count.count (counted c)
-
 pub put_bytes-requires : goal.put_bytes-requires
-put_bytes-requires c = (few (goal.at.put_bytes-requires c).In_ok-count, omega (arith, c.if-out-lt-COLUMNS_BYTES.false))
+put_bytes-requires c = omega (arith, c.if-out-lt-COLUMNS_BYTES.false)
 
 pub put_words-requires : goal.put_words-requires
-put_words-requires c =
-    (few (goal.at.put_words-requires c).In_ok-count, omega (arith, c.if-out-lt-COLUMNS_BYTES.false, c.put_bytes.auto.out))
+put_words-requires c = omega (arith, c.if-out-lt-COLUMNS_BYTES.false, c.put_bytes.auto.out)
 
 pub returns : goal.returns
 returns c =

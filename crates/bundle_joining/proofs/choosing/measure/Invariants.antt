@@ -4,7 +4,7 @@ use Rattle.bundle_joining.proofs.Laws.Choosing.{Measured}
 use Rattle.bundle_joining.proofs.choosing.measure.Given as goal
 
 abbrev pub invariant-loop-i : goal.invariant-loop-i
-invariant-loop-i l = Measured l.position l.bundle l.count l.i l.rows l.bytes
+invariant-loop-i l = Measured l.position l.bundle.bytes.now l.bundle.count l.i l.rows l.bytes
 
 abbrev pub decreases-loop-i : goal.decreases-loop-i
-decreases-loop-i l = l.count - l.i
+decreases-loop-i l = l.bundle.count - l.i

@@ -2,4 +2,4 @@
 use Rattle.bundle_joining.proofs.joining.is_from_b.Goals as goal
 
 pub returns : goal.returns
-returns c = rw (← c.unchecked_row-of_a.ensures, ← c.unchecked_row-of_b.ensures)
+returns c = rw (← c.row-of_a.ensures, ← c.row-of_b.ensures)

@@ -1,6 +1,4 @@
 -- `bundle_joining::joining::write_rows` meets its contract: the count, and the rows of both one by one.
-use Prim.Native.Nat.{◌-◌}
-use mathlib.Core.Logic.{⊎_elim}
 use mathlib.Core.Path.{sym, ◌∙◌}
 use native.Mathlib.Omega.{arith}
 use Rattle.bundle_joining.proofs.Laws.Joining.{joining_none, joining_length, more_b, room-b, joining-b, more_a, room-a, joining-a, joining_all}
@@ -23,7 +21,7 @@ loop-k-init c = joining_none c.requires c.put_number.ensures
 pub put_row-at-requires : goal.put_row-at-requires
 put_row-at-requires c =
     room-b c.loop-k.invariant c.loop-k-test.true (sym c.is_from_b-of_b.ensures ∙ c.if-of_b.true)
-    c.unchecked_row-row.ensures
+    c.row-row.ensures
 
 pub overflow_add-j : goal.overflow_add-j
 overflow_add-j c =
@@ -33,7 +31,7 @@ overflow_add-j c =
 pub put_row-at-requires-else-of_b : goal.put_row-at-requires-else-of_b
 put_row-at-requires-else-of_b c =
     room-a c.loop-k.invariant c.loop-k-test.true (sym c.is_from_b-of_b.ensures ∙ c.if-of_b.false)
-    c.unchecked_row-row-else-of_b.ensures
+    c.row-row-else-of_b.ensures
 
 pub overflow_add-i : goal.overflow_add-i
 overflow_add-i c =
@@ -48,10 +46,10 @@ loop-k-preserved c =
     elim c.if-of_b.branch [
       | then-of_b w ↦
           rw (w.out-is, w.at-is, w.i-is, w.j-is)
-          (joining-b g h (e ∙ w.if-of_b.true) w.unchecked_row-row.ensures w.put_row-at.ensures.0 w.put_row-at.ensures.1)
+          (joining-b g h (e ∙ w.if-of_b.true) w.row-row.ensures w.put_row-at.ensures.0 w.put_row-at.ensures.1)
       | else-of_b w ↦
           rw (w.out-is, w.at-is, w.i-is, w.j-is)
-          (joining-a g h (e ∙ w.if-of_b.false) w.unchecked_row-row-else-of_b.ensures w.put_row-at-else-of_b.ensures.0 w.put_row-at-else-of_b.ensures.1)
+          (joining-a g h (e ∙ w.if-of_b.false) w.row-row-else-of_b.ensures w.put_row-at-else-of_b.ensures.0 w.put_row-at-else-of_b.ensures.1)
     ]
 
 pub shape_of-out : goal.shape_of-out

@@ -24,4 +24,4 @@ returns-then-wrong_position c =
     (sym c.wrong_position.ensures ∙ c.if-wrong_position.true)
 
 pub choose-requires : goal.choose-requires
-choose-requires c = (counted (goal.at.choose-requires c).In_ok-count, sym c.wrong_position.ensures ∙ c.if-wrong_position.false)
+choose-requires c = sym c.wrong_position.ensures ∙ c.if-wrong_position.false
