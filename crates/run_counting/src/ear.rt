@@ -20,7 +20,7 @@ pub(crate) struct Open {
 }
 
 // What is open after a row, and whether the row counts. Where nothing is open nothing counts before the next accepted read; else the first row
-// heard that begins at or after the end decides.
+// heard that begins at or after the end decides. (Two facts: where nothing is open behind a row it may count or not, and the walk asks for each alone.)
 #[derive(Clone, Copy)]
 pub(crate) struct Turn {
     pub(crate) ear: Option<Open>,
