@@ -61,7 +61,9 @@ fn judge_in(slot: Slot, row: Row, bundle: &[u8]) -> Judged
     judge(slot, row, &bundle[at..end])
 }
 
-// The verdicts of so many rows, each by the exchange of its position, and `Unasked` in the places behind them.
+// The verdicts of so many rows, each by the exchange of its position, and `Unasked` in the places behind them. (Not inlined: where each instance has one
+// caller its arrays would stand twice on the stack.)
+#[inline(never)]
 pub(crate) fn walk<R: Rows>(rows: &R, bundle: &[u8], count: usize) -> [Verdict; MOST_ROWS]
     requires { Walkable (R.row_at rows.now) bundle.now count }
     ensures { result ≡ in_places (verdicts_of (records_from (R.row_at rows.now) bundle.now count)) }
