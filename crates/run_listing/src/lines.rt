@@ -74,7 +74,7 @@ fn line_of(position: u8, direction: u8, time: u32, word: Line) -> Line
     with(fifth, b"\n")
 }
 
-// The line of row i, whose body lies in the bundle.
+// The line of row i, whose body lies in the bundle. (It is asked for here, and no method of `Accepted`: no public function may ask for a row that is there.)
 fn row_line(bundle: &[u8], i: usize) -> Line
     requires { (unchecked_row bundle.now i).offset + (unchecked_row bundle.now i).length ≤ length bundle.now }
     ensures { Holds 48 result (line_for bundle.now (unchecked_row bundle.now i)) }

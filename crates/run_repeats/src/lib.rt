@@ -29,7 +29,7 @@ fn mark_rows(bundle: Accepted, marks: &mut [u32; MOST_ROWS])
     }
 }
 
-// The rows of an accepted bundle, each with its mark.
+// The rows of an accepted bundle, each with its mark. (That i is below the count is asked for of each index, as a slice asks it.)
 #[derive(Clone, Copy)]
 struct MarkedRows<'a> {
     bundle: &'a [u8],
