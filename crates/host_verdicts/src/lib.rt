@@ -3,14 +3,12 @@
 
 ghost use Rattle.std.specs.Prelude.{◌≡◌, ◌≤◌, ◌*◌, length};
 ghost use Rattle.base_rules.specs.Shown.{shown};
-ghost use Rattle.bundle_rows.specs.Rows.{most_rows};
 ghost use Rattle.run_verdicts.specs.Answering.{verdicts_in, verdicts_kept};
-ghost use Rattle.host_verdicts.specs.Told.{verdicts_among, answer_shown, verdict_in, verdicts_into, verdict_into, InFull, PutsVerdicts};
+ghost use Rattle.host_verdicts.specs.Told.{answer_shown, verdict_in, verdicts_into, verdict_into, InFull, PutsVerdicts};
 ghost use Rattle.host_verdicts.specs.Told.{GivesVerdicts, GivesVerdict};
 
 use base_lent::{lay, store};
 use base_rules::Refusal;
-use bundle_rows::MOST_ROWS;
 use record::{VERDICT_BYTES, record_of};
 use run_verdicts::kept::verdicts_kept;
 use run_verdicts::{Verdict, Verdicts, verdicts_in};
@@ -18,13 +16,13 @@ use run_verdicts::{Verdict, Verdicts, verdicts_in};
 mod record;
 pub mod repeats;
 
-// The records of so many verdicts, one behind the other.
-fn put_records(verdicts: [Verdict; MOST_ROWS], count: usize, out: &mut [u8])
-    requires { (count ≤ most_rows) × (4 * count ≤ length out.old) }
-    ensures { PutsVerdicts (verdicts_among verdicts count) out.old out.new }
+// The records of the verdicts, one behind the other.
+fn put_records(verdicts: &[Verdict], out: &mut [u8])
+    requires { 4 * length verdicts.now ≤ length out.old }
+    ensures { PutsVerdicts verdicts.now out.old out.new }
 {
-    for i in 0..count {
-        let bytes = record_of(verdicts[i]);
+    for (i, &verdict) in verdicts.iter().enumerate() {
+        let bytes = record_of(verdict);
         lay(out, 4 * i, &bytes);
     }
 }
@@ -42,7 +40,7 @@ fn give(judged: Result<Verdicts, Refusal>, out: &mut [u8], count: &mut usize) ->
             if short {
                 return Refusal::TOO_FEW_PLACES.told();
             }
-            put_records(all.verdicts, rows, out);
+            put_records(&all.verdicts[..rows], out);
             *count = rows;
             0
         },
@@ -74,7 +72,7 @@ pub fn skarrowith_verdict(bundle: &[u8], i: usize, verdict: &mut [u8]) -> u32
 {
     let short = verdict.len() < VERDICT_BYTES;
     if short {
-        return 256 + 21;
+        return Refusal::TOO_FEW_PLACES.told();
     }
     match found(verdicts_in(bundle), i) {
         Ok(v) => {

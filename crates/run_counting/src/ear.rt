@@ -20,7 +20,7 @@ pub(crate) struct Open {
 }
 
 // What is open after a row, and whether the row counts. Where nothing is open nothing counts before the next accepted read; else the first row
-// heard that begins at or after the end decides.
+// heard that begins at or after the end decides. (Two facts: where nothing is open behind a row it may count or not, and the walk asks for each alone.)
 #[derive(Clone, Copy)]
 pub(crate) struct Turn {
     pub(crate) ear: Option<Open>,
@@ -50,7 +50,8 @@ fn opened(outline: Outline, end: u64) -> Option<Open>
     }
 }
 
-// The same from the line that was sent and the start of its first character.
+// The same from the line that was sent and the start of its first character. (A length of two bytes: a type of such slices would be made of each body just
+// to be taken apart again, here and in run_repeats and run_verdicts.)
 fn opened_after(time: u32, body: &[u8]) -> Option<Open>
     requires { length body.now ≤ 65535 }
     ensures { result ≡ opened_after time body.now }
@@ -105,7 +106,7 @@ fn passed_by(position: u8, ear: Option<Open>, row: Row, body: &[u8]) -> Turn
     heard_by(ear, row.time, body)
 }
 
-// After row i of a bundle, whose body lies in it.
+// After row i of a bundle, whose body lies in it. (It is asked for here, and no method of `Accepted`: no public function may ask for a row that is there.)
 pub(crate) fn turn_at(position: u8, ear: Option<Open>, bundle: &[u8], i: usize) -> Turn
     requires { (unchecked_row bundle.now i).offset + (unchecked_row bundle.now i).length ≤ length bundle.now }
     ensures { result ≡ passed_by position ear (row_in bundle.now i) }

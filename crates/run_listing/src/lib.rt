@@ -9,6 +9,7 @@ ghost use Rattle.run_listing.specs.Shown.{Lists};
 
 use base_lent::{lay, store};
 use base_rules::Refusal;
+use bundle_check::accepted::Accepted;
 use bundle_check::check;
 use lines::{put_rows, refused, word_of};
 use text_filling::put;
@@ -18,7 +19,8 @@ pub mod line_column;
 mod lines;
 mod texts;
 
-// Puts the word for a body from a place on, as far as there is room, and answers the place behind it.
+// Puts the word for a body from a place on, as far as there is room, and answers the place behind it. (By two parameters, as `text_filling::put`: PutAt,
+// which demands/specs/Settled names, tells them apart.)
 pub fn put_word(out: &mut [u8], at: usize, body: &[u8]) -> usize
     ensures { PutAt (word_of (chars body.now)) out.old at result out.new }
 {
@@ -39,7 +41,11 @@ fn write_listing(bundle: &[u8], out: &mut [u8; MOST_TEXT]) -> usize
     match check(bundle) {
         Ok(count) => {
             lay(out, 0, b"position,direction,time,line\n");
-            put_rows(out, 29, bundle, count)
+            let bundle = Accepted {
+                bytes: bundle,
+                count,
+            };
+            put_rows(out, 29, bundle)
         },
         Err(refusal) => {
             let line = with(refused(refusal.0), b"\n");

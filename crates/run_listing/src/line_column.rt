@@ -7,7 +7,7 @@ use bench_clock::is_wake;
 use mbus_reading::pairs::outline_of;
 use mbus_rules::Outline;
 
-// What the line column says: wake, or the word for what reading answers.
+// What the line column says: wake, or the word for what reading answers. (No Option: its None would not say that the row is a wake-up.)
 #[derive(Clone, Copy)]
 pub enum Column {
     Wake,

@@ -1,8 +1,7 @@
 // The lines of a listing.
 ghost use Rattle.std.specs.Prelude.{◌≡◌, ◌++◌, ◌+◌, ◌*◌, ◌≤◌, length, take};
-ghost use Rattle.base_rules.specs.Answers.{reads};
 ghost use Rattle.base_characters.specs.Characters.{chars};
-ghost use Rattle.bundle_check.specs.Bundles.{contents_of, check_of};
+ghost use Rattle.bundle_check.specs.Bundles.{contents_of};
 ghost use Rattle.bundle_rows.specs.Rows.{unchecked_row, body_in};
 ghost use Rattle.text_filling.specs.Texts.{text};
 ghost use Rattle.run_listing.specs.Listings.{refused_text, word_for, word_of, direction_text, row_text, line_for, lines_for};
@@ -11,6 +10,7 @@ ghost use Rattle.run_listing.specs.Writing.{line_text, Holds};
 use crate::line_column::{Column, column_of};
 use crate::texts::{Line, begin, blank, with, with_number};
 use base_lent::lay;
+use bundle_check::accepted::Accepted;
 use bundle_rows::unchecked_row;
 use mbus_rules::{Outline, Request};
 
@@ -74,7 +74,7 @@ fn line_of(position: u8, direction: u8, time: u32, word: Line) -> Line
     with(fifth, b"\n")
 }
 
-// The line of row i, whose body lies in the bundle.
+// The line of row i, whose body lies in the bundle. (It is asked for here, and no method of `Accepted`: no public function may ask for a row that is there.)
 fn row_line(bundle: &[u8], i: usize) -> Line
     requires { (unchecked_row bundle.now i).offset + (unchecked_row bundle.now i).length ≤ length bundle.now }
     ensures { Holds 48 result (line_for bundle.now (unchecked_row bundle.now i)) }
@@ -86,15 +86,16 @@ fn row_line(bundle: &[u8], i: usize) -> Line
     line_of(row.position, row.direction, row.time, word)
 }
 
-// The lines of all rows stand in the places from one on; the answer is the place behind them.
-pub(crate) fn put_rows(out: &mut [u8], at: usize, bundle: &[u8], count: usize) -> usize
-    requires { (check_of bundle.now ≡ reads count) × (at + 48 * count ≤ length out.old) }
-    ensures { (result ≤ length out.new) × (result ≡ at + length (lines_for bundle.now (contents_of bundle.now)))
-        × (take result out.new ≡ take at out.old ++ lines_for bundle.now (contents_of bundle.now)) }
+// The lines of all rows stand in the places from one on; the answer is the place behind them. (A struct of both would be made and taken apart for this
+// one call.)
+pub(crate) fn put_rows(out: &mut [u8], at: usize, bundle: Accepted) -> usize
+    requires { at + 48 * bundle.count ≤ length out.old }
+    ensures { (result ≤ length out.new) × (result ≡ at + length (lines_for bundle.entry.bytes.now (contents_of bundle.entry.bytes.now)))
+        × (take result out.new ≡ take at out.old ++ lines_for bundle.entry.bytes.now (contents_of bundle.entry.bytes.now)) }
 {
     let mut next = at;
-    for i in 0..count {
-        let line = row_line(bundle, i);
+    for i in 0..bundle.count {
+        let line = row_line(bundle.bytes, i);
         let size = line.size;
         let bytes = line.bytes;
         lay(out, next, &bytes[..size]);

@@ -6,7 +6,7 @@ ghost use Rattle.run_listing.specs.Writing.{line_text, Holds};
 use base_lent::lay;
 use text_filling::put_number;
 
-// A short text, in the first places.
+// A short text, in the first places. Without a heap it has as many places as the longest line, and how many of them it fills.
 #[derive(Clone, Copy)]
 pub(crate) struct Line {
     pub(crate) bytes: [u8; 48],

@@ -44,7 +44,8 @@ fn mark_of(row: Row, body: &[u8]) -> u32
     1 + sum_of(&body[38..body.len() - 4])
 }
 
-// The same of row i of a bundle, whose body lies in it.
+// The same of row i of a bundle, whose body lies in it. (It is asked for here, and no method of `Accepted`: no public function may ask for a row that is
+// there.)
 pub(crate) fn mark_at(bundle: &[u8], i: usize) -> u32
     requires { (unchecked_row bundle.now i).offset + (unchecked_row bundle.now i).length ≤ length bundle.now }
     ensures { result ≡ row_mark (row_in bundle.now i) }

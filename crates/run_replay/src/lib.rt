@@ -62,7 +62,8 @@ fn error_of_figures(
     error_of_rises((v2 - v1) * elapsed, (s2 - s1) * meter)
 }
 
-// The error between two answers.
+// The error between two answers. (The standard's volumes and the time stay three parameters, as `skarrowith_replay_error` has them for C: a struct of them
+// would be made by replay and taken apart here.)
 fn error_between(
     first: Figures,
     last: Figures,

@@ -30,7 +30,8 @@ fn unfitting(outline: Outline) -> Verdict
     }
 }
 
-// What the line is that decides a send.
+// What the line is that decides a send. (That it came too late is what the exchange answers: an enum would be made of it at the one call, to be told apart
+// here.)
 fn decided_by(request: Request, silent: bool, outline: Outline) -> Verdict
     ensures { result ≡ decided_by request silent outline }
 {

@@ -9,12 +9,13 @@ ghost use Rattle.run_verdicts.specs.Shown.{listed};
 ghost use Rattle.run_verdicts.specs.Walking.{Tried, faults_of};
 
 use crate::Verdicts;
-use crate::walking::{row_from, walk};
+use crate::walking::{InColumns, Rows, walk};
 use base_rules::Refusal;
 use bundle_columns::count_in;
 use bundle_rows::wrong_field;
 
-// Whether 34 applies to a row, and whether 35 does.
+// Whether 34 applies to a row, and whether 35 does. (34 anywhere comes before 35: a walk with a Result would leave at the one, and still carry the other
+// along as a flag.)
 #[derive(Clone, Copy)]
 pub(crate) struct Faults {
     pub(crate) field: bool,
@@ -26,11 +27,12 @@ fn faults_of(columns: &[u8], count: usize, end: usize) -> Faults
     requires { Tried columns.now count }
     ensures { result ≡ faults_of end (kept_rows (columns_in columns.now)) }
 {
+    let rows = InColumns(columns);
     let mut before: u32 = 0;
     let mut field = false;
     let mut place = false;
     for i in 0..count {
-        let row = row_from(true, columns, i);
+        let row = rows.row(i);
         let size = row.length as usize;
         let wrong = wrong_field(row.position, row.direction, size);
         field = field | (wrong | (row.time < before));
@@ -54,6 +56,6 @@ pub fn verdicts_kept(columns: &[u8], bundle: &[u8]) -> Result<Verdicts, Refusal>
     if place {
         return Err(Refusal::BUNDLE_WRONG_OFFSET);
     }
-    let verdicts = walk(true, columns, bundle, count);
+    let verdicts = walk(&InColumns(columns), bundle, count);
     Ok(Verdicts { count, verdicts })
 }

@@ -1,13 +1,13 @@
 -- Laws of `specs/Told`.
-use Prim.Native.Nat.{ℕ, ◌+◌, ◌*◌, ◌-◌, ◌≤◌, ◌<◌, zero-le}
+use Prim.Native.Nat.{ℕ, ◌+◌, ◌*◌, ◌-◌, ◌≤◌, ◌<◌}
 use mathlib.Core.Bool.{true, false, not, ◌||◌}
-use mathlib.Core.List.{List, [], ◌∷◌, map}
+use mathlib.Core.List.{List, []}
 use mathlib.Core.Path.{◌≡◌, refl, sym, ap, subst, ◌∙◌}
 use native.Mathlib.Nat.{zero-add}
 use native.Mathlib.Omega.{arith}
 use borrow.Author.Tests.{ltb-false, leb-false}
 use lib.Dec.{ltb, leb, eqb}
-use lib.ListN.{length, get_or, take, replicate, length-append, length-map, length-replicate}
+use lib.ListN.{length, get_or, replicate, length-append, length-map, length-replicate}
 use lib.Seq.{take_at, get_or-take, length-take-le}
 use Rattle.base_rules.specs.Answers.{Answer, reads, refusal, refuse, within, follow}
 use Rattle.base_rules.specs.Lists.{any}
@@ -21,7 +21,7 @@ use Rattle.base_numbers.specs.Numbers.{bytes_of}
 use Rattle.base_lent.specs.Copying.{copied}
 use Rattle.base_lent.specs.Lent.{done}
 use Rattle.base_lent.proofs.Laws.LentLaws.{leaves_all, leaves_copied}
-use Rattle.base_lent.proofs.Laws.PieceLaws.{Pieced, pieced_none, pieced_next, pieced_all}
+use Rattle.base_lent.proofs.Laws.PieceLaws.{Pieced, pieced_next}
 use Rattle.base_lent.specs.Recorded.{no_record}
 use Rattle.bundle_rows.specs.Rows.{most_rows, body_in}
 use Rattle.bundle_check.specs.Bundles.{check_of}
@@ -118,25 +118,18 @@ module _ {all : Result Verdicts Refusal} where
 
 -- ---- the records, one behind the other
 
+pub puts_next : {verdicts : List Verdict} {d : List ℕ} {i : ℕ} {now s after : List ℕ} (z : Verdict) → Pieced verdict_record 4 d 0 verdicts i now
+    → i < length verdicts → s ≡ verdict_record (get_or verdicts i z) → after ≡ copied now (4 * i) s → Pieced verdict_record 4 d 0 verdicts (i + 1) after
+puts_next {i = i} {now} {s} z g h e k = pieced_next g h z e (k ∙ ap (λ (m : ℕ). copied now m s) (sym (zero-add (4 * i))))
+
+-- ---- the verdicts in the first places
+
 module _ (verdicts : List Verdict) {n : ℕ} (whole : length verdicts ≡ most_rows) (few : n ≤ most_rows) where
   pub length_among : length (verdicts_among verdicts n) ≡ n
   length_among = length-take-le n verdicts (omega arith)
 
   among_at : (i : ℕ) (d : Verdict) → i < n → get_or verdicts i d ≡ get_or (verdicts_among verdicts n) i Unasked
   among_at i d h = get_d_inside verdicts i d Unasked (omega arith) ∙ sym (get_or-take n verdicts i Unasked h)
-
-  module _ {d : List ℕ} where
-    pub puts_none : 4 * n ≤ length d → Pieced verdict_record 4 d 0 (verdicts_among verdicts n) 0 d
-    puts_none h = pieced_none length_record (rw length_among (omega arith))
-
-    pub puts_next : {i : ℕ} {now s after : List ℕ} (z : Verdict) → Pieced verdict_record 4 d 0 (verdicts_among verdicts n) i now → i < n
-        → s ≡ verdict_record (get_or verdicts i z) → after ≡ copied now (4 * i) s → Pieced verdict_record 4 d 0 (verdicts_among verdicts n) (i + 1) after
-    puts_next {i} {now} {s} z g h e k =
-        pieced_next g (rw length_among h) Unasked (e ∙ ap verdict_record (among_at i z h))
-        (k ∙ ap (λ (m : ℕ). copied now m s) (sym (zero-add (4 * i))))
-
-    pub puts_all : {i : ℕ} {now : List ℕ} → Pieced verdict_record 4 d 0 (verdicts_among verdicts n) i now → n ≤ i → PutsVerdicts (verdicts_among verdicts n) d now
-    puts_all g h = pieced_all g (rw length_among h)
 
 -- ---- what is given
 

@@ -1,7 +1,7 @@
 -- `host_verdicts::give` meets its contract: refused, too little room, or all of it.
 use native.Mathlib.Omega.{arith}
 use borrow.Author.Tests.{ltb-false, le-ltb, lt-ltb}
-use Rattle.host_verdicts.proofs.Laws.Told.{full_of, given_refused, given_short, given_all}
+use Rattle.host_verdicts.proofs.Laws.Told.{full_of, length_among, given_refused, given_short, given_all}
 use Rattle.host_verdicts.proofs.give.Goals as goal
 
 pub overflow_mul-short : goal.overflow_mul-short
@@ -15,7 +15,7 @@ returns-then-short c =
 pub put_records-requires : goal.put_records-requires
 put_records-requires c =
     let full = full_of c.in-Ok.is c.requires in
-    (full.few, ltb-false _ _ (le-ltb _ _ c.if-short.false))
+    omega (arith, length_among c.in-Ok.all.verdicts full.whole full.few, ltb-false _ _ (le-ltb _ _ c.if-short.false))
 
 pub returns-else-short : goal.returns-else-short
 returns-else-short c =

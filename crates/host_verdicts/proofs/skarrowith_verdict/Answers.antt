@@ -5,7 +5,9 @@ use borrow.Author.Tests.{le-ltb, lt-ltb}
 use Rattle.host_verdicts.proofs.skarrowith_verdict.Goals as goal
 
 pub returns-then-short : goal.returns-then-short
-returns-then-short c = let a = c.args in one_short (verdicts_in a.bundle.now) a.i a.verdict.now (lt-ltb _ _ c.if-short.true)
+returns-then-short c =
+    let a = c.args in
+    rw c.told.ensures (one_short (verdicts_in a.bundle.now) a.i a.verdict.now (lt-ltb _ _ c.if-short.true))
 
 pub found-requires : goal.found-requires
 found-requires c =
@@ -21,6 +23,6 @@ returns-in-Ok c =
 pub returns-in-Err : goal.returns-in-Err
 returns-in-Err c =
     let a = c.args in
-    rw c.told.ensures
+    rw c.told-in-Err.ensures
     (one_refused (verdicts_in a.bundle.now) a.i a.verdict.now (le-ltb _ _ c.if-short.false) c.verdicts_in.ensures
     c.found.ensures c.in-Err.is)

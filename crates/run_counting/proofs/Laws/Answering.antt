@@ -2,9 +2,8 @@
 use Prim.Native.Nat.{ℕ}
 use mathlib.Core.Bool.{true, false}
 use mathlib.Core.List.{List}
-use mathlib.Core.Path.{◌≡◌, sym, ap, ◌∙◌}
-use lib.ListN.{length}
-use Rattle.base_rules.specs.Answers.{Answer, reads, refusal}
+use mathlib.Core.Path.{◌≡◌, sym, ◌∙◌}
+use Rattle.base_rules.specs.Answers.{reads, refusal}
 use Rattle.bundle_rows.specs.Fields.{wrong_position}
 use Rattle.std.specs.Prelude.{Result, Ok, Err}
 use Rattle.base_rules.specs.declared.refusals.Refusal.{Refusal}

@@ -4,17 +4,15 @@ use mathlib.Core.Bool.{Bool, true, false, cond, not, ◌&&◌, ◌||◌, false�
 use mathlib.Core.List.{List, [], ◌∷◌, ◌++◌}
 use mathlib.Core.Path.{◌≡◌, refl, sym, ap, ◌∙◌}
 use borrow.Author.Tests.{leb-true, leb-false, le-ltb, lt-ltb}
-use lib.Dec.{leb, ltb}
+use lib.Dec.{ltb}
 use Rattle.base_rules.specs.Answers.{Answer, reads, refusal}
 use Rattle.base_rules.specs.Lists.{any}
 use Rattle.mbus_rules.specs.declared.Request.TheVariants.{Read}
-use Rattle.mbus_rules.specs.declared.Outline.{Outline}
 use Rattle.mbus_rules.specs.declared.Outline.TheVariants.{Asks}
 use Rattle.base_rules.proofs.Laws.Tests.{neither, by_test}
 use Rattle.bench_clock.specs.Times.{late}
 use Rattle.exchange_replies.specs.Fits.{fits}
 use Rattle.exchange_steps.specs.declared.Exchange.{Exchange}
-use Rattle.exchange_steps.specs.declared.State.{State}
 use Rattle.base_rules.specs.Shown as answers
 use Rattle.exchange_steps.specs.Steps.{begun, waits, moved, failed, cause_of, after_line, is_well, ends_well}
 use Rattle.exchange_steps.specs.declared.Cause.TheVariants.{Silent}

@@ -1,7 +1,7 @@
 -- What is open after the last sent row and the rows heard since, and that a row changes it as the rule says.
 use Prim.Native.Nat.{ℕ, suc}
 use mathlib.Core.Bool.{Bool, true, false, cond, not, ◌&&◌, ◌||◌}
-use mathlib.Core.List.{List, [], ◌∷◌, ◌++◌}
+use mathlib.Core.List.{List, [], ◌∷◌}
 use mathlib.Core.Path.{◌≡◌, refl, ap, ◌∙◌}
 use borrow.Author.Tests.{leb-true, leb-false, le-ltb, lt-ltb}
 use lib.Dec.{leb}
@@ -14,7 +14,7 @@ use Rattle.exchange_replies.specs.Fits.{fits}
 use Rattle.base_rules.proofs.Laws.ListLaws.{any_append}
 use Rattle.bundle_check.specs.Records.{Recorded}
 use Rattle.run_counting.specs.declared.ear.Open.{Open}
-use Rattle.std.specs.Prelude.{Option, None, Some}
+use Rattle.std.specs.Prelude.{Option, None}
 use Rattle.run_counting.specs.declared.ear.Turn.{Turn}
 use Rattle.run_counting.specs.Counting.{is_sent, row_outline, looked, send_end, begins_from, counts_after, counts, onward, kept_if, numbers_from}
 use Rattle.run_counting.specs.Ears.{ear_opened, uncounted, heard_by, turn_of, passed_by}

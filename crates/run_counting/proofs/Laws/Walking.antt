@@ -1,5 +1,5 @@
 -- The walk along the rows of an accepted bundle, which notes the numbers of the rows that count in the first places.
-use Prim.Native.Nat.{ℕ, zero, suc, ◌+◌, ◌-◌, ◌≤◌, ◌<◌, zero-le}
+use Prim.Native.Nat.{ℕ, suc, ◌+◌, ◌-◌, ◌≤◌, ◌<◌, zero-le}
 use mathlib.Core.Bool.{Bool, true, false}
 use mathlib.Core.List.{List, [], ◌∷◌, ◌++◌, append-nil, append_assoc}
 use mathlib.Core.Path.{◌≡◌, refl, sym, ap, ap₂, ◌∙◌}
@@ -19,7 +19,7 @@ use Rattle.std.specs.Prelude.{Option, None}
 use Rattle.run_counting.specs.declared.ear.Turn.{Turn}
 use Rattle.run_counting.specs.Counting.{kept_if, numbers_from, numbers_of}
 use Rattle.run_counting.specs.Ears.{passed_by, row_in}
-use Rattle.run_counting.specs.Shown.{Numbers, padded}
+use Rattle.run_counting.specs.Shown.{Numbers}
 use Rattle.run_counting.proofs.Laws.Hearing.{ear_of, Next, next_row}
 
 -- a row as it is read without the check

@@ -1,7 +1,7 @@
 -- `run_counting::counting` meets its contract: each way out by what the check answered.
 use Prim.Native.Nat.{ℕ}
 use mathlib.Core.List.{List}
-use mathlib.Core.Path.{refl, sym, ap, ◌∙◌}
+use mathlib.Core.Path.{sym, ap, ◌∙◌}
 use Rattle.std.proofs.lemmas.Result.{err_from_is_err_and}
 use Rattle.base_rules.specs.Answers.{Answer, reads, within}
 use Rattle.base_rules.specs.Shown.{shown}
@@ -27,13 +27,10 @@ returns-then-wrong_position c =
     ap (λ (l : Answer (List ℕ)). shown (within numbered l))
     (sym (counting_outside a.bundle.now a.position _ e (sym c.wrong_position.ensures ∙ c.if-wrong_position.true)))
 
-pub put_numbers-found-requires : goal.put_numbers-found-requires
-put_numbers-found-requires c = (shown_ok (check_of c.args.bundle.now) _ (sym c.in_ok-count.ensures), refl)
-
 pub returns : goal.returns
 returns c =
     let a = c.args in
     let e = shown_ok (check_of a.bundle.now) _ (sym c.in_ok-count.ensures) in
-    ap (λ (x : Counted). shown (reads x)) (numbers_shown c.put_numbers-found.ensures)
+    ap (λ (x : Counted). shown (reads x)) (numbers_shown c.put_numbers-count.ensures)
     ∙ ap (λ (l : Answer (List ℕ)). shown (within numbered l))
     (sym (counting_reads a.bundle.now a.position _ e (sym c.wrong_position.ensures ∙ c.if-wrong_position.false)))

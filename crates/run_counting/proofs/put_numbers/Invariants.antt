@@ -4,7 +4,7 @@ use Rattle.run_counting.proofs.Laws.Walking.{Noted}
 use Rattle.run_counting.proofs.put_numbers.Given as goal
 
 abbrev pub invariant-loop-i : goal.invariant-loop-i
-invariant-loop-i l = Noted l.bundle l.position l.count l.i l.ear l.found l.rows
+invariant-loop-i l = Noted l.bundle.bytes.now l.position l.bundle.count l.i l.ear l.found l.rows
 
 abbrev pub decreases-loop-i : goal.decreases-loop-i
-decreases-loop-i l = l.count - l.i
+decreases-loop-i l = l.bundle.count - l.i

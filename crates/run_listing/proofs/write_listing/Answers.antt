@@ -16,7 +16,7 @@ put_rows-requires c =
     let n = c.in-Ok.count in
     let e : check_of b ≡ reads n = shown_same (check_of b) (reads n) (sym c.check.ensures ∙ c.in-Ok.is) in
     let size : 24605 ≡ length c.lay.new.to = search rules in
-    (e, omega (arith, few_rows b n e))
+    omega (arith, few_rows b n e)
 
 pub returns-in-Ok : goal.returns-in-Ok
 returns-in-Ok c =

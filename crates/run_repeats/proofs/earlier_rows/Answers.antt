@@ -1,5 +1,4 @@
 -- `run_repeats::earlier_rows` meets its contract: each way out by what the check answered.
-use mathlib.Core.Path.{refl}
 use borrow.Author.Tests.{le-ltb, lt-ltb}
 use Rattle.std.proofs.Common.{rules}
 use Rattle.run_counting.proofs.Laws.Answering.{check_reads}
@@ -15,11 +14,6 @@ pub returns-then-rows-count : goal.returns-then-rows-count
 returns-then-rows-count c =
     let a = c.args in
     earlier_short a.bundle.now a.rows.now (check_reads a.bundle.now c.check.ensures c.in_ok-count.was) (lt-ltb _ _ c.if-rows-count.true)
-
-pub mark_rows-requires : goal.mark_rows-requires
-mark_rows-requires c =
-    let a = c.args in
-    (check_reads a.bundle.now c.check.ensures c.in_ok-count.was, refl)
 
 pub returns : goal.returns
 returns c =

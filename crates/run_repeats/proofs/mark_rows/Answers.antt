@@ -1,5 +1,4 @@
 -- `run_repeats::mark_rows` meets its contract: the loop marks one row after the other.
-use Prim.Native.Nat.{◌-◌}
 use native.Mathlib.Omega.{arith}
 use Rattle.bundle_check.proofs.Laws.BodyLaws.{unchecked_inside}
 use Rattle.run_repeats.proofs.Laws.Marking.{marking_none, marking_room, marking_next, marking_all}
@@ -7,11 +6,11 @@ use Rattle.run_repeats.proofs.mark_rows.Goals as goal
 
 pub loop-i-init : goal.loop-i-init
 loop-i-init c =
-    rw c.requires.1 (marking_none c.requires.0)
+    rw c.requires (marking_none c.args.bundle.accepted)
 
 pub mark_at-requires : goal.mark_at-requires
 mark_at-requires c =
-    unchecked_inside c.args.bundle.now c.loop-i.i c.args.count c.requires.0 c.loop-i-test.true
+    unchecked_inside c.args.bundle.bytes.now c.loop-i.i c.args.bundle.count c.args.bundle.accepted c.loop-i-test.true
 
 pub offset_bounds-marks-i : goal.offset_bounds-marks-i
 offset_bounds-marks-i c = omega (arith, marking_room c.loop-i.invariant c.loop-i-test.true)

@@ -18,7 +18,7 @@ use Rattle.base_rules.proofs.Laws.ListLaws.{Gathered, gathered_none, gathered_ne
 use Rattle.base_rules.proofs.Laws.Tests.{neither, none_at}
 use Rattle.bundle_rows.specs.declared.Row.{Row}
 use Rattle.bundle_rows.specs.Fields.{wrong_field}
-use Rattle.bundle_rows.specs.Rows.{blank_row, body_in}
+use Rattle.bundle_rows.specs.Rows.{blank_row, unchecked_row, body_in}
 use Rattle.bundle_rows.proofs.Laws.RowLaws.{field_right}
 use Rattle.bundle_check.specs.Bundles.{check_of}
 use Rattle.bundle_check.specs.Records.{records_of, blank_record}
@@ -36,7 +36,7 @@ use Rattle.run_verdicts.specs.declared.kept.Faults.{Faults}
 use Rattle.run_verdicts.specs.declared.Verdicts.{Verdicts}
 use Rattle.run_verdicts.specs.Verdicts.{verdicts_of}
 use Rattle.run_verdicts.specs.Answering.{verdicts_in, body_past, records_kept, verdicts_kept}
-use Rattle.run_verdicts.specs.Walking.{or_blank, row_from, record_from, firsts, records_from, Walkable, Tried, faults_of}
+use Rattle.run_verdicts.specs.Walking.{or_blank, column_row, record_from, firsts, records_from, Walkable, Tried, faults_of}
 use Rattle.run_verdicts.specs.Shown.{in_places, listed}
 use Rattle.run_verdicts.proofs.Laws.Telling.{length_verdicts}
 
@@ -60,17 +60,17 @@ module _ (b : List ℕ) where
   in_refused e = rw e
 
   module _ {n : ℕ} (e : check_of b ≡ reads n) where
-    rows_in : records_from false b b n ≡ records_of b
-    rows_in = firsts_are (record_from false b b) (records_of b) blank_record n (length_records b n e) (λ i h. sym (record_there b i n e h))
+    rows_in : records_from (unchecked_row b) b n ≡ records_of b
+    rows_in = firsts_are (record_from (unchecked_row b) b) (records_of b) blank_record n (length_records b n e) (λ i h. sym (record_there b i n e h))
 
-    pub walkable_in : Walkable false b b n
+    pub walkable_in : Walkable (unchecked_row b) b n
     walkable_in = record {
       few = few_rows b n e;
       position = λ i h. (unchecked_right b i n e h).position_most;
       inside = λ i h. unchecked_inside b i n e h;
     }
 
-    pub in_reads : ◌≡◌ {A = Result Verdicts Refusal} (Ok (record { count = n; verdicts = in_places (verdicts_of (records_from false b b n)) }))
+    pub in_reads : ◌≡◌ {A = Result Verdicts Refusal} (Ok (record { count = n; verdicts = in_places (verdicts_of (records_from (unchecked_row b) b n)) }))
         (shown (within listed (verdicts_in b)))
     unfolding verdicts_in
     in_reads =
@@ -86,7 +86,7 @@ module _ {lists : List ℕ} {n : ℕ} (t : Tried lists n) where
   size : length rows ≡ n
   size = length_kept (columns_in lists) 0 (columns_in lists).count ∙ sym t.count
 
-  pub kept_there : (i : ℕ) → i < n → row_from true lists i ≡ get_or rows i blank_row
+  pub kept_there : (i : ℕ) → i < n → column_row lists i ≡ get_or rows i blank_row
   kept_there i h =
       ap or_blank (row_reads lists i n (record { size = t.size; few = t.few; count = t.count; from = t.from }) h)
       ∙ sym (kept_at (columns_in lists) 0 (columns_in lists).count i blank_row (omega (arith, t.count)) ∙ ap (kept_row (columns_in lists)) (zero-add i))
@@ -99,7 +99,7 @@ module _ {lists : List ℕ} {n : ℕ} (t : Tried lists n) where
   pub tries_none : (end : ℕ) → Tries end 0 0 false false
   tries_none end = record { fields = walked_none; places = gathered_none }
 
-  pub tries_next : {end i before : ℕ} {field place : Bool} {r : Row} → Tries end i before field place → i < n → r ≡ row_from true lists i
+  pub tries_next : {end i before : ℕ} {field place : Bool} {r : Row} → Tries end i before field place → i < n → r ≡ column_row lists i
       → Tries end (i + 1) r.time (field || wrong_row before r) (place || body_past end r)
   tries_next {i = i} g h e =
       let there = e ∙ kept_there i h in
@@ -125,7 +125,7 @@ module _ {lists : List ℕ} {n : ℕ} (t : Tried lists n) where
       places : any (body_past (length b)) rows ≡ false
       places = sym (ap (λ (x : Faults). x.place) e) ∙ p
 
-      pub walkable-kept : Walkable true lists b n
+      pub walkable-kept : Walkable (column_row lists) b n
       walkable-kept = record {
         few = t.few;
         position =
@@ -140,14 +140,14 @@ module _ {lists : List ℕ} {n : ℕ} (t : Tried lists n) where
             rw (kept_there i h) (ltb-false (length b) (r.offset + r.length) (none_at (body_past (length b)) rows blank_row i places (omega (arith, size))));
       }
 
-      rows_kept : records_from true lists b n ≡ records_kept (columns_in lists) b
+      rows_kept : records_from (column_row lists) b n ≡ records_kept (columns_in lists) b
       rows_kept =
-          firsts_are (record_from true lists b) (records_kept (columns_in lists) b) (row_with blank_row (body_in b blank_row)) n
+          firsts_are (record_from (column_row lists) b) (records_kept (columns_in lists) b) (row_with blank_row (body_in b blank_row)) n
           (length-map rows (λ r. row_with r (body_in b r)) ∙ size)
           (λ i h. ap (λ (r : Row). row_with r (body_in b r)) (kept_there i h) ∙ sym (get_or-map (λ r. row_with r (body_in b r)) rows i blank_row))
 
       pub kept-reads :
-          ◌≡◌ {A = Result Verdicts Refusal} (Ok (record { count = n; verdicts = in_places (verdicts_of (records_from true lists b n)) }))
+          ◌≡◌ {A = Result Verdicts Refusal} (Ok (record { count = n; verdicts = in_places (verdicts_of (records_from (column_row lists) b n)) }))
           (shown (within listed (verdicts_kept lists b)))
       unfolding verdicts_kept
       kept-reads =

@@ -1,7 +1,6 @@
 -- What the answers of the exchange's steps say of a row.
-use Prim.Native.Nat.{ℕ}
 use mathlib.Core.Path.{◌≡◌, sym, ap, ◌∙◌}
-use Rattle.base_rules.specs.Answers.{Answer, reads, refusal}
+use Rattle.base_rules.specs.Answers.{Answer}
 use Rattle.base_rules.specs.declared.refusals.Refusal.{Refusal}
 use Rattle.base_rules.specs.Shown.{shown}
 use Rattle.base_rules.proofs.Laws.AnswerLaws.{shown_ok, shown_err}

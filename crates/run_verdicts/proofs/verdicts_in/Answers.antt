@@ -1,6 +1,6 @@
 -- `run_verdicts::verdicts_in` meets its contract: each way out by what the check answered.
 use mathlib.Core.List.{List}
-use mathlib.Core.Path.{sym, ap, ◌∙◌}
+use mathlib.Core.Path.{sym, ap}
 use Rattle.std.proofs.lemmas.Result.{err_from_is_err_and}
 use Rattle.base_rules.specs.Answers.{Answer, within}
 use Rattle.base_rules.specs.Shown.{shown}

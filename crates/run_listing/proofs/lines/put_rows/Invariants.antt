@@ -5,7 +5,7 @@ use Rattle.bundle_check.specs.Bundles.{contents_of}
 use Rattle.run_listing.proofs.lines.put_rows.Given as goal
 
 abbrev pub invariant-loop-i : goal.invariant-loop-i
-invariant-loop-i l = Lined l.bundle (contents_of l.bundle) l.at l.initial.out l.i l.next l.out
+invariant-loop-i l = Lined l.bundle.bytes.now (contents_of l.bundle.bytes.now) l.at l.initial.out l.i l.next l.out
 
 abbrev pub decreases-loop-i : goal.decreases-loop-i
-decreases-loop-i l = l.count - l.i
+decreases-loop-i l = l.bundle.count - l.i

@@ -1,7 +1,7 @@
 -- `run_verdicts::kept::verdicts_kept` meets its contract: each way out by what was tried of the columns.
 use Prim.Native.Nat.{ℕ}
 use mathlib.Core.List.{List}
-use mathlib.Core.Path.{◌≡◌, refl, sym, ap, ◌∙◌}
+use mathlib.Core.Path.{◌≡◌, refl, ap}
 use Rattle.std.specs.Prelude.{Result, Err}
 use Rattle.std.proofs.lemmas.Result.{err_from_is_err_and}
 use Rattle.base_rules.specs.declared.refusals.Refusal.{Refusal}

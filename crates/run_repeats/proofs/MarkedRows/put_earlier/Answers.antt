@@ -1,15 +1,14 @@
--- `run_repeats::put_earlier` meets its contract: the loop puts one number after the other.
-use Prim.Native.Nat.{◌-◌}
+-- `run_repeats::MarkedRows::put_earlier` meets its contract: the loop puts one number after the other.
 use native.Mathlib.Omega.{arith}
 use Rattle.run_repeats.proofs.Laws.Putting.{putting_none, putting_next, putting_all}
-use Rattle.run_repeats.proofs.put_earlier.Goals as goal
+use Rattle.run_repeats.proofs.MarkedRows.put_earlier.Goals as goal
 
 pub loop-i-init : goal.loop-i-init
-loop-i-init c = putting_none c.requires.0.accepted c.requires.1
+loop-i-init c = putting_none c.args.self.now.marked.accepted c.requires
 
 pub earlier_of-requires : goal.earlier_of-requires
 earlier_of-requires c =
-    (c.requires.0, c.loop-i-test.true)
+    c.loop-i-test.true
 
 pub bounds-rows-i : goal.bounds-rows-i
 bounds-rows-i c = omega (arith, c.loop-i-test.true, c.loop-i.invariant.room, c.loop-i.invariant.size)
