@@ -1,4 +1,6 @@
 // The picture put together: head, pauses, marks, and the lanes with their rows.
+// (Each function puts at a place of `out` and answers the place behind it, as `PutAt` says: a struct of both would be made for each text and taken
+// apart by it.)
 ghost use Rattle.std.specs.Prelude.{◌≡◌, get_or, ◌++◌, ◌+◌, ◌≤◌, ◌<◌};
 ghost use Rattle.base_characters.specs.Characters.{chars};
 ghost use Rattle.text_filling.specs.Putting.{PutAt};
@@ -122,7 +124,8 @@ impl Scene<'_> {
     // Row i with its verdict and its word, in its place.
     fn put_row(&self, out: &mut [u8], at: usize, i: usize) -> usize
         requires { i < self.now.bundle.count }
-        ensures { PutAt (row_drawn (row_in self.now.bundle.bytes.now i) (get_or self.now.verdicts.now i Unasked) (get_or self.now.starts.now i 0)) out.old at result out.new }
+        ensures { PutAt (row_drawn (row_in self.now.bundle.bytes.now i) (get_or self.now.verdicts.now i Unasked) (get_or self.now.starts.now i 0)) out.old at
+            result out.new }
     {
         let row = self.bundle.row(i);
         let width = line_time(self.bundle.bytes, i);
@@ -159,7 +162,7 @@ impl Scene<'_> {
         put(out, drawn, b"</svg>\n")
     }
 
-    // A lane for each position that has rows.
+    // A lane for each position that has rows. (The number of the position is drawn: over `used` it would be `iter().enumerate().skip(1)` and a cast.)
     fn put_lanes(&self, out: &mut [u8], at: usize) -> usize
         ensures { PutAt (lanes_drawn self.now.page self.now.verdicts.now (records_of self.now.bundle.bytes.now) 96 (used_positions (records_of self.now.bundle.bytes.now)))
             out.old at result out.new }

@@ -1,4 +1,6 @@
 // The elements of a picture: fixed texts with numbers in them.
+// (Each function puts at a place of `out` and answers the place behind it, as `PutAt` says: a struct of both would be made for each text and taken
+// apart by it.)
 ghost use Rattle.std.specs.Prelude.{◌≡◌, ◌-◌, ◌≤◌, length, take, drop};
 ghost use Rattle.text_filling.specs.Putting.{PutAt};
 ghost use Rattle.bundle_check.specs.Records.{Recorded};

@@ -29,7 +29,7 @@ pub(crate) fn unpaced() -> Pace
     }
 }
 
-// The bit times of the line of row i, whose body lies in the bundle.
+// The bit times of the line of row i, whose body lies in the bundle. (Of a bundle that is `Accepted` it would ask for `i < count` in place of that.)
 pub(crate) fn line_time(bundle: &[u8], i: usize) -> u64
     requires { (unchecked_row bundle.now i).offset + (unchecked_row bundle.now i).length ≤ length bundle.now }
     ensures { (result ≡ line_time (row_in bundle.now i)) × (result ≤ 360437) }
@@ -64,7 +64,8 @@ pub(crate) fn paced(pace: Pace, bundle: Accepted, i: usize) -> Pace
 }
 
 // The one walk that paces the rows of an accepted bundle: where each is drawn goes into its place, and the pace after all is answered. (Answered
-// beside it, the places would stand on the stack twice.)
+// beside it, the places would stand on the stack twice. Over the places it would be `iter_mut().enumerate().take(count)`, and each row is found by its
+// number all the same.)
 pub(crate) fn paces_of(bundle: Accepted, starts: &mut [u64; MOST_ROWS]) -> Pace
     ensures { (result ≡ end_of paced unpaced (records_of bundle.entry.bytes.now)) × Steady bundle.entry.count result
         × Placed (records_of bundle.entry.bytes.now) starts.new }

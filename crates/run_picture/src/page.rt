@@ -1,5 +1,5 @@
 // The sizes of a picture.
-ghost use Rattle.std.specs.Prelude.{◌≡◌, List, ◌≤◌, length};
+ghost use Rattle.std.specs.Prelude.{◌≡◌, List, ◌≤◌, length, count_by};
 ghost use Rattle.bundle_check.specs.Records.{Recorded, records_of};
 ghost use Rattle.run_picture.specs.Pages.{used_positions, scale_for, fields_for, page_for, Bounded, Used, Planned};
 
@@ -37,23 +37,18 @@ pub(crate) fn used_in(bundle: Accepted) -> [bool; 49]
     used
 }
 
+// How many places are marked.
+fn marked(used: &[bool]) -> usize
+    ensures { result ≡ count_by (λ own. own) used.now }
+{
+    used.iter().filter(|own| **own).count()
+}
+
 // How many positions have rows.
 fn used_positions(used: [bool; 49]) -> u64
     ensures { ((ks : List Recorded) → Used ks used → result ≡ length (used_positions ks)) × (result ≤ 48) }
 {
-    let mut found: u64 = 0;
-    let mut position: usize = 1;
-    let mut left: usize = 48;
-    while 0 < left {
-        let own = used[position];
-        position += 1;
-        left -= 1;
-        if own {
-            found += 1;
-            continue;
-        }
-    }
-    found
+    marked(&used[1..]) as u64
 }
 
 // The bit times of a px.

@@ -50,7 +50,7 @@ fn number_in(bundle: Accepted, i: usize) -> u32
     number_of(&bundle.bytes[from..to])
 }
 
-// The numbers for all rows.
+// The numbers for all rows. (Over the places it would be `iter_mut().enumerate().take(count)`, and each row is found by its number all the same.)
 pub(crate) fn words_of(bundle: Accepted) -> [u32; MOST_ROWS]
     ensures { Worded bundle.entry.bytes.now bundle.entry.count result }
 {
@@ -62,7 +62,7 @@ pub(crate) fn words_of(bundle: Accepted) -> [u32; MOST_ROWS]
     words
 }
 
-// Puts the word of a number.
+// Puts the word of a number at a place, and answers the place behind it, as `PutAt` says and as `elements` does.
 pub(crate) fn put_numbered(out: &mut [u8], at: usize, word: u32) -> usize
     ensures { PutAt (numbered_word word) out.old at result out.new }
 {
