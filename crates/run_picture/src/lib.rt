@@ -49,7 +49,8 @@ fn draw_rows<'a>(
     let mut starts = [0u64; MOST_ROWS];
     let plan = plan_of(bundle, &mut starts);
     let used = plan.used;
-    let words = words_of(bundle);
+    let mut words = [0u32; MOST_ROWS];
+    words_of(bundle, &mut words);
     let scene = Scene {
         bundle,
         page: plan.page,

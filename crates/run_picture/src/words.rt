@@ -50,16 +50,15 @@ fn number_in(bundle: Accepted, i: usize) -> u32
     number_of(&bundle.bytes[from..to])
 }
 
-// The numbers for all rows. (Over the places it would be `iter_mut().enumerate().take(count)`, and each row is found by its number all the same.)
-pub(crate) fn words_of(bundle: Accepted) -> [u32; MOST_ROWS]
-    ensures { Worded bundle.entry.bytes.now bundle.entry.count result }
+// The numbers for all rows, each in its place. (Answered, the places would stand on the stack twice. Over them it would be
+// `iter_mut().enumerate().take(count)`, and each row is found by its number all the same.)
+pub(crate) fn words_of(bundle: Accepted, words: &mut [u32; MOST_ROWS])
+    ensures { Worded bundle.entry.bytes.now bundle.entry.count words.new }
 {
-    let mut words = [0u32; MOST_ROWS];
     for i in 0..bundle.count {
         let word = number_in(bundle, i);
         words[i] = word;
     }
-    words
 }
 
 // Puts the word of a number at a place, and answers the place behind it, as `PutAt` says and as `elements` does.

@@ -16,7 +16,7 @@ invariant_of-scene c =
             bounded = plan.bounded;
             positions = plan.used;
             places = plan.starts;
-            named = c.words_of-words.ensures;
+            named = c.words_of.ensures;
             ruled = search rules;
             judged = c.requires.1;
           };

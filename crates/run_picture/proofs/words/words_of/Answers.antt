@@ -1,13 +1,14 @@
 -- `run_picture::words::words_of` meets its contract: a row more each time.
+use borrow.Author.Rules.{rules}
 use Prim.Native.Nat.{zero-le}
-use mathlib.Core.Path.{◌≡◌, refl}
+use mathlib.Core.Path.{◌≡◌}
 use native.Mathlib.Omega.{arith}
 use Rattle.bundle_check.proofs.Laws.BodyLaws.{few_rows}
 use Rattle.run_picture.proofs.Laws.Words.{worded_next}
 use Rattle.run_picture.proofs.words.words_of.Goals as goal
 
 pub loop-i-init : goal.loop-i-init
-loop-i-init c = (zero-le, record { places = refl; so = λ j h. absurd (omega (arith, h)) })
+loop-i-init c = (zero-le, record { places = search rules; so = λ j h. absurd (omega (arith, h)) })
 
 pub number_in-word-requires : goal.number_in-word-requires
 number_in-word-requires c = c.loop-i-test.true
