@@ -57,7 +57,7 @@ fn put_pause(out: &mut [u8], at: usize, before: Pace, after: Pace, time: u32) ->
 }
 
 // The rows of an accepted bundle and what is known of them before they are drawn: the sizes, which positions have rows, where each row is drawn, the
-// number of its word, and its verdict.
+// number of its word, and its verdict. (Without a heap the last three have a place for each of the most rows, and the bundle says how many count.)
 #[derive(Clone, Copy)]
 pub(crate) struct Scene<'a> {
     pub(crate) bundle: Accepted<'a>,
