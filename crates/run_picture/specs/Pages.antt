@@ -63,8 +63,8 @@ pub record Bounded (p : Page) : Type 0 where
   pub lanes : p.lanes ≤ 48
 
 -- What the rows ask for: the sizes, the positions that have rows, and where each row is drawn.
-pub record Planned (ks : List Recorded) (r : Plan) : Type 0 where
+pub record Planned (ks : List Recorded) (r : Plan) (drawn : List ℕ) : Type 0 where
   pub page : r.page ≡ page_of ks
   pub bounded : Bounded r.page
   pub used : Used ks r.used
-  pub starts : Placed ks r.starts
+  pub starts : Placed ks drawn

@@ -1,11 +1,12 @@
 // The elements of a picture: fixed texts with numbers in them.
+// (Each function puts at a place of `out` and answers the place behind it, as `PutAt` says: a struct of both would be made for each text and taken
+// apart by it.)
 ghost use Rattle.std.specs.Prelude.{◌≡◌, ◌-◌, ◌≤◌, length, take, drop};
 ghost use Rattle.text_filling.specs.Putting.{PutAt};
 ghost use Rattle.bundle_check.specs.Records.{Recorded};
 ghost use Rattle.run_picture.specs.Elements.{style_text, legend_text, opens_text, title_text, mark_text};
 ghost use Rattle.run_picture.specs.Elements.{pauses_open_text, lane_text, verdict_text, wording_of, window_text, told_text, place_text, box_text};
 
-use crate::pace::less;
 use crate::page::Page;
 use run_verdicts::Verdict;
 use text_filling::{fill, put};
@@ -116,7 +117,7 @@ pub(crate) fn put_mark(out: &mut [u8], at: usize, bottom: u64, x: u64, time: u64
 pub(crate) fn put_pauses_open(out: &mut [u8], at: usize, page: Page) -> usize
     ensures { PutAt (pauses_open_text page) out.old at result out.new }
 {
-    let high = less(page.bottom, 96);
+    let high = page.bottom.saturating_sub(96);
     let numbers = [page.wide, high, page.span];
     fill(
         out,

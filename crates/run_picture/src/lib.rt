@@ -1,9 +1,7 @@
 // The picture of a run bundle, as SVG text.
 #![tactic(auto)]
 
-ghost use Rattle.std.specs.Prelude.{◌≡◌, leb, length};
-ghost use Rattle.base_rules.specs.Answers.{reads};
-ghost use Rattle.bundle_check.specs.Bundles.{check_of};
+ghost use Rattle.std.specs.Prelude.{ℕ, ◌≡◌, ◌<◌, leb, length, get_or};
 ghost use Rattle.bundle_check.specs.Records.{records_of};
 ghost use Rattle.run_verdicts.specs.Shown.{in_places};
 ghost use Rattle.run_verdicts.specs.Verdicts.{verdicts_of};
@@ -11,6 +9,7 @@ ghost use Rattle.run_picture.specs.Pictures.{picture_of};
 ghost use Rattle.run_picture.specs.Shown.{Draws};
 
 use base_rules::Refusal;
+use bundle_check::accepted::Accepted;
 use bundle_rows::MOST_ROWS;
 use drawing::Scene;
 use page::plan_of;
@@ -29,7 +28,7 @@ const PICTURE_MOST: usize = 262_144;
 // Whether there is room for the picture. Where there is less than is always enough, the picture is drawn into no memory first, which tells how many bytes
 // it has.
 fn has_room(room: usize, scene: &Scene) -> bool
-    ensures { result ≡ leb (length (picture_of scene.now.bundle.now)) room }
+    ensures { result ≡ leb (length (picture_of scene.now.bundle.bytes.now)) room }
 {
     if PICTURE_MOST <= room {
         return true;
@@ -40,22 +39,20 @@ fn has_room(room: usize, scene: &Scene) -> bool
 
 // Draws an accepted bundle with its verdicts.
 fn draw_rows<'a>(
-    bundle: &'a [u8],
-    count: usize,
+    bundle: Accepted<'a>,
     verdicts: &'a [Verdict; MOST_ROWS],
     out: &mut [u8],
 ) -> Result<usize, Refusal>
-    requires { (check_of bundle.now ≡ reads count) × (verdicts.now ≡ in_places (verdicts_of (records_of bundle.now))) }
-    ensures { Draws bundle.now out.old result out.new }
+    requires { ((i : ℕ) → get_or bundle.bytes.now i 0 < 256) × (verdicts.now ≡ in_places (verdicts_of (records_of bundle.bytes.now))) }
+    ensures { Draws bundle.entry.bytes.now out.old result out.new }
 {
-    // (The arrays are taken out: lent as parts, they keep the whole plan on the stack once more.)
-    let plan = plan_of(bundle, count);
+    let mut starts = [0u64; MOST_ROWS];
+    let plan = plan_of(bundle, &mut starts);
     let used = plan.used;
-    let starts = plan.starts;
-    let words = words_of(bundle, count);
+    let mut words = [0u32; MOST_ROWS];
+    words_of(bundle, &mut words);
     let scene = Scene {
         bundle,
-        count,
         page: plan.page,
         used,
         starts: &starts,
@@ -75,5 +72,9 @@ pub fn draw(bundle: &[u8], out: &mut [u8]) -> Result<usize, Refusal>
 {
     let judged = verdicts_in(bundle)?;
     let verdicts = judged.verdicts;
-    draw_rows(bundle, judged.count, &verdicts, out)
+    let accepted = Accepted {
+        bytes: bundle,
+        count: judged.count,
+    };
+    draw_rows(accepted, &verdicts, out)
 }

@@ -1,12 +1,11 @@
 // The sizes of a picture.
-ghost use Rattle.std.specs.Prelude.{◌≡◌, List, ◌≤◌, length};
-ghost use Rattle.base_rules.specs.Answers.{reads};
-ghost use Rattle.bundle_check.specs.Bundles.{check_of};
+ghost use Rattle.std.specs.Prelude.{◌≡◌, List, ◌≤◌, length, count_by};
 ghost use Rattle.bundle_check.specs.Records.{Recorded, records_of};
 ghost use Rattle.run_picture.specs.Pages.{used_positions, scale_for, fields_for, page_for, Bounded, Used, Planned};
 
-use crate::pace::{less, most, paces_of};
-use bundle_rows::{MOST_ROWS, unchecked_row};
+use crate::pace::paces_of;
+use bundle_check::accepted::Accepted;
+use bundle_rows::MOST_ROWS;
 
 // How many rows and lanes there are; the bit times of a px; how many fields of 240 px, and their bit times; how wide the lanes are, where the numbers
 // on their right stand and how wide the whole is; where the lanes end and how high the whole is; and the bit times that the lanes show.
@@ -26,36 +25,30 @@ pub(crate) struct Page {
 }
 
 // Whether each position has rows, in its place.
-pub(crate) fn used_in(bundle: &[u8], count: usize) -> [bool; 49]
-    requires { check_of bundle.now ≡ reads count }
-    ensures { Used (records_of bundle.now) result }
+pub(crate) fn used_in(bundle: Accepted) -> [bool; 49]
+    ensures { Used (records_of bundle.entry.bytes.now) result }
 {
     let mut used = [false; 49];
-    for i in 0..count {
-        let row = unchecked_row(bundle, i);
+    for i in 0..bundle.count {
+        let row = bundle.row(i);
         let position = row.position as usize;
         used[position] = true;
     }
     used
 }
 
+// How many places are marked.
+fn marked(used: &[bool]) -> usize
+    ensures { result ≡ count_by (λ own. own) used.now }
+{
+    used.iter().filter(|own| **own).count()
+}
+
 // How many positions have rows.
 fn used_positions(used: [bool; 49]) -> u64
     ensures { ((ks : List Recorded) → Used ks used → result ≡ length (used_positions ks)) × (result ≤ 48) }
 {
-    let mut found: u64 = 0;
-    let mut position: usize = 1;
-    let mut left: usize = 48;
-    while 0 < left {
-        let own = used[position];
-        position += 1;
-        left -= 1;
-        if own {
-            found += 1;
-            continue;
-        }
-    }
-    found
+    marked(&used[1..]) as u64
 }
 
 // The bit times of a px.
@@ -81,7 +74,7 @@ fn fields_for(scale: u64, end: u64) -> u64
 {
     let step = 240 * scale;
     let whole = end / step;
-    most(5, whole + 1)
+    (whole + 1).max(5)
 }
 
 // The sizes for so many rows and lanes, of what ends at a place.
@@ -107,24 +100,21 @@ fn page_for(rows: u64, lanes: u64, end: u64) -> Page
     }
 }
 
-// What the rows of an accepted bundle ask for: the sizes, the positions that have rows, and where each row is drawn.
+// What the rows of an accepted bundle ask for beside where each is drawn: the sizes, and the positions that have rows.
 #[derive(Clone, Copy)]
 pub(crate) struct Plan {
     pub(crate) page: Page,
     pub(crate) used: [bool; 49],
-    pub(crate) starts: [u64; MOST_ROWS],
 }
 
-pub(crate) fn plan_of(bundle: &[u8], count: usize) -> Plan
-    requires { check_of bundle.now ≡ reads count }
-    ensures { Planned (records_of bundle.now) result }
+// The plan, and in its place where each row is drawn.
+pub(crate) fn plan_of(bundle: Accepted, starts: &mut [u64; MOST_ROWS]) -> Plan
+    ensures { Planned (records_of bundle.entry.bytes.now) result starts.new }
 {
-    let used = used_in(bundle, count);
+    let used = used_in(bundle);
     let lanes = used_positions(used);
-    let paces = paces_of(bundle, count);
-    let last = paces.last;
-    let end = less(last.busy, last.cut);
-    let page = page_for(count as u64, lanes, end);
-    let starts = paces.starts;
-    Plan { page, used, starts }
+    let last = paces_of(bundle, starts);
+    let end = last.busy.saturating_sub(last.cut);
+    let page = page_for(bundle.count as u64, lanes, end);
+    Plan { page, used }
 }

@@ -1,15 +1,14 @@
 // The word for each line as a number, so that a line is read once and its word put where the picture is measured and where it is drawn.
 ghost use Rattle.std.specs.Prelude.{◌≡◌, ◌<◌};
-ghost use Rattle.base_rules.specs.Answers.{reads};
 ghost use Rattle.base_characters.specs.Characters.{chars};
 ghost use Rattle.text_filling.specs.Putting.{PutAt};
-ghost use Rattle.bundle_check.specs.Bundles.{check_of};
 ghost use Rattle.run_counting.specs.Ears.{row_in};
 ghost use Rattle.run_listing.specs.Listings.{word_for, word_of};
 ghost use Rattle.run_picture.specs.Words.{numbered_word, Worded};
 
 use crate::elements::put_part;
-use bundle_rows::{MOST_ROWS, unchecked_row};
+use bundle_check::accepted::Accepted;
+use bundle_rows::MOST_ROWS;
 use mbus_rules::{Outline, Request};
 use run_listing::line_column::{Column, column_of};
 use text_stretches::put_between;
@@ -41,30 +40,28 @@ fn number_of(body: &[u8]) -> u32
 }
 
 // The number for row i of an accepted bundle.
-fn number_in(bundle: &[u8], count: usize, i: usize) -> u32
-    requires { (check_of bundle.now ≡ reads count) × (i < count) }
-    ensures { numbered_word result ≡ word_of (chars (row_in bundle.now i).body) }
+fn number_in(bundle: Accepted, i: usize) -> u32
+    requires { i < bundle.count }
+    ensures { numbered_word result ≡ word_of (chars (row_in bundle.entry.bytes.now i).body) }
 {
-    let row = unchecked_row(bundle, i);
+    let row = bundle.row(i);
     let from = row.offset as usize;
     let to = from + row.length as usize;
-    number_of(&bundle[from..to])
+    number_of(&bundle.bytes[from..to])
 }
 
-// The numbers for all rows.
-pub(crate) fn words_of(bundle: &[u8], count: usize) -> [u32; MOST_ROWS]
-    requires { check_of bundle.now ≡ reads count }
-    ensures { Worded bundle.now count result }
+// The numbers for all rows, each in its place. (Answered, the places would stand on the stack twice. Over them it would be
+// `iter_mut().enumerate().take(count)`, and each row is found by its number all the same.)
+pub(crate) fn words_of(bundle: Accepted, words: &mut [u32; MOST_ROWS])
+    ensures { Worded bundle.entry.bytes.now bundle.entry.count words.new }
 {
-    let mut words = [0u32; MOST_ROWS];
-    for i in 0..count {
-        let word = number_in(bundle, count, i);
+    for i in 0..bundle.count {
+        let word = number_in(bundle, i);
         words[i] = word;
     }
-    words
 }
 
-// Puts the word of a number.
+// Puts the word of a number at a place, and answers the place behind it, as `PutAt` says and as `elements` does.
 pub(crate) fn put_numbered(out: &mut [u8], at: usize, word: u32) -> usize
     ensures { PutAt (numbered_word word) out.old at result out.new }
 {

@@ -6,8 +6,10 @@ use mathlib.Core.List.{List, [], ◌∷◌}
 use mathlib.Core.Path.{◌≡◌, refl, sym, ap, ◌∙◌}
 use borrow.Author.Tests.{eq-eqb, eqb-true, eqb-false}
 use lib.Dec.{eqb}
-use lib.ListN.{length, get_or, set, replicate, length-set, get_or-replicate}
-use lib.Seq.{get_or-set_same, get_or-set_other}
+use lib.ListN.{length, get_or, set, replicate, drop, drop_of_length-le, length-set, get_or-replicate}
+use lib.Seq.{drop-cons, get_or-set_same, get_or-set_other}
+use native.Mathlib.Numerals.{add-one}
+use Rattle.std.specs.Prelude.{filter}
 use Rattle.base_rules.proofs.Laws.Tests.{by_test}
 use Rattle.bundle_check.specs.Records.{Recorded}
 use Rattle.run_picture.specs.Pages.{has_rows, used_from, Used}
@@ -60,3 +62,28 @@ module _ (ks : List Recorded) (p : ℕ) where
   unfolding used_from
   used_none {left = zero} h = refl
   used_none {left = suc n} h = absurd (omega arith)
+
+-- ---- how many there are: the marks from a position on, counted
+module _ (ks : List Recorded) {used : List Bool} (u : Used ks used) where
+  module _ (n p : ℕ) (few : p < 49) (rest : length (filter (λ own. own) (drop (suc p) used)) ≡ length (used_from ks n (suc p))) where
+    cons : drop p used ≡ get_or used p false ∷ drop (suc p) used
+    cons = drop-cons used p false (omega (arith, u.places, few))
+
+    one : suc n - 1 ≡ n
+    one = omega arith
+
+    counted_next : (b : Bool) → get_or used p false ≡ b → length (filter (λ own. own) (drop p used)) ≡ length (used_from ks (suc n) p)
+    counted_next true t =
+        let own = rw (one, add-one) at (used_own ks p {left = suc n} (omega arith) (sym t ∙ u.so p few)) in
+        let more : length (filter (λ own. own) (drop p used)) ≡ suc (length (filter (λ own. own) (drop (suc p) used))) = rw (cons, t) refl in
+        omega (arith, more, rest, ap length own)
+    counted_next false t =
+        let other = rw (one, add-one) at (used_other ks p {left = suc n} (omega arith) (sym t ∙ u.so p few)) in
+        let more : length (filter (λ own. own) (drop p used)) ≡ length (filter (λ own. own) (drop (suc p) used)) = rw (cons, t) refl in
+        omega (arith, more, rest, ap length other)
+
+  pub used_counted : (n p : ℕ) → p + n ≡ 49 → length (filter (λ own. own) (drop p used)) ≡ length (used_from ks n p)
+  used_counted zero p e =
+      let none : drop p used ≡ [] = drop_of_length-le used {i = p} (omega (arith, u.places, e)) in
+      rw (none, used_none ks p {left = 0} (omega arith)) refl
+  used_counted (suc n) p e = counted_next n p (omega (arith, e)) (used_counted n (suc p) (omega (arith, e))) (get_or used p false) refl

@@ -6,7 +6,7 @@ use Rattle.run_picture.proofs.drawing.put_pause.Goals as goal
 
 pub returns-then-short : goal.returns-then-short
 returns-then-short c =
-    rw ((lt-ltb _ _ c.if-short.true), ← c.less-x.ensures, ← c.less-width.ensures) c.fill.ensures
+    rw ((lt-ltb _ _ c.if-short.true), ← c.saturating_sub-x.ensures, ← c.saturating_sub-width.ensures) c.fill.ensures
 
 pub returns : goal.returns
 returns c = rw (le-ltb _ _ c.if-short.false) (nothing (omega arith))

@@ -3,4 +3,4 @@ use Rattle.run_picture.proofs.elements.put_pauses_open.Goals as goal
 
 pub returns : goal.returns
 returns c =
-    rw (← c.less-high.ensures) c.fill.ensures
+    rw (← c.saturating_sub-high.ensures) c.fill.ensures

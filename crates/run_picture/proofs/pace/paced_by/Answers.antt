@@ -4,4 +4,4 @@ use Rattle.run_picture.proofs.pace.paced_by.Goals as goal
 
 pub returns : goal.returns
 returns c =
-    (rw (c.less-start.ensures, c.most-busy.ensures, c.less-rest.ensures, c.less-pause.ensures), omega arith, omega arith, omega arith)
+    (rw (c.saturating_sub-start.ensures, c.max-busy.ensures, c.saturating_sub-rest.ensures, c.saturating_sub-pause.ensures), omega arith, omega arith, omega arith)

@@ -6,7 +6,7 @@ use Prim.Native.Nat.{◌-◌, ◌≤◌}
 use Rattle.run_picture.proofs.pace.paces_of.Given as goal
 
 abbrev pub invariant-loop-i : goal.invariant-loop-i
-invariant-loop-i l = (l.i ≤ l.count) × Steady l.i l.pace × Placing (records_of l.bundle) l.i l.starts l.pace
+invariant-loop-i l = (l.i ≤ l.bundle.count) × Steady l.i l.pace × Placing (records_of l.bundle.bytes.now) l.i l.starts l.pace
 
 abbrev pub decreases-loop-i : goal.decreases-loop-i
-decreases-loop-i l = l.count - l.i
+decreases-loop-i l = l.bundle.count - l.i

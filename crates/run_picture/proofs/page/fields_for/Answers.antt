@@ -1,5 +1,7 @@
 -- `run_picture::page::fields_for` meets its contract.
-use Prim.Native.Nat.{◌*◌}
+use Prim.Native.Nat.{◌+◌, ◌*◌, ◌/◌}
+use mathlib.Core.Path.{◌∙◌}
+use Rattle.std.proofs.Math.Nat.{max_comm}
 use native.Mathlib.Nat.{div-le_self}
 use native.Mathlib.Omega.{arith}
 use Rattle.run_picture.proofs.page.fields_for.Goals as goal
@@ -10,4 +12,4 @@ overflow_add-whole c = omega (arith, div-le_self c.args.end (240 * c.args.scale)
 pub returns : goal.returns
 returns c =
     let whole = div-le_self c.args.end (240 * c.args.scale) in
-    (c.most.ensures, omega (arith, whole, c.most.ensures))
+    (c.max.ensures ∙ max_comm (c.args.end / (240 * c.args.scale) + 1) 5, omega (arith, whole, c.max.ensures))

@@ -6,7 +6,7 @@ use Prim.Native.Nat.{◌-◌, ◌≤◌}
 use Rattle.run_picture.proofs.page.used_in.Given as goal
 
 abbrev pub invariant-loop-i : goal.invariant-loop-i
-invariant-loop-i l = (l.i ≤ l.count) × Using (records_of l.bundle) (drop l.i (records_of l.bundle)) l.used
+invariant-loop-i l = (l.i ≤ l.bundle.count) × Using (records_of l.bundle.bytes.now) (drop l.i (records_of l.bundle.bytes.now)) l.used
 
 abbrev pub decreases-loop-i : goal.decreases-loop-i
-decreases-loop-i l = l.count - l.i
+decreases-loop-i l = l.bundle.count - l.i

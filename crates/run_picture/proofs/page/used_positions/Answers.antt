@@ -1,44 +1,20 @@
--- `run_picture::page::used_positions` meets its contract: the positions are tried one by one.
-use Rattle.run_picture.proofs.Laws.PageLaws.{used_own, used_other, used_none}
-use Rattle.run_picture.specs.Pages.{used_positions}
-use lib.ListN.{length}
-use native.Mathlib.Nat.{zero-add}
+-- `run_picture::page::used_positions` meets its contract: the positions that are marked, counted.
+use Rattle.run_picture.proofs.Laws.PageLaws.{used_counted}
+use mathlib.Core.Path.{◌≡◌, refl, sym, ap, ◌∙◌}
+use lib.ListN.{length, take, drop, length-take, length-drop}
+use lib.Seq.{take-length}
+use Rattle.std.specs.List.{count_by}
+use Rattle.std.proofs.lemmas.List.Sums.{count_by-le-length, length-filter}
 use native.Mathlib.Omega.{arith}
-use mathlib.Core.Path.{refl, sym, ap, ◌∙◌}
 use Rattle.run_picture.proofs.page.used_positions.Goals as goal
-
-pub loop-left-init : goal.loop-left-init
-loop-left-init c = (refl, omega arith, λ ks u. zero-add (length (used_positions ks)))
-
-pub loop-left-preserved-then-own : goal.loop-left-preserved-then-own
-loop-left-preserved-then-own c =
-    let p = c.loop-left.position in
-    let inv = c.loop-left.invariant in
-    let test = c.loop-left-test.true in (
-      omega (arith, inv.0, test),
-      omega (arith, inv.1, test),
-      λ ks u.
-          let e = used_own ks p test (sym c.if-own.true ∙ u.so p (omega (arith, inv.0, test))) in
-          omega (arith, inv.2 ks u, ap length e),
-    )
-
-pub loop-left-preserved : goal.loop-left-preserved
-loop-left-preserved c =
-    let p = c.loop-left.position in
-    let inv = c.loop-left.invariant in
-    let test = c.loop-left-test.true in (
-      omega (arith, inv.0, test),
-      omega (arith, inv.1, test),
-      λ ks u.
-          let e = used_other ks p test (sym c.if-own.false ∙ u.so p (omega (arith, inv.0, test))) in
-          omega (arith, inv.2 ks u, ap length e),
-    )
 
 pub returns : goal.returns
 returns c =
-    let inv = c.loop-left.invariant in (
+    let behind = drop 1 c.args.used in
+    let marks = take 48 behind in (
       λ ks u.
-          let e = used_none ks c.loop-left.position c.loop-left-test.false in
-          omega (arith, inv.2 ks u, ap length e),
-      omega (arith, inv.1),
+          let size : length behind ≡ 48 = omega (arith, length-drop 1 c.args.used, u.places) in
+          let whole = rw size at (take-length behind) in
+          c.marked.ensures ∙ ap (count_by (λ own. own)) whole ∙ sym (length-filter (λ own. own) behind) ∙ used_counted ks u 48 1 refl,
+      omega (arith, c.marked.ensures, length-take 48 behind, count_by-le-length (λ own. own) marks),
     )

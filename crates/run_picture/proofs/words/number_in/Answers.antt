@@ -8,11 +8,11 @@ use Rattle.run_picture.proofs.words.number_in.Goals as goal
 
 pub slice_bounds-number_of-end : goal.slice_bounds-number_of-end
 slice_bounds-number_of-end c =
-    let h : c.unchecked_row-row.result.offset + c.unchecked_row-row.result.length ≤ length c.args.bundle.now =
-    rw c.unchecked_row-row.ensures (unchecked_inside c.args.bundle.now c.args.i c.args.count c.requires.0 c.requires.1) in
+    let h : c.row-row.result.offset + c.row-row.result.length ≤ length c.args.bundle.bytes.now =
+    rw c.row-row.ensures (unchecked_inside c.args.bundle.bytes.now c.args.i c.args.bundle.count c.args.bundle.accepted c.requires) in
     omega arith
 
 pub returns : goal.returns
 returns c =
-    let word = rw (body_whole c.args.bundle.now c.unchecked_row-row.result) at c.number_of.ensures in
-    rw c.unchecked_row-row.ensures at word
+    let word = rw (body_whole c.args.bundle.bytes.now c.row-row.result) at c.number_of.ensures in
+    rw c.row-row.ensures at word

@@ -4,7 +4,7 @@ use Rattle.run_picture.specs.Words.{Worded}
 use Rattle.run_picture.proofs.words.words_of.Given as goal
 
 abbrev pub invariant-loop-i : goal.invariant-loop-i
-invariant-loop-i l = (l.i ≤ l.count) × Worded l.bundle l.i l.words
+invariant-loop-i l = (l.i ≤ l.bundle.count) × Worded l.bundle.bytes.now l.i l.words
 
 abbrev pub decreases-loop-i : goal.decreases-loop-i
-decreases-loop-i l = l.count - l.i
+decreases-loop-i l = l.bundle.count - l.i

@@ -18,7 +18,7 @@ put_lane-next-requires c = omega (arith, c.loop-position.invariant.0)
 pub loop-position-preserved : goal.loop-position-preserved
 loop-position-preserved c =
     let s = c.args.self.now in
-    let ks = records_of s.bundle.now in
+    let ks = records_of s.bundle.bytes.now in
     let p = c.loop-position.position in
     let inv = c.loop-position.invariant in
     let test = c.loop-position-test.true in
@@ -29,7 +29,7 @@ loop-position-preserved c =
 pub loop-position-preserved-then-unused : goal.loop-position-preserved-then-unused
 loop-position-preserved-then-unused c =
     let s = c.args.self.now in
-    let ks = records_of s.bundle.now in
+    let ks = records_of s.bundle.bytes.now in
     let p = c.loop-position.position in
     let inv = c.loop-position.invariant in
     let test = c.loop-position-test.true in
@@ -40,7 +40,7 @@ loop-position-preserved-then-unused c =
 pub returns : goal.returns
 returns c =
     let s = c.args.self.now in
-    let ks = records_of s.bundle.now in
+    let ks = records_of s.bundle.bytes.now in
     let p = c.loop-position.position in
     let none = lanes_none s.page s.verdicts.now ks c.loop-position.y (used_none ks p {left = 49 - p} (omega (arith, c.loop-position-test.false))) in
     left_none (rw none at c.loop-position.invariant.1)

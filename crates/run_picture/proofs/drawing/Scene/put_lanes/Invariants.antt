@@ -9,5 +9,5 @@ use Rattle.run_picture.proofs.drawing.Scene.put_lanes.Given as goal
 abbrev pub invariant-loop-position : goal.invariant-loop-position
 invariant-loop-position l =
     (l.y + 24 * (49 - l.position) ≤ 96 + 24 * 48)
-    × Left (lanes_drawn l.self.page l.self.verdicts.now (records_of l.self.bundle.now) 96 (used_positions (records_of l.self.bundle.now))) l.initial.out l.at
-    (lanes_drawn l.self.page l.self.verdicts.now (records_of l.self.bundle.now) l.y (used_from (records_of l.self.bundle.now) (49 - l.position) l.position)) l.next l.out
+    × Left (lanes_drawn l.self.page l.self.verdicts.now (records_of l.self.bundle.bytes.now) 96 (used_positions (records_of l.self.bundle.bytes.now))) l.initial.out l.at
+    (lanes_drawn l.self.page l.self.verdicts.now (records_of l.self.bundle.bytes.now) l.y (used_from (records_of l.self.bundle.bytes.now) (49 - l.position) l.position)) l.next l.out

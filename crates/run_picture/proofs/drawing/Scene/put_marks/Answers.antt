@@ -4,14 +4,15 @@ use Rattle.run_picture.proofs.Laws.DrawingLaws.{marks_next, marks_none}
 use Rattle.text_filling.proofs.Laws.WritingLaws.{left_all, left_next, left_none}
 use Rattle.bundle_check.specs.Records.{records_of}
 use native.Mathlib.Omega.{arith}
-use mathlib.Core.Path.{refl, ◌∙◌}
+use mathlib.Core.Path.{◌≡◌, refl, ◌∙◌}
 use Rattle.bundle_check.proofs.Laws.BodyLaws.{few_rows}
-use Prim.Native.Nat.{◌≤◌, zero-le}
+use Prim.Native.Nat.{ℕ, ◌+◌, ◌-◌, ◌≤◌, zero-le}
 use Rattle.run_picture.proofs.drawing.Scene.put_marks.Goals as goal
 
-pub loop-left-init : goal.loop-left-init
-loop-left-init c =
-    rw c.unpaced.ensures (
+pub loop-mark-init : goal.loop-mark-init
+loop-mark-init c =
+    let all : c.args.self.now.page.fields + 1 - 0 ≡ c.args.self.now.page.fields + 1 = omega arith in
+    rw (c.unpaced.ensures, all) (
       zero-le,
       record { cut = zero-le; busy = zero-le; start = zero-le },
       λ z h. refl,
@@ -22,21 +23,27 @@ loop-left-init c =
 
 pub reach-here-requires : goal.reach-here-requires
 reach-here-requires c =
-    let inv = c.loop-left.invariant in
-    (c.args.self.now.known.accepted, inv.0, inv.1)
+    let inv = c.loop-mark.invariant in
+    (inv.0, inv.1)
 
 pub overflow_add-place : goal.overflow_add-place
 overflow_add-place c =
-    let few = few_rows c.args.self.now.bundle.now c.args.self.now.count c.args.self.now.known.accepted in
-    omega (arith, few, c.reach-here.ensures.0, c.reach-here.ensures.1.cut, c.loop-left.invariant.4)
+    let few = few_rows c.args.self.now.bundle.bytes.now c.args.self.now.bundle.count c.args.self.now.known.accepted in
+    omega (arith, few, c.reach-here.ensures.0, c.reach-here.ensures.1.cut, c.loop-mark.invariant.4)
 
-pub loop-left-preserved : goal.loop-left-preserved
-loop-left-preserved c =
-    let inv = c.loop-left.invariant in
-    let place = c.loop-left.place in
+pub loop-mark-preserved : goal.loop-mark-preserved
+loop-mark-preserved c =
+    let inv = c.loop-mark.invariant in
+    let place = c.loop-mark.place in
     let here = c.reach-here.ensures in
-    let test = c.loop-left-test.true in
-    let next = marks_next c.args.self.now.page (records_of c.args.self.now.bundle.now) c.loop-left.x place test (here.2.cut ∙ inv.2 place (omega arith)) in (
+    let test = c.loop-mark-test.true in
+    let marks : ℕ = c.args.self.now.page.fields + 1 in
+    let k = c.loop-mark._mark in
+    let one : marks - k - 1 ≡ marks - (k + 1) = omega arith in
+    let next =
+    rw one at
+    (marks_next c.args.self.now.page (records_of c.args.self.now.bundle.bytes.now) c.loop-mark.x place {left = marks - k} (omega (arith, test))
+    (here.2.cut ∙ inv.2 place (omega arith))) in (
       here.0,
       here.1,
       λ z h. let far : place ≤ z = omega (arith, h) in here.2.on z far ∙ inv.2 z far,
@@ -46,9 +53,9 @@ loop-left-preserved c =
     )
 
 pub shape_of-out : goal.shape_of-out
-shape_of-out c = c.loop-left.invariant.5.same
+shape_of-out c = c.loop-mark.invariant.5.same
 
 pub returns : goal.returns
 returns c =
-    let none = marks_none c.args.self.now.page (records_of c.args.self.now.bundle.now) c.loop-left.x c.loop-left.place c.loop-left-test.false in
-    left_none (rw none at c.loop-left.invariant.5)
+    let none = marks_none c.args.self.now.page (records_of c.args.self.now.bundle.bytes.now) c.loop-mark.x c.loop-mark.place {left = c.args.self.now.page.fields + 1 - c.loop-mark._mark} (omega (arith, c.loop-mark-test.false)) in
+    left_none (rw none at c.loop-mark.invariant.5)

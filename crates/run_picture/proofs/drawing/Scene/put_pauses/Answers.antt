@@ -12,12 +12,12 @@ loop-i-init c = rw c.unpaced-pace.ensures (zero-le, record { cut = zero-le; busy
 
 pub paced-after-requires : goal.paced-after-requires
 paced-after-requires c =
-    (c.args.self.now.known.accepted, c.loop-i-test.true, c.loop-i.invariant.1)
+    (c.loop-i-test.true, c.loop-i.invariant.1)
 
 pub loop-i-preserved : goal.loop-i-preserved
 loop-i-preserved c =
-    let r = rest_rows c.args.self.now.bundle.now c.loop-i.i c.args.self.now.count c.args.self.now.known.accepted c.loop-i-test.true in
-    let drawn = rw c.unchecked_row-row.ensures at c.put_pause-next.ensures in
+    let r = rest_rows c.args.self.now.bundle.bytes.now c.loop-i.i c.args.self.now.bundle.count c.args.self.now.known.accepted c.loop-i-test.true in
+    let drawn = rw c.row-row.ensures at c.put_pause-next.ensures in
     (omega arith, c.paced-after.ensures.1, left_next c.loop-i.invariant.2 (pauses_next c.loop-i.pace r c.paced-after.ensures.0) drawn)
 
 pub shape_of-out : goal.shape_of-out
@@ -25,5 +25,5 @@ shape_of-out c = c.loop-i.invariant.2.same
 
 pub returns : goal.returns
 returns c =
-    let none = no_rows c.args.self.now.bundle.now c.loop-i.i c.args.self.now.count c.args.self.now.known.accepted c.loop-i-test.false in
+    let none = no_rows c.args.self.now.bundle.bytes.now c.loop-i.i c.args.self.now.bundle.count c.args.self.now.known.accepted c.loop-i-test.false in
     left_none (rw (pauses_none c.loop-i.pace none) at c.loop-i.invariant.2)

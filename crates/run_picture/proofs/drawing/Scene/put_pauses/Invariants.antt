@@ -9,8 +9,8 @@ use Rattle.run_picture.proofs.drawing.Scene.put_pauses.Given as goal
 
 abbrev pub invariant-loop-i : goal.invariant-loop-i
 invariant-loop-i l =
-    (l.i ≤ l.count) × Steady l.i l.pace
-    × Left (pauses_drawn unpaced (records_of l.bundle)) l.initial.out l.at (pauses_drawn l.pace (drop l.i (records_of l.bundle))) l.next l.out
+    (l.i ≤ l.bundle.count) × Steady l.i l.pace
+    × Left (pauses_drawn unpaced (records_of l.bundle.bytes.now)) l.initial.out l.at (pauses_drawn l.pace (drop l.i (records_of l.bundle.bytes.now))) l.next l.out
 
 abbrev pub decreases-loop-i : goal.decreases-loop-i
-decreases-loop-i l = l.count - l.i
+decreases-loop-i l = l.bundle.count - l.i

@@ -13,10 +13,10 @@ use Rattle.run_picture.proofs.drawing.Scene.put_row.Goals as goal
 
 pub line_time-width-requires : goal.line_time-width-requires
 line_time-width-requires c =
-    unchecked_inside c.args.self.now.bundle.now c.args.i c.args.self.now.count c.args.self.now.known.accepted c.requires
+    unchecked_inside c.args.self.now.bundle.bytes.now c.args.i c.args.self.now.bundle.count c.args.self.now.known.accepted c.requires
 
-few : (c : Start) → c.args.self.now.count ≤ 512
-few c = few_rows c.args.self.now.bundle.now c.args.self.now.count c.args.self.now.known.accepted
+few : (c : Start) → c.args.self.now.bundle.count ≤ 512
+few c = few_rows c.args.self.now.bundle.bytes.now c.args.self.now.bundle.count c.args.self.now.known.accepted
 
 pub offset_bounds-self-i : goal.offset_bounds-self-i
 offset_bounds-self-i c = omega (arith, few (goal.at.offset_bounds-self-i c).Start)
@@ -39,7 +39,7 @@ bounds-self-i-3 c = omega (arith, few (goal.at.bounds-self-i-3 c).Start, c.args.
 pub overflow_add-x : goal.overflow_add-x
 overflow_add-x c =
     let s = c.args.self.now in
-    let near = s.known.places.near c.args.i (omega (arith, length_records s.bundle.now s.count s.known.accepted)) in
+    let near = s.known.places.near c.args.i (omega (arith, length_records s.bundle.bytes.now s.bundle.count s.known.accepted)) in
     omega (arith, near, c.line_time-width.ensures.1)
 
 pub returns : goal.returns
@@ -50,4 +50,4 @@ returns c =
     let coloured = rw verdict at c.put_verdict-coloured.ensures in
     let word = rw (s.known.named.so c.args.i c.requires) at c.put_numbered-named.ensures in
     let all = four (search rules) coloured c.put_place-placed.ensures word c.put_box.ensures in
-    rw (c.unchecked_row-row.ensures, c.line_time-width.ensures.0) at all
+    rw (c.row-row.ensures, c.line_time-width.ensures.0) at all

@@ -8,5 +8,5 @@ use Rattle.run_picture.proofs.drawing.Scene.put_rows.Given as goal
 
 abbrev pub invariant-loop-i : goal.invariant-loop-i
 invariant-loop-i l =
-    Left (rows_drawn l.position l.self.verdicts.now unpaced 0 (records_of l.self.bundle.now)) l.initial.out l.at
-    (rows_drawn l.position l.self.verdicts.now (pace_at (records_of l.self.bundle.now) l.i) l.i (drop l.i (records_of l.self.bundle.now))) l.next l.out
+    Left (rows_drawn l.position l.self.verdicts.now unpaced 0 (records_of l.self.bundle.bytes.now)) l.initial.out l.at
+    (rows_drawn l.position l.self.verdicts.now (pace_at (records_of l.self.bundle.bytes.now) l.i) l.i (drop l.i (records_of l.self.bundle.bytes.now))) l.next l.out
