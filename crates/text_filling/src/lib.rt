@@ -43,7 +43,7 @@ fn put_byte(out: &mut [u8], at: usize, byte: u8) -> usize
 
 // Puts bytes from a place on, those that have room there, and answers the place behind all of them; past the largest number there is none.
 // (out and at stay two parameters, here and above: run_listing gives the memory alone to what it writes beside texts, and PutAt, which
-// demands/specs/Drawing names, tells them apart.)
+// demands/specs/Settled names, tells them apart.)
 pub fn put(out: &mut [u8], at: usize, bytes: &[u8]) -> usize
     ensures { PutAt bytes.now out.old at result out.new }
 {

@@ -1,15 +1,10 @@
 -- Laws of `specs/SearchLaws`.
-use Rattle.std.proofs.Common.{◌≡◌, ℕ, zero, suc, ◌+◌, ◌-◌, ◌<◌, ◌≤◌, Bool, true, false, cond, eqb, List, map, length, take, sym, refl, ap, ◌∙◌, subst, le_refl, arith, length-take-le, get_or-take, lt-ltb, eqb-true, le-leb}
+use Rattle.std.proofs.Common.{◌≡◌, ℕ, zero, suc, ◌+◌, ◌-◌, ◌<◌, ◌≤◌, true, false, cond, eqb, List, map, length, take, sym, refl, ap, ◌∙◌, subst, le_refl, arith, length-take-le, get_or-take, lt-ltb, eqb-true, le-leb}
 use mathlib.Core.Bool.{false≢true, or-true}
 use native.Mathlib.Decide.{ℕ_discrete}
 use borrow.Author.Tests.{eqb-false}
 use lib.ListN.{length-map}
 use Rattle.mbus_rules.specs.declared.Telegram.{Telegram}
-use Rattle.mbus_rules.specs.declared.Kind.{Kind}
-use Rattle.mbus_rules.specs.declared.Kind.TheVariants as kinds
-use Rattle.mbus_rules.specs.declared.Outline.{Outline}
-use Rattle.mbus_rules.specs.declared.Outline.TheVariants as outlines
-use Rattle.mbus_rules.specs.Outlines.{outline_of, outlined}
 use Rattle.base_rules.specs.Lists.{at}
 use Rattle.base_rules.proofs.Laws.ListLaws.{map_take}
 use Rattle.base_characters.specs.Characters.{byte_of}
@@ -91,25 +86,3 @@ module _ (s : List ℕ) where
   here_none none = from_none (length s) 1 s (λ m a b. by_test (eqb (left_at s) m)
       (λ e. let q : left_at s ≡ m = eqb-true (left_at s) m e in rw (← q) (none (omega arith) (omega arith)))
       (λ e. not_other m (omega arith) (eqb-false (left_at s) m e)))
-
--- ---- what the outline says
-
-abbrev accepts_outline : Outline → Bool
-accepts_outline (outlines.Refused n) = false
-accepts_outline outlines.Ack = true
-accepts_outline (outlines.Asks q) = true
-accepts_outline (outlines.Data a) = true
-
-accepts_kind : (k : Kind) (a m : ℕ) → accepts_outline (outline_of k a m) ≡ true
-accepts_kind kinds.Ack a m = refl
-accepts_kind kinds.Read a m = refl
-accepts_kind kinds.Enter a m = refl
-accepts_kind kinds.Leave a m = refl
-accepts_kind kinds.Data a m = refl
-
-accepts_outlined : (x : Answer Telegram) → accepts_outline (outlined x) ≡ accepts x
-accepts_outlined (refusal n) = refl
-accepts_outlined (reads t) = accepts_kind t.kind t.address t.method
-
-pub outline_accepts : (x : Answer Telegram) {v w : Outline} → v ≡ outlined x → v ≡ w → accepts_outline w ≡ accepts x
-outline_accepts x e o = ap accepts_outline (sym o ∙ e) ∙ accepts_outlined x
