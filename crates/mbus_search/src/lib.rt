@@ -54,6 +54,7 @@ pub fn find_line(capture: &[u16]) -> Result<Spot, Refusal>
 {
     let mut found = Err(Refusal::NO_LINE);
     let mut bytes = [0u8; MOST];
+    // (by the place, which is what is answered; an iterator over what is left behind each would be counted beside it)
     'places: for place in 0..capture.len() {
         let rest = &capture[place..];
         let length = left_by(rest);
