@@ -61,8 +61,8 @@ pub fn digits_at(structure: u8, rest: &[u8]) -> Option<Wide>
     None
 }
 
-// F in the highest place of so many bytes, at most eight, and 1 of none, which no word of none reaches. (A table of numbers, as `limit_of` of
-// mbus_writable is one of others: they share no row, so one function for both would be handed the whole table.)
+// F in the highest place of so many bytes, at most eight, and 1 of none, which no word of none reaches. (A table:
+// by a shift the case of none and the bound of eight would stand beside it.)
 #[tactic(auto, unfolding(crate::specs::Fields::mark_of))]
 pub(crate) fn mark_of(width: usize) -> u64
     ensures { result ≡ mark_of (min width 8) }

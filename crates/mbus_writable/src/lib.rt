@@ -65,22 +65,12 @@ fn used_body(t: Telegram) -> bool
     used_header(t.header) | (0 < t.count) | any_used(&t.entries)
 }
 
-// One more than the greatest number that so many bytes have digits for. (A table of numbers, as `mark_of` of mbus_fields is one of others.)
+// One more than the greatest number that so many bytes have digits for.
 fn limit_of(width: usize) -> u64
     requires { width ≤ 8 }
     ensures { result ≡ 100 ^ width }
 {
-    match width {
-        0 => 1,
-        1 => 100,
-        2 => 10_000,
-        3 => 1_000_000,
-        4 => 100_000_000,
-        5 => 10_000_000_000,
-        6 => 1_000_000_000_000,
-        7 => 100_000_000_000_000,
-        _ => 10_000_000_000_000_000,
-    }
+    100u64.pow(width as u32)
 }
 
 // The number has more digits than the structure has places, of which a sign takes one.
