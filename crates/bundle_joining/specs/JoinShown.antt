@@ -1,6 +1,6 @@
 -- What joining answers, and what it leaves in the third buffer.
 use Rattle.std.specs.Prelude.{ℕ, List, ◌≡◌}
-use Rattle.base_rules.specs.Answers.{Answer, reads, refusal}
+use Rattle.base_rules.specs.Answers.{Answer}
 use Rattle.base_lent.specs.Lent.{stored}
 use Rattle.std.specs.Prelude.{Result}
 use Rattle.base_rules.specs.declared.refusals.Refusal.{Refusal}

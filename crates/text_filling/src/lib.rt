@@ -41,6 +41,17 @@ fn put_byte(out: &mut [u8], at: usize, byte: u8) -> usize
     at.saturating_add(1)
 }
 
+// Copies bytes into as many places. (By copy_from_slice the back end asks for memmove, and the library asks a host for memcpy and memset
+// alone.)
+fn copy_each(to: &mut [u8], from: &[u8])
+    requires { length from.now ≡ length to.old }
+    ensures { to.new ≡ from.now }
+{
+    for (i, &byte) in from.iter().enumerate() {
+        to[i] = byte;
+    }
+}
+
 // Puts bytes from a place on, those that have room there, and answers the place behind all of them; past the largest number there is none.
 // (out and at stay two parameters, here and above: run_listing gives the memory alone to what it writes beside texts, and PutAt, which
 // demands/specs/Settled names, tells them apart.)
@@ -52,10 +63,10 @@ pub fn put(out: &mut [u8], at: usize, bytes: &[u8]) -> usize
     }
     let room = out.len() - at;
     if bytes.len() <= room {
-        out[at..at + bytes.len()].copy_from_slice(bytes);
+        copy_each(&mut out[at..at + bytes.len()], bytes);
         return at + bytes.len();
     }
-    out[at..].copy_from_slice(&bytes[..room]);
+    copy_each(&mut out[at..], &bytes[..room]);
     at.saturating_add(bytes.len())
 }
 

@@ -1,14 +1,12 @@
 -- Laws of `specs/Writing`.
-use Prim.Native.Nat.{ℕ, ◌+◌, ◌*◌, ◌-◌, ◌≤◌, ◌<◌, zero-le}
-use mathlib.Core.List.{List, [], ◌++◌, append_assoc, append-nil}
-use mathlib.Core.Path.{◌≡◌, refl, sym, ap, ap₂, ◌∙◌}
+use Prim.Native.Nat.{ℕ, suc, ◌+◌, ◌*◌, ◌-◌, ◌≤◌, ◌<◌, zero-le}
+use mathlib.Core.List.{List, [], ◌∷◌, ◌++◌, append_assoc, append-nil}
+use mathlib.Core.Path.{◌≡◌, refl, sym, ap, ap₂, ◌∙◌, subst}
 use native.Mathlib.Numerals.{add-one}
 use native.Mathlib.Omega.{arith}
-use lib.ListN.{length, get_or, take, drop, length-append, length-drop, take-append-drop, drop_of_length-le}
-use lib.Seq.{slice, length-take-le}
+use lib.ListN.{length, get_or, take, drop, set, length-set, length-append, length-drop, take-append-drop, get_or-append, drop_of_length-le}
+use lib.Seq.{slice, slice_empty, slice-cons, take-suc, set_at, length-take-le, get_or-take, append_snoc}
 use lib.Seq.{take_at, drop_at, drop-drop, drop-cons, length-slice}
-use Rattle.std.specs.List.{copy_within}
-use Rattle.std.proofs.lemmas.List.{drop-take}
 use Rattle.base_lent.specs.Copying.{copied}
 use Rattle.base_lent.proofs.Laws.Copying.{copied_fits}
 use Rattle.bundle_rows.specs.declared.Row.{Row}
@@ -21,14 +19,59 @@ use Rattle.bundle_check.specs.Records.{moved_to, placed_from}
 use Rattle.bundle_check.proofs.Laws.HoldingLaws.{length_placed}
 use Rattle.bundle_adding.specs.Writing.{shifted_by, bodies_moved, rows_placed, contents_grown}
 
--- ---- what the library's copy within a list leaves
-pub shifted_copy : (by from to : ℕ) (d : List ℕ) → from ≤ to → copy_within d from to (from + by) ≡ shifted_by by from to d
-shifted_copy by from to d h =
-    let behind : from + by + (to - from) ≡ to + by = omega (arith, h) in
-    let all : from + (to - from) ≡ to = omega (arith, h) in
-    let part : take (to - from) (drop from d) ≡ slice from to d = sym (drop-take from (to - from) d) ∙ ap (λ (k : ℕ). drop from (take k d)) all in
-    append_assoc (take (from + by) d) (take (to - from) (drop from d)) (drop (from + by + (to - from)) d)
-    ∙ ap₂ (λ (s : List ℕ) (k : ℕ). take (from + by) d ++ (s ++ drop k d)) part behind
+-- ---- a loop that moves up, from the end down
+pub record Shifting (by : ℕ) (d : List ℕ) (from to i : ℕ) (e : List ℕ) : Type 0 where
+  pub down : from ≤ i
+  pub inside : i ≤ to
+  pub room : to + by ≤ length d
+  pub same : length e ≡ length d
+  pub so : e ≡ shifted_by by i to d
+
+module _ {by : ℕ} {d : List ℕ} {from to : ℕ} where
+  pub shifting_none : from ≤ to → to + by ≤ length d → Shifting by d from to to d
+  shifting_none l h = record { down = l; inside = omega arith; room = h; same = refl; so = rw (slice_empty to d) (sym (take-append-drop (to + by) d)) }
+
+  shifting_step : {i : ℕ} {e : List ℕ} → Shifting by d from to (suc i) e → from ≤ i → Shifting by d from to i (set e (i + by) (get_or e i 0))
+  shifting_step {i} {e} g l = record {
+    down = l;
+    inside = omega (arith, g.inside);
+    room = g.room;
+    same = length-set e (i + by) (get_or e i 0) ∙ g.same;
+    so =
+        ap (set e (i + by)) moves ∙ ap (λ (l : List ℕ). set l (i + by) (get_or d i 0)) parts
+        ∙ set_at (take (i + by) d) (get_or d (i + by) 0) rest (get_or d i 0) (i + by) (length-take-le (i + by) d (omega (arith, g.inside, g.room)))
+        ∙ ap (λ (l : List ℕ). take (i + by) d ++ (l ++ drop (to + by) d)) (sym (slice-cons i to d 0 (omega (arith, g.inside)) (omega (arith, g.room))));
+  }
+    where
+      rest : List ℕ
+      rest = slice (suc i) to d ++ drop (to + by) d
+
+      one : suc i + by ≡ suc (i + by)
+      one = omega arith
+
+      -- the byte that moves is still the old one
+      moves : get_or e i 0 ≡ get_or d i 0
+      moves =
+          rw g.so
+          (get_or-append (take (suc i + by) d) rest 0 i
+          (omega (arith, g.inside, g.room, length-take-le (suc i + by) d (omega (arith, g.inside, g.room))))
+          ∙ get_or-take (suc i + by) d i 0 (omega arith))
+
+      -- the byte that it is written over
+      parts : e ≡ take (i + by) d ++ (get_or d (i + by) 0 ∷ rest)
+      parts =
+          g.so ∙ ap (λ (n : ℕ). take n d ++ rest) one
+          ∙ ap (λ (l : List ℕ). l ++ rest) (take-suc d (i + by) 0 (omega (arith, g.inside, g.room))) ∙ append_snoc (take (i + by) d) (get_or d (i + by) 0) rest
+
+  pub shifting_next : {i : ℕ} {e : List ℕ} → Shifting by d from to i e → from < i → Shifting by d from to (i - 1) (set e (i - 1 + by) (get_or e (i - 1) 0))
+  shifting_next {i} {e} g h =
+      let one : i ≡ suc (i - 1) = omega arith in
+      shifting_step (subst (λ (n : ℕ). Shifting by d from to n e) one g) (omega arith)
+
+  pub shifting_all : {i : ℕ} {e : List ℕ} → Shifting by d from to i e → i ≤ from → e ≡ shifted_by by from to d
+  shifting_all {i} {e} g h =
+      let all : i ≡ from = omega (arith, g.down) in
+      g.so ∙ ap (λ (n : ℕ). shifted_by by n to d) all
 
 -- ---- the bodies move, and a body stands behind them
 pub bodies_moved_lem : (from to : ℕ) (s d : List ℕ) → from ≤ to → to + 12 + length s ≤ length d → copied (shifted_by 12 from to d) (to + 12) s ≡ bodies_moved from to s d

@@ -10,7 +10,7 @@ returns-then-out-at c = put_past c.if-out-at.true c.saturating_add.ensures
 pub returns-then-bytes-room : goal.returns-then-bytes-room
 returns-then-bytes-room c =
     let t = c.args.bytes.now in
-    put_cut {k = length t} c.if-out-at.false (omega arith) (omega arith) (c.copy_from_slice.ensures.after ∙ sym (take-length t)) refl (omega arith)
+    put_cut {k = length t} c.if-out-at.false (omega arith) (omega arith) (c.copy_each.ensures ∙ sym (take-length t)) refl (omega arith)
 
 pub returns : goal.returns
-returns c = put_cut c.if-out-at.false (omega arith) refl c.copy_from_slice-2.ensures.after refl c.saturating_add-2.ensures
+returns c = put_cut c.if-out-at.false (omega arith) refl c.copy_each-2.ensures refl c.saturating_add-2.ensures

@@ -11,7 +11,7 @@ pub returns : goal.returns
 returns c =
     let a = c.args in (
       refl,
-      c.lay-2.ensures
+      c.lay_each.ensures
           ∙ ap₂ (λ (l m : List ℕ). copied l a.at m)
           (c.lay.ensures ∙ ap (copied a.out.now (first_offset a.k)) c.row_bytes-bytes.ensures)
           (body_whole a.source.now a.row),
