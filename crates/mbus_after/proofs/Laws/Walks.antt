@@ -215,6 +215,14 @@ pub record FoundHere (t : ℕ) (s times : List ℕ) (place found n : ℕ) : Type
   pub beyond : place ≤ found
 
 module _ {t : ℕ} {s times : List ℕ} {place : ℕ} (w : After t s times place) {f : Result Spot Refusal} (e : f ≡ shown (find_from place s)) where
+  -- by 18, whatever number the search from here tells
+  pub after_18 : {r : Refusal} → f ≡ Err r → find_after t s times ≡ refusal 18
+  after_18 {r} q = go (find_in (drop place s)) refl (sym e ∙ q)
+    where
+      go : (a : Answer Spot) → find_in (drop place s) ≡ a → shown (moved_by place a) ≡ Err r → find_after t s times ≡ refusal 18
+      go (refusal n) q h = sym (ap (moved_timed place) (sym (search_none t (drop place s) (drop place times) n q)) ∙ w.so)
+      go (reads p) q h = cc h
+
   pub after_none : {r : Refusal} → f ≡ Err r → find_after t s times ≡ refusal r.0
   after_none {r} q = go (find_in (drop place s)) refl (sym e ∙ q)
     where
