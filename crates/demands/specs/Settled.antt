@@ -7,6 +7,7 @@ use Rattle.mbus_rules.specs.declared.Telegram.{Telegram}
 use Rattle.base_rules.specs.Answers.{Answer}
 use Rattle.base_rules.specs.declared.refusals.Refusal.{Refusal}
 use Rattle.base_lent.specs.Lent.{Leaves}
+use Rattle.base_lent.specs.Handed.{Hands}
 use Rattle.base_characters.specs.Carrying.{Writes}
 use Rattle.mbus_either.specs.declared.Either.{Either}
 use Rattle.mbus_either.specs.Stretches.{HandsEither}
@@ -93,6 +94,10 @@ PuttingSettled = (text before : List ℕ) (at : ℕ) → Settled (λ (x : List �
 module _ {A B : Type 0} (tell : A → ℕ) (written : A → List B) (a : Answer A) (before : List B) where
   abbrev pub LeavesSettled : Type 0
   LeavesSettled = Settled (λ (x : ℕ × List B). Leaves tell written a before x.1 x.0)
+
+-- one value, in the place lent for it
+abbrev pub HandsSettled : Type 1
+HandsSettled = (A : Type 0) (a : Result A Refusal) (before : A) → Settled (λ (x : ℕ × A). Hands a before x.1 x.0)
 
 -- unmarking: the answer, the characters, and the two numbers
 abbrev pub UnmarkSettled : Type 0

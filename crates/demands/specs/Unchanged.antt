@@ -1,14 +1,16 @@
 -- Demand 1: a refusal hands back the number alone, with lent memory unchanged. One shape, and the promise of each function that is lent memory to
 -- write in. (A step of an exchange or of a meter takes its state by value: `Exchange` and `Meter` say what a refused step leaves.)
-use Rattle.std.specs.Prelude.{ℕ, ◌+◌, List, [], Result, ◌≡◌, length}
+use Rattle.std.specs.Prelude.{ℕ, ◌+◌, List, [], Result, Err, ◌≡◌, length}
 use Rattle.std.specs.Borrow.{Bor}
 use Rattle.bench_clock.specs.declared.Clock.{Clock}
 use Rattle.bench_clock.specs.Wakes.{wake_of, wake_line}
 use Rattle.mbus_rules.specs.declared.Telegram.{Telegram}
 use Rattle.base_rules.specs.Answers.{Answer, refusal, follow}
 use Rattle.base_rules.specs.declared.refusals.Refusal.{Refusal}
+use Rattle.base_rules.specs.Shown.{refused_by}
 use Rattle.mbus_rules.specs.Writing.{write_line}
 use Rattle.base_lent.specs.Lent.{told, stored, Leaves}
+use Rattle.base_lent.specs.Handed.{Hands}
 use Rattle.base_characters.specs.Carrying.{Writes}
 use Rattle.mbus_either.specs.declared.Either.{Either}
 use Rattle.mbus_either.specs.Interfaces.{find_either}
@@ -105,6 +107,11 @@ module _ (n : ℕ) where
   module _ {A B : Type 0} (tell : A → ℕ) (written : A → List B) (a : Answer A) where
     abbrev pub LeavesUntouched : Type 0
     LeavesUntouched = (before after : List B) (r : ℕ) → a ≡ refusal n → Leaves tell written a before after r → Untouched n r before after
+
+  -- one value, in the place lent for it
+  module _ {A : Type 0} (a : Result A Refusal) where
+    abbrev pub HandsUntouched : Type 0
+    HandsUntouched = (before after : A) (r : ℕ) → a ≡ Err (refused_by n) → Hands a before after r → Untouched n r before after
 
   -- and the reply or the answer beside it
   abbrev pub ReplyUnchanged : Type 0

@@ -2,11 +2,12 @@
 use Prim.Native.Nat.{ℕ}
 use mathlib.Core.List.{List}
 use mathlib.Core.Path.{sym, ◌∙◌}
+use Rattle.std.specs.Prelude.{Ok, Err}
 use Rattle.base_rules.specs.Answers.{Answer}
 use Rattle.demands.specs.Settled.{Equation, TwoEquations, WritingSettled, UnmarkingSettled, AddingSettled, SweepingSettled, TurningSettled}
 use Rattle.demands.specs.Settled.{SalvagingSettled, ListingSettled, DrawingSettled, PuttingSettled, LeavesSettled, UnmarkSettled, ExchangeHeardSettled}
 use Rattle.demands.specs.Settled.{MeterHeardSettled, GivesSettled, LengthSettled, AddSettled, SweepSettled, ListSettled, PictureSettled, SalvageSettled}
-use Rattle.demands.specs.Settled.{VerdictsSettled, WordsSettled, StretchSettled, EitherSettled}
+use Rattle.demands.specs.Settled.{VerdictsSettled, WordsSettled, StretchSettled, EitherSettled, HandsSettled}
 
 module _ {R : Type 0} (a : R) where
   pub equation : Equation a
@@ -46,6 +47,10 @@ putting_settled text before at x y p q = two_equations _ _ x y (p.holds, p.count
 module _ {A B : Type 0} (tell : A → ℕ) (written : A → List B) (a : Answer A) (before : List B) where
   pub leaves_settled : LeavesSettled tell written a before
   leaves_settled x y p q = two_equations _ _ x y (p.answer, p.left) (q.answer, q.left)
+
+pub hands_settled : HandsSettled
+hands_settled A (Ok a) before x y p q = two_equations _ _ x y p q
+hands_settled A (Err e) before x y p q = two_equations _ _ x y p q
 
 pub unmark_settled : UnmarkSettled
 unmark_settled bytes before x y p q i = (

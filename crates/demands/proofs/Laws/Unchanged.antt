@@ -3,10 +3,14 @@ use Prim.Native.Nat.{ℕ, ◌+◌}
 use mathlib.Core.List.{List, []}
 use mathlib.Core.Path.{◌≡◌, refl, ap, ◌∙◌}
 use lib.ListN.{length}
+use Rattle.std.specs.Prelude.{Result, Err}
 use Rattle.bench_clock.specs.Wakes.{wake_of, wake_line}
 use Rattle.base_rules.specs.Answers.{Answer, refusal, within, follow}
+use Rattle.base_rules.specs.declared.refusals.Refusal.{Refusal}
+use Rattle.base_rules.specs.Shown.{refused_by}
 use Rattle.mbus_rules.specs.Writing.{write_line}
 use Rattle.base_lent.specs.Lent.{told, stored, done}
+use Rattle.base_lent.specs.Handed.{Hands}
 use Rattle.mbus_either.specs.Stretches.{StretchOf}
 use Rattle.bundle_check.specs.Stretches.{bytes_at}
 use Rattle.bundle_salvage.specs.Salvaging.{salvage_into, new_bundle}
@@ -29,7 +33,7 @@ use Rattle.host_verdicts.specs.Told.{records_told}
 use Rattle.demands.specs.Unchanged.{Unchanged, WritingUnchanged, WakeUnchanged, AddingUnchanged, SweepingUnchanged, TurningUnchanged}
 use Rattle.demands.specs.Unchanged.{SalvagingUnchanged, ListingUnchanged, DrawingUnchanged, StretchEmpty, EitherEmpty, LeavesUntouched, ReplyUnchanged}
 use Rattle.demands.specs.Unchanged.{AnswerUnchanged, GivesUntouched, BufferUnchanged, SweptBufferUnchanged, SecondBufferUnchanged, PlacesUnchanged}
-use Rattle.demands.specs.Unchanged.{PictureUnchanged, VerdictsUnchanged, SaysUntouched, LengthUntouched, LengthNotYet}
+use Rattle.demands.specs.Unchanged.{PictureUnchanged, VerdictsUnchanged, SaysUntouched, LengthUntouched, LengthNotYet, HandsUntouched}
 
 by_answer : {A B : Type 0} (leaves : Answer A → B) (before : B) → Unchanged leaves before → (a : Answer A) (n : ℕ) (after : B)
     → a ≡ refusal n → after ≡ leaves a → after ≡ before
@@ -80,6 +84,10 @@ module _ (n : ℕ) where
       number = number_told tell a r e p.answer;
       same = by_answer (stored written before) before (λ m. refl) a n after e p.left;
     }
+
+  module _ {A : Type 0} (a : Result A Refusal) where
+    pub hands_untouched : HandsUntouched n a
+    hands_untouched before after r e p = let q : Hands (Err (refused_by n)) before after r = rw e at p in record { number = q.0; same = q.1 }
 
   pub reply_unchanged : ReplyUnchanged n
   reply_unchanged a telegram before after out then r e p = by_answer (λ x. exchanges.replied x telegram out) out (λ m. refl) a n then e p.reply

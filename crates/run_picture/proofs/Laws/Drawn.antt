@@ -5,7 +5,7 @@ use mathlib.Core.List.{List, [], ◌∷◌, ◌++◌}
 use mathlib.Core.Path.{◌≡◌, refl, sym, ap, ◌∙◌}
 use native.Mathlib.Nat.{zero-add}
 use native.Mathlib.Omega.{arith}
-use borrow.Author.Tests.{lt-ltb, le-ltb, leb-true, leb-false}
+use borrow.Author.Tests.{ltb-true, ltb-false, lt-ltb, le-ltb, leb-true, leb-false}
 use lib.Dec.{ltb, leb}
 use lib.ListN.{length, get_or, replicate}
 use lib.Seq.{sets-eq}
@@ -121,6 +121,26 @@ module _ (b : List ℕ) {n : ℕ} (e : check_of b ≡ reads n) where
         record {
           answer = rw (e, short, all);
           holds = w.holds ∙ sets-eq text out 0 (omega (arith, zero-add (length text))) ∙ rw (e, short, zero-add);
+        }
+
+  -- and by the size that measuring tells
+  module _ (out : List ℕ) {size : ℕ} (count : size ≡ tallied (0 + length (picture_of b))) where
+    pub draws_not : ltb (length out) size ≡ true → Draws b out (Err (refused_by 21)) out
+    draws_not t =
+        let long : ltb (length out) (length (picture_of b)) ≡ true =
+        lt-ltb (length out) (length (picture_of b)) (omega (arith, count, ltb-true (length out) size t, zero-add (length (picture_of b)))) in
+        record { answer = rw (e, long); holds = rw (e, long) }
+
+    pub draws_all : {r : ℕ} {after : List ℕ} → length out < 18446744073709551615 → ltb (length out) size ≡ false → PutAt (picture_of b) out 0 r after
+        → Draws b out (Ok size) after
+    draws_all {r} {after} room f w =
+        let text : List ℕ = picture_of b in
+        let less : size ≤ length out = ltb-false (length out) size f in
+        let all : size ≡ length text = omega (arith, count, zero-add (length text)) in
+        let fits : ltb (length out) (length text) ≡ false = le-ltb (length out) (length text) (omega arith) in
+        record {
+          answer = rw (e, fits, all);
+          holds = w.holds ∙ sets-eq text out 0 (omega (arith, zero-add (length text))) ∙ rw (e, fits, zero-add);
         }
 
 pub draws_refused : (b out : List ℕ) {k : ℕ} → check_of b ≡ refusal k → Draws b out (Err (refused_by k)) out
