@@ -7,7 +7,7 @@ ghost use Rattle.bundle_columns.specs.Record.{columns_size, columns_in};
 ghost use Rattle.bundle_columns.specs.Shown.{contents_into, Turns};
 
 use crate::{count_in, kept_row};
-use base_lent::lay;
+use base_lent::lay_each;
 use base_numbers::put_number;
 use base_rules::Refusal;
 use bundle_rows::row_bytes;
@@ -20,7 +20,7 @@ fn put_rows(columns: &[u8], count: usize, out: &mut [u8])
     for i in 0..count {
         let row = kept_row(columns, i);
         let bytes = row_bytes(row);
-        lay(out, 2 + 12 * i, &bytes);
+        lay_each(out, 2 + 12 * i, &bytes);
     }
 }
 

@@ -8,7 +8,7 @@ ghost use Rattle.bundle_check.specs.RowRules.{bodies_end};
 ghost use Rattle.bundle_salvage.specs.Salvaging.{new_length};
 ghost use Rattle.bundle_salvage.specs.Writing.{lowered_rows, InPlace};
 
-use base_lent::{lay, lay_each};
+use base_lent::lay_each;
 use base_numbers::put_number;
 use bundle_rows::{Row, row_bytes, unchecked_row};
 
@@ -22,7 +22,7 @@ fn put_rows(damaged: &[u8], kept: usize, count: usize, out: &mut [u8])
         let row = unchecked_row(damaged, i);
         let offset = row.offset - fewer;
         let bytes = row_bytes(Row { offset, ..row });
-        lay(out, 2 + 12 * i, &bytes);
+        lay_each(out, 2 + 12 * i, &bytes);
     }
 }
 

@@ -2,7 +2,7 @@
 ghost use Rattle.bundle_sweep.specs.Writing.{BodiesInOrder, Placed};
 
 use crate::moving::move_down;
-use base_lent::lay;
+use base_lent::lay_each;
 use bundle_rows::{Row, row_bytes, unchecked_row};
 
 // Each body moves to where the one before it ends, the first behind the rows, and its row gets that offset; answers where the last ends.
@@ -17,7 +17,7 @@ pub(crate) fn place_bodies(bundle: &mut [u8], kept: usize) -> usize
         move_down(bundle, row.offset as usize, at, size);
         let offset = at as u32;
         let placed = row_bytes(Row { offset, ..row });
-        lay(bundle, 2 + 12 * i, &placed);
+        lay_each(bundle, 2 + 12 * i, &placed);
         at = at + size;
     }
     at

@@ -12,7 +12,7 @@ pub loop-i-preserved : goal.loop-i-preserved
 loop-i-preserved c =
     rows_next (columns_in c.args.columns.now) c.args.count c.args.out.now c.loop-i.invariant
     c.loop-i-test.true
-    c.kept_row-row.ensures c.row_bytes-bytes.ensures c.lay.ensures
+    c.kept_row-row.ensures c.row_bytes-bytes.ensures c.lay_each.ensures
 
 pub shape_of-out : goal.shape_of-out
 shape_of-out c = pieced_length c.loop-i.invariant

@@ -11,8 +11,8 @@ pub returns : goal.returns
 returns c =
     let a = c.args in (
       refl,
-      c.lay_each.ensures
+      c.lay_each-2.ensures
           ∙ ap₂ (λ (l m : List ℕ). copied l a.at m)
-          (c.lay.ensures ∙ ap (copied a.out.now (first_offset a.k)) c.row_bytes-bytes.ensures)
+          (c.lay_each.ensures ∙ ap (copied a.out.now (first_offset a.k)) c.row_bytes-bytes.ensures)
           (body_whole a.source.now a.row),
     )

@@ -41,7 +41,7 @@ pub loop-i-preserved : goal.loop-i-preserved
 loop-i-preserved c =
     lowered_next c.args.damaged.now c.args.kept c.args.count c.requires.0 c.loop-i.invariant
     c.loop-i-test.true
-    c.unchecked_row-row.ensures c.row_bytes-bytes.ensures c.lay.ensures
+    c.unchecked_row-row.ensures c.row_bytes-bytes.ensures c.lay_each.ensures
 
 pub shape_of-out : goal.shape_of-out
 shape_of-out c = pieced_length c.loop-i.invariant

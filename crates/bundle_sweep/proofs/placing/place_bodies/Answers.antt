@@ -37,7 +37,7 @@ overflow_add-at-in-loop-i c =
 pub loop-i-preserved : goal.loop-i-preserved
 loop-i-preserved c =
     placing_next c.loop-i.invariant c.loop-i-test.true c.unchecked_row-row.ensures
-    c.move_down.ensures c.row_bytes-placed.ensures c.lay.ensures
+    c.move_down.ensures c.row_bytes-placed.ensures c.lay_each.ensures
 
 pub shape_of-bundle : goal.shape_of-bundle
 shape_of-bundle c = placing_length c.loop-i.invariant
